@@ -1,0 +1,101 @@
+-- Quotients, signs, and linear functions: a linear function that is below 0 at one place and above 0 at another has a root between.
+use Rattle.std.proofs.Common.{◌≡◌, zero, suc, ◌*◌, ◌<◌, [], ◌∷◌, arith, sym, ap, refl, subst, ℤ, pos, negsuc, neg_ℤ, ◌*ℤ◌, ◌<ℤ◌, unsigned_abs, inl, inr, mul-pos, int_cmp}
+use Rattle.std.proofs.lemmas.Int.{ints, by_lt_z}
+use Rattle.plus_fraction.specs.Fraction.{Fraction, compared, whole, ◌+ℚ◌, ◌-ℚ◌, ◌*ℚ◌, ◌/ℚ◌, neg_ℚ, ◌<ℚ◌, sign_of}
+use Rattle.plus_fraction.proofs.IntRing.{products, linear, *ℤ-pos, *ℤ-lt}
+use Rattle.plus_fraction.proofs.FractionBase.{Is, Is-parts, same, of_Is}
+use Rattle.plus_fraction.proofs.FractionLaws.{Is-over, Is-mul, Is-rebase, *ℚ_comm}
+use Rattle.plus_fraction.proofs.FractionOrder.{lt_by, <ℚ_irrefl, <ℚ_trans, <ℚ_or, +ℚ-lt, *ℚ-lt}
+use Rattle.plus_fraction.proofs.FractionRing.{ringℚ, Is-whole}
+use Rattle.plus_fraction.proofs.Ring.{var, num, ◌⊕◌, ◌⊖◌, minus}
+
+-- ---- quotients
+sign-abs : (t : ℤ) → sign_of t *ℤ t ≡ pos (unsigned_abs t)
+sign-abs (pos n) = omega (arith, ints)
+sign-abs (negsuc n) = omega (arith, ints)
+
+pub abs_above : (y : Fraction) → (y ≡ whole (pos 0) → ⊥) → 0 < unsigned_abs y.top
+abs_above y n = split y.top refl
+  where
+    split : (t : ℤ) → y.top ≡ t → 0 < unsigned_abs t
+    split (pos zero) e = absurd (n (same (Is-parts y) (Is-whole (pos 0)) (rw e (omega (arith, ints)))))
+    split (pos (suc k)) e = omega arith
+    split (negsuc k) e = omega arith
+
+pub /ℚ-mul : (x y : Fraction) → (y ≡ whole (pos 0) → ⊥) → (x /ℚ y) *ℚ y ≡ x
+unfolding ◌/ℚ◌
+/ℚ-mul x y n =
+    same (Is-mul (Is-over (x.top *ℤ pos y.bottom *ℤ sign_of y.top) (x.bottom * unsigned_abs y.top) (mul-pos x.positive (abs_above y n))) (Is-parts y)) (Is-parts x)
+    (undone x.top (pos x.bottom) y.top (pos y.bottom) (sign_of y.top) (pos (unsigned_abs y.top)) (sign-abs y.top))
+  where
+    undone : (a p b q s k : ℤ) → s *ℤ b ≡ k → ((a *ℤ q *ℤ s) *ℤ b) *ℤ p ≡ a *ℤ ((p *ℤ k) *ℤ q)
+    undone a p b q s k e = let e' = simp products at (ap (λ x. x *ℤ (a *ℤ (q *ℤ p))) e) in simp products (omega (arith, linear))
+
+-- ---- signs
+pub lt_sub : (x y : Fraction) → x <ℚ y → whole (pos 0) <ℚ y -ℚ x
+lt_sub x y h =
+    subst (λ z. z <ℚ y -ℚ x) (ringℚ (x ∷ []) (var 0 ⊖ var 0) (num (pos 0)) refl)
+    (subst (λ z. x -ℚ x <ℚ z) (ringℚ (x ∷ y ∷ []) (var 1 ⊕ minus (var 0)) (var 1 ⊖ var 0) refl)
+    (subst (λ z. z <ℚ y +ℚ neg_ℚ x) (ringℚ (x ∷ []) (var 0 ⊕ minus (var 0)) (var 0 ⊖ var 0) refl) (+ℚ-lt x y (neg_ℚ x) h)))
+
+pub lt_of_sub : (x y : Fraction) → whole (pos 0) <ℚ y -ℚ x → x <ℚ y
+lt_of_sub x y h =
+    subst (λ z. z <ℚ y) (ringℚ (x ∷ []) (num (pos 0) ⊕ var 0) (var 0) refl)
+    (subst (λ z. whole (pos 0) +ℚ x <ℚ z) (ringℚ (x ∷ y ∷ []) ((var 1 ⊖ var 0) ⊕ var 0) (var 1) refl) (+ℚ-lt _ _ x h))
+
+-- a product with a factor above 0 that is not above 0
+pub below_cancel : (m x y : Fraction) → whole (pos 0) <ℚ m → m *ℚ x <ℚ m *ℚ y → x <ℚ y
+below_cancel m x y p h = elim (<ℚ_or x y) [
+  | inl k ↦ k
+  | inr o ↦ elim o [
+    | inl e ↦ absurd (<ℚ_irrefl _ (subst (λ z. m *ℚ x <ℚ m *ℚ z) (sym e) h))
+    | inr k ↦ absurd (<ℚ_irrefl _ (<ℚ_trans _ _ _ h (subst (λ z. z <ℚ m *ℚ x) (*ℚ_comm y m) (subst (λ z. y *ℚ m <ℚ z) (*ℚ_comm x m) (*ℚ-lt y x m k p)))))
+  ]
+]
+
+-- ---- a quotient on cross products
+nonzero_by : {y : Fraction} {m e : ℤ} → Is y m e → (m ≡ pos 0 → ⊥) → y ≡ whole (pos 0) → ⊥
+nonzero_by {y} {m} {e} q n z =
+    let k = of_Is (subst (λ (x : Fraction). Is x m e) z q) (Is-whole (pos 0)) in
+    n (zero_of m e k)
+  where
+    zero_of : (m e : ℤ) → m *ℤ pos 1 ≡ pos 0 *ℤ e → m ≡ pos 0
+    zero_of m e k = let k' = simp products at k in omega (arith, linear)
+
+pub Is-div : {x y : Fraction} {n d m e : ℤ} → Is x n d → Is y m e → pos 0 <ℤ m → Is (x /ℚ y) (n *ℤ e) (d *ℤ m)
+Is-div {x} {y} {n} {d} {m} {e} p q h =
+    let z : Fraction = x /ℚ y in
+    let k = of_Is (subst (λ (w : Fraction). Is w (z.top *ℤ m) (pos z.bottom *ℤ e)) (/ℚ-mul x y (nonzero_by q (λ o. omega (arith, ints)))) (Is-mul (Is-parts z) q)) p in
+    Is-rebase _ _ (Is-parts z) (*ℤ-pos d m p.above h) (moved z.top m d n (pos z.bottom) e k)
+  where
+    moved : (N m d n D e : ℤ) → (N *ℤ m) *ℤ d ≡ n *ℤ (D *ℤ e) → N *ℤ (d *ℤ m) ≡ (n *ℤ e) *ℤ D
+    moved N m d n D e k = let k' = simp products at k in simp products (omega (arith, linear))
+
+pub Is-div_below : {x y : Fraction} {n d m e : ℤ} → Is x n d → Is y m e → pos 0 <ℤ neg_ℤ m → Is (x /ℚ y) (neg_ℤ n *ℤ e) (d *ℤ neg_ℤ m)
+Is-div_below {x} {y} {n} {d} {m} {e} p q h =
+    let z : Fraction = x /ℚ y in
+    let k = of_Is (subst (λ (w : Fraction). Is w (z.top *ℤ m) (pos z.bottom *ℤ e)) (/ℚ-mul x y (nonzero_by q (λ o. omega (arith, ints)))) (Is-mul (Is-parts z) q)) p in
+    Is-rebase _ _ (Is-parts z) (*ℤ-pos d (neg_ℤ m) p.above h) (moved z.top m d n (pos z.bottom) e k)
+  where
+    moved : (N m d n D e : ℤ) → (N *ℤ m) *ℤ d ≡ n *ℤ (D *ℤ e) → N *ℤ (d *ℤ neg_ℤ m) ≡ (neg_ℤ n *ℤ e) *ℤ D
+    moved N m d n D e k = let k' = simp products at k in simp products (omega (arith, linear))
+
+-- ---- the test, on other parts
+pub compared_by : {x y : Fraction} {n m : ℤ} (d : ℤ) → Is x n d → Is y m d → compared x y ≡ int_cmp n m
+unfolding compared
+compared_by {x} {y} {n} {m} d p q = by_lt_z n m
+    (λ h. less _ _ n m h (lt_by p q (*ℤ-lt n m d h p.above)).cross)
+    (λ k. by_lt_z m n (λ h. greater _ _ n m h (lt_by q p (*ℤ-lt m n d h p.above)).cross)
+    (λ l. let e : n ≡ m = omega (arith, ints) in equal x y n m e (same p q (ap (λ z. z *ℤ d) e))))
+  where
+    less : (a b n m : ℤ) → n <ℤ m → a <ℤ b → int_cmp a b ≡ int_cmp n m
+    less a b n m h k = grind (arith, ints)
+
+    greater : (a b n m : ℤ) → m <ℤ n → b <ℤ a → int_cmp a b ≡ int_cmp n m
+    greater a b n m h k = grind (arith, ints)
+
+    equal : (x y : Fraction) (n m : ℤ) → n ≡ m → x ≡ y → int_cmp (x.top *ℤ pos y.bottom) (y.top *ℤ pos x.bottom) ≡ int_cmp n m
+    equal x y n m h k = both (x.top *ℤ pos y.bottom) (y.top *ℤ pos x.bottom) n m h (subst (λ (z : Fraction). x.top *ℤ pos z.bottom ≡ z.top *ℤ pos x.bottom) k refl)
+      where
+        both : (a b n m : ℤ) → n ≡ m → a ≡ b → int_cmp a b ≡ int_cmp n m
+        both a b n m h k = grind (arith, ints)

@@ -1,0 +1,13 @@
+pub mod IntRing
+pub mod FractionBase
+pub mod FractionLaws
+pub mod FractionOrder
+pub mod FractionLinear
+pub mod Ring
+pub mod FractionRing
+pub mod Constancy
+pub mod FractionSigns
+pub mod FractionMore
+pub mod JustAfter
+pub mod SameSign
+pub mod Compared

@@ -1,0 +1,5 @@
+pub mod Gcd
+pub mod GcdLemmas
+pub mod Fraction
+pub mod FractionCode
+pub mod Lines

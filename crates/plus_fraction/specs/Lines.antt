@@ -1,0 +1,9 @@
+use Rattle.std.specs.Prelude.{◌≡◌}
+use Rattle.plus_fraction.specs.Fraction.{Fraction, ◌+ℚ◌, ◌*ℚ◌, ◌<ℚ◌}
+
+abbrev pub StaysBelow : Type 0
+StaysBelow =
+    (v₁ m₁ v₂ m₂ a b x : Fraction)
+    → ((r : Fraction) → a <ℚ r → r <ℚ b → v₁ +ℚ m₁ *ℚ r ≡ v₂ +ℚ m₂ *ℚ r → ⊥)
+    → v₁ +ℚ m₁ *ℚ a <ℚ v₂ +ℚ m₂ *ℚ a
+    → a <ℚ x → x <ℚ b → v₁ +ℚ m₁ *ℚ x <ℚ v₂ +ℚ m₂ *ℚ x

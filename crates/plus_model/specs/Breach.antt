@@ -1,0 +1,123 @@
+-- The breaches of a history: what stands at the end of the one longest prefix that goes no further.
+use Rattle.std.specs.Prelude.{◌≡◌, ◌≢◌, ◌⊎◌, ◌↔◌, ℕ, ◌<◌, ◌++◌, true, false, List, [], ◌∷◌, Some, None, IsSomeAnd, Ok, Err, slice_get}
+use Rattle.plus_fraction.specs.Fraction.{Fraction, ◌-ℚ◌, ◌<ℚ◌, ◌≤ℚ◌}
+use Rattle.plus_model.specs.Terms.{Action, Effect, State, Problem}
+use Rattle.plus_model.specs.Value.{holds}
+use Rattle.plus_model.specs.Joint.{Fault, NoValue as no_value, Conflict as conflict, joint}
+use Rattle.plus_model.specs.Firing.{firing, first_shared, effects_of, is_in}
+use Rattle.plus_model.specs.Running.{JustAfter, RunsAfter, rates, moved, holding, Chosen, Settled, first_coupled, IsQuiet}
+use Rattle.plus_model.specs.Plan.{Called, Instance, UnknownAction as unknown, WrongArguments as wrong, Line, ActLine, EndLine, time_of, Plan}
+use Rattle.plus_model.specs.History.{View}
+use Rattle.plus_model.specs.Trajectory.{next_line, until, IsWorked}
+
+pub data Breach : Type 0 where
+  UnknownAction WrongArguments : ℕ → List ℕ → Breach  -- the line, and the action's name
+  Precondition : ℕ → Breach
+  Conflict NoValue : ℕ → Breach  -- the fluent
+  Repeats : ℕ → Breach  -- the event
+  Unsettled : ℕ → Breach  -- the process
+  Coupled : ℕ → ℕ → Breach  -- the process and the fluent
+  NoFirstMoment : ℕ → Fraction → Breach  -- the event, and the moment after which it holds
+  Goal : Breach
+
+-- the first number with this property
+pub record IsFirst (Q : ℕ → Type 0) (k : ℕ) : Type 0 where
+  pub has : Q k
+  pub none_before : (j : ℕ) → j < k → Q j → ⊥
+
+-- the last part is no Run and no event holds
+pub record IsPresent (P : Problem) (v : View) : Type 0 where
+  pub moment : v.running ≡ None
+  pub still : firing P v.state ≡ []
+
+-- nothing is due, and time is to pass up to u
+pub record IsOpen (P : Problem) (u : Fraction) (v : View) : Type 0 where
+  pub present : IsPresent P v
+  pub later : v.time <ℚ u
+
+-- nothing else is due, and the next line calls this at the present time
+pub record IsDue (P : Problem) (L : Plan) (v : View) (call : Called) : Type 0 where
+  pub present : IsPresent P v
+  pub due : next_line L v ≡ Some (ActLine v.time call)
+
+pub record ActsDue (P : Problem) (L : Plan) (v : View) (effects : List Effect) : Type 0 where
+  pub action : Action
+  pub due : IsDue P L v (Instance action)
+  pub may : holds action.condition v.state ≡ true
+  pub effects_is : effects ≡ action.effects
+
+pub record RoundDue (P : Problem) (v : View) (effects : List Effect) : Type 0 where
+  pub moment : v.running ≡ None
+  pub some : firing P v.state ≢ []
+  pub fresh : first_shared (firing P v.state) v.fired ≡ None
+  pub effects_is : effects ≡ effects_of P (firing P v.state)
+
+-- the joint effect that is due is none, for this reason
+pub record JointFails (P : Problem) (L : Plan) (v : View) (why : Fault) : Type 0 where
+  pub effects : List Effect
+  pub due : RoundDue P v effects ⊎ ActsDue P L v effects
+  pub fails : joint effects v.state ≡ Err why
+
+-- the rates of the processes that hold, or of those that they choose, are none because of this fluent
+pub record RatesFail (P : Problem) (u : Fraction) (v : View) (f : ℕ) : Type 0 where
+  pub «open» : IsOpen P u v
+  pub fail : (rates P v.state (holding P v.state) ≡ Err f) ⊎ (running : List ℕ) × Chosen P v.state running × (rates P v.state running ≡ Err f)
+
+-- whether the process runs just after is not what its membership says
+abbrev pub Differs : Problem → State → List ℕ → List Fraction → ℕ → Type 0
+Differs P s running rs p = ((is_in running p ≡ true) ↔ RunsAfter P s rs p) → ⊥
+
+pub record IsUnsettled (P : Problem) (u : Fraction) (v : View) (p : ℕ) : Type 0 where
+  pub «open» : IsOpen P u v
+  pub running : List ℕ
+  pub chosen : Chosen P v.state running
+  pub own : List Fraction
+  pub own_is : rates P v.state running ≡ Ok own
+  pub first : IsFirst (Differs P v.state running own) p
+
+pub record IsCoupled (P : Problem) (u : Fraction) (v : View) (p f : ℕ) : Type 0 where
+  pub «open» : IsOpen P u v
+  pub running : List ℕ
+  pub own : List Fraction
+  pub settled : Settled P v.state running own
+  pub first : first_coupled P running own ≡ Some (p, f)
+
+-- the event holds just after
+abbrev pub HoldsAfter : Problem → State → List Fraction → ℕ → Type 0
+HoldsAfter P s rs e = IsSomeAnd (slice_get P.events e) (λ ev. JustAfter s rs ev.condition)
+
+-- up to and with t nothing begins, and e is the first event that holds just after t
+pub record IsMomentless (P : Problem) (u : Fraction) (v : View) (e : ℕ) (t : Fraction) : Type 0 where
+  pub running : List ℕ
+  pub runs : v.running ≡ Some running
+  pub rate : List Fraction
+  pub rate_is : rates P v.state running ≡ Ok rate
+  pub from : v.time ≤ℚ t
+  pub before : t <ℚ u
+  pub quiet : (x : Fraction) → v.time <ℚ x → x ≤ℚ t → IsQuiet P (moved v.state rate (x -ℚ v.time)) running rate
+  pub first : IsFirst (HoldsAfter P (moved v.state rate (t -ℚ v.time)) rate) e
+
+-- this breach stands at the view
+abbrev pub IsBreach : Problem → Plan → View → Breach → Type 0
+IsBreach P L v (UnknownAction i name) = (i ≡ v.acted) × IsDue P L v (unknown name)
+IsBreach P L v (WrongArguments i name) = (i ≡ v.acted) × IsDue P L v (wrong name)
+IsBreach P L v (Precondition i) = (i ≡ v.acted) × (action : Action) × IsDue P L v (Instance action) × (holds action.condition v.state ≡ false)
+IsBreach P L v (Conflict f) = JointFails P L v (conflict f)
+IsBreach P L v (NoValue f) = JointFails P L v (no_value f) ⊎ RatesFail P (until P L v) v f
+IsBreach P L v (Repeats e) = (v.running ≡ None) × (first_shared (firing P v.state) v.fired ≡ Some e)
+IsBreach P L v (Unsettled p) = IsUnsettled P (until P L v) v p
+IsBreach P L v (Coupled p f) = IsCoupled P (until P L v) v p f
+IsBreach P L v (NoFirstMoment e t) = IsMomentless P (until P L v) v e t
+IsBreach P L v Goal = (L.closed ≡ true) × IsWorked P L v × (holds P.goal v.state ≡ false)
+
+-- a breach of the line that is read next, after a plan that is worked
+pub data LineBreach : Type 0 where
+  TimeGoesBack AfterEnd : LineBreach
+
+pub record IsLineBreachAt (P : Problem) (L : Plan) (v : View) (line : Line) (before : List Line) (last : Line) : Type 0 where
+  pub worked : IsWorked P L v
+  pub lines : L.lines ≡ before ++ last ∷ []
+
+abbrev pub IsLineBreach : Problem → Plan → View → Line → LineBreach → Type 0
+IsLineBreach P L v line TimeGoesBack = (before : List Line) × (last : Line) × IsLineBreachAt P L v line before last × (time_of line <ℚ time_of last)
+IsLineBreach P L v line AfterEnd = (before : List Line) × (t : Fraction) × IsLineBreachAt P L v line before (EndLine t)

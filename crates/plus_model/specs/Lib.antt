@@ -1,0 +1,15 @@
+pub mod Terms
+pub mod Value
+pub mod Joint
+pub mod Firing
+pub mod Running
+pub mod Plan
+pub mod History
+pub mod Trajectory
+pub mod Breach
+pub mod Laws
+pub mod Piece
+pub mod Live
+pub mod Tank
+pub mod Codes
+pub mod Ramp

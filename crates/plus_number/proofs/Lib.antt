@@ -1,0 +1,2 @@
+pub mod FracLemmas
+pub mod TicksLemmas

@@ -1,0 +1,10 @@
+use Rattle.std.proofs.Common.{arith, ap₂, subst}
+use Rattle.std.proofs.lemmas.Int.{ints}
+use Rattle.plus_number.specs.Frac.{fraction_of, IsFrac64}
+use Rattle.plus_fraction.specs.Fraction.{Fraction, over, ◌*ℚ◌}
+use Rattle.plus_number.specs.Exact.{Answers}
+use Rattle.plus_number.proofs.frac.Frac64Exact.mul.Goals as goal
+
+pub returns : goal.returns
+unfolding ◌*ℚ◌
+returns c = subst (λ (q : Fraction). Answers fraction_of IsFrac64 q c.reduced.result) (ap₂ over (omega (arith, ints)) c.bottoms.ensures.value) c.reduced.ensures

@@ -1,0 +1,16 @@
+// From millionths to pairs.
+ghost use Rattle.plus_number.specs.Widen.{same_fraction};
+
+use crate::ticks::Ticks;
+use crate::exact::Exact;
+use crate::frac::Frac64;
+
+// The equal fraction.
+pub fn widen(t: Ticks) -> Frac64
+    ensures { same_fraction t result }
+{
+    match Frac64::ratio(t.count(), 1000000) {
+        Ok(f) => f,
+        Err(_) => unreachable!(),
+    }
+}

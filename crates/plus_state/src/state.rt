@@ -1,0 +1,80 @@
+// A state over a type of exact fractions, whose contracts see the model's state.
+ghost use Rattle.std.specs.Prelude.{◌≡◌, ◌<◌, Bool, false, Option, None, length, map, option_map, replicate, slice_set, IfOk};
+ghost use Rattle.plus_fraction.specs.Fraction.{Fraction};
+ghost use Rattle.plus_model.specs.Terms.{State as Meant};
+ghost use Rattle.plus_model.specs.Value.{fluent_of, atom_of};
+ghost use Rattle.plus_model.specs.Codes.{coded_state};
+
+use crate::term::{AtomId, FluentId};
+use plus_number::exact::Exact;
+use std::alloc::{AllocError, Global};
+use std::marker::Model;
+
+#[derive(Drop)]
+pub struct State<Q: Exact> {
+    truths: Vec<bool>,
+    values: Vec<Option<Q>>,
+}
+
+impl<Q: Exact> Model for State<Q> {
+    ghost Value = { Meant };
+
+    ghost coded = { coded_state };
+
+    ghost view = { λ s. record { atoms = s.truths.items; fluents = map (option_map Q.value) s.values.items } };
+}
+
+impl<Q: Exact> State<Q> {
+    // The state without any atom and any value.
+    pub fn new(alloc: Global, atoms: u32, fluents: u32) -> Result<State<Q>, AllocError>
+        ensures { IfOk result (λ s. s ≡ record { atoms = replicate atoms false; fluents = replicate fluents None }) }
+    {
+        let truths = vec![in alloc; false; atoms as usize]?;
+        let mut values = Vec::new(alloc);
+        for _i in 0..fluents {
+            values.push(None)?;
+        }
+        Ok(State { truths, values })
+    }
+
+    pub fn put(&mut self, atom: AtomId, present: bool)
+        requires { atom.0 < length (self.old.atoms) }
+        ensures { self.new ≡ record (self.old) { atoms = slice_set (self.old.atoms) atom.0 present } }
+    {
+        self.truths[atom.0 as usize] = present;
+    }
+
+    pub fn give(&mut self, fluent: FluentId, value: Option<Q>)
+        requires { fluent.0 < length (self.old.fluents) }
+        ensures { self.new ≡ record (self.old) { fluents = slice_set (self.old.fluents) fluent.0 (option_map Q.value value) } }
+    {
+        self.values[fluent.0 as usize] = value;
+    }
+
+    // Whether an atom is there.
+    pub fn atom(&self, atom: AtomId) -> bool
+        requires { atom.0 < length (self.now.atoms) }
+        ensures { result ≡ atom_of self.now atom.0 }
+    {
+        self.truths[atom.0 as usize]
+    }
+
+    // The value of a fluent, if it has one.
+    pub fn fluent(&self, fluent: FluentId) -> Option<Q>
+        requires { fluent.0 < length (self.now.fluents) }
+        ensures { option_map Q.value result ≡ fluent_of self.now fluent.0 }
+    {
+        self.values[fluent.0 as usize]
+    }
+
+    // An equal state.
+    pub fn copy(&self, alloc: Global) -> Result<State<Q>, AllocError>
+        ensures { IfOk result (λ s. s ≡ self.now) }
+    {
+        let mut truths = Vec::new(alloc);
+        truths.extend_from_slice(&self.truths)?;
+        let mut values = Vec::new(alloc);
+        values.extend_from_slice(&self.values)?;
+        Ok(State { truths, values })
+    }
+}
