@@ -12,8 +12,8 @@ use Rattle.plus_model.specs.Running.{rates, moved, JustAfter, IsQuiet, Stretch, 
 use Rattle.plus_model.specs.Plan.{Called, Instance, UnknownAction as unknown, WrongArguments as wrong, Line, ActLine, Plan}
 use Rattle.plus_model.specs.History.{Part, Enter, Round, Act, Run, View}
 use Rattle.plus_model.specs.Trajectory.{at_until, event_holds, set_ends, next_line, until, IsEndOrNone, ActMayFollow, RunMayFollow, AtMoment, InStretch, EnterMayFollow, NextBy, Next, IsWorked, Prefix, Trajectory, view_of, first_view, first_part}
-use Rattle.plus_model.specs.Breach.{Breach, UnknownAction, WrongArguments, Precondition, Conflict, NoValue, Repeats, Unsettled, Coupled, NoFirstMoment, Goal, IsPresent, IsOpen, IsDue, JointFails, RatesFail, IsUnsettled, IsCoupled, IsMomentless, IsBreach}
-use Rattle.plus_model.specs.Laws.{GoesOnFrom, BreachIsFinal, GoalIsFinal}
+use Rattle.plus_model.specs.Breach.{Breach, UnknownAction, WrongArguments, Precondition, Conflict, NoValue, Repeats, Unsettled, Coupled, NoFirstMoment, Goal, IsPresent, IsOpen, IsDue, JointFails, RatesFail, IsUnsettled, IsCoupled, IsMomentless, Stands}
+use Rattle.plus_model.specs.Laws.{GoesOnFrom, BreachIsFinal, GoalIsFinal, BreachIsNoTrajectory}
 use Rattle.plus_model.proofs.Steps.{due_holds, one_chosen}
 use Rattle.plus_model.proofs.Later.{same_line, same_until, still_later, later_follow}
 use Rattle.plus_model.proofs.Moments.{not_below, ≤ℚ-<ℚ_trans, sub_above}
@@ -171,7 +171,7 @@ momentless_stuck P L L' v e t g h = record {
         ]
 
 -- ---- every breach but Goal
-pub breach_stuck : (P : Problem) (L L' : Plan) (v : View) (b : Breach) → GoesOnFrom L L' → IsBreach P L v b → b ≢ Goal → IsStuck P L' v
+pub breach_stuck : (P : Problem) (L L' : Plan) (v : View) (b : Breach) → GoesOnFrom L L' → Stands P L v b → b ≢ Goal → IsStuck P L' v
 breach_stuck P L L' v (UnknownAction i name) g h n = at_due P L L' v (unknown name) g h.1 (λ i s m e. cc e)
 breach_stuck P L L' v (WrongArguments i name) g h n = at_due P L L' v (wrong name) g h.1 (λ i s m e. cc e)
 breach_stuck P L L' v (Precondition i) g h n = at_due P L L' v (Instance h.1) g h.2 (λ i s m e. let a = m.acts.may in let b = h.3 in cc (a, b, e))
@@ -195,7 +195,7 @@ no_trajectory P L L' h h' a g stuck t n =
 
 pub breach_is_final : BreachIsFinal
 breach_is_final P L h b a br ng L' h' g t =
-    let s = breach_stuck P L L' (view_of P h) b g br ng in
+    let s = breach_stuck P L L' (view_of P h) b g br.stands ng in
     no_trajectory P L L' h h' a g s.nothing t (λ e. s.no_end (subst (λ x. IsWorked P L' (view_of P x)) (sym e) t.worked))
 
 pub goes_on_itself : (L : Plan) → GoesOnFrom L L
@@ -207,5 +207,9 @@ goes_on_itself L = record { more = []; lines = nil L.lines }
 
 pub goal_is_final : GoalIsFinal
 goal_is_final P L h h' a br t =
-    no_trajectory P L L h h' a (goes_on_itself L) (nothing_after P L (view_of P h) br.1) t
-    (λ e. let f = subst (λ x. holds P.goal (view_of P x).state ≡ true) (sym e) t.goal in let k = br.2 in cc (f, k))
+    no_trajectory P L L h h' a (goes_on_itself L) (nothing_after P L (view_of P h) br.stands.1) t
+    (λ e. let f = subst (λ x. holds P.goal (view_of P x).state ≡ true) (sym e) t.goal in let k = br.stands.2 in cc (f, k))
+
+pub breach_is_no_trajectory : BreachIsNoTrajectory
+breach_is_no_trajectory P L h h' Goal a br t = goal_is_final P L h h' a br t
+breach_is_no_trajectory P L h h' b a br t = breach_is_final P L h b a br (λ e. cc e) L h' (goes_on_itself L) t

@@ -1,12 +1,13 @@
 -- A prefix never passes the line that is next.
-use Rattle.std.proofs.Common.{◌≡◌, ℕ, zero, suc, List, [], ◌∷◌, refl, sym, subst, pos}
+use Rattle.std.proofs.Common.{◌≡◌, ℕ, zero, suc, List, [], ◌∷◌, refl, sym, subst}
 use Rattle.std.specs.Prelude.{Option, Some, None, slice_get}
-use Rattle.plus_fraction.specs.Fraction.{Fraction, whole, ◌≤ℚ◌}
+use Rattle.plus_fraction.specs.Fraction.{Fraction, ◌≤ℚ◌}
 use Rattle.plus_model.specs.Terms.{Problem}
 use Rattle.plus_model.specs.Plan.{Instance, Line, ActLine, EndLine, time_of, Plan, IsInOrder}
 use Rattle.plus_model.specs.History.{Part, Enter, Round, Act, Run, View, view_after, view_from}
 use Rattle.plus_model.specs.Trajectory.{next_line, target, time_or, NextBy, Follow, first_view, Prefix, view_of}
-use Rattle.plus_model.proofs.Moments.{≤ℚ_refl, ≤ℚ_trans}
+use Rattle.plus_model.specs.Laws.{BeginsInTime, UntilIsAhead}
+use Rattle.plus_model.proofs.Moments.{≤ℚ_refl, ≤ℚ_trans, least_above}
 use Rattle.plus_model.proofs.Steps.{until_within}
 use Rattle.plus_model.proofs.Paths.{view_is}
 
@@ -18,10 +19,6 @@ in_order (w ∷ []) (suc i) x y o e f = cc
 in_order (EndLine t ∷ z ∷ ls) i x y o e f = elim o [ ]
 in_order (ActLine t c ∷ z ∷ ls) zero x y o e f = subst (λ r. time_of x ≤ℚ time_of r) (let g : z ≡ y = cc f in g) (subst (λ r. time_of r ≤ℚ time_of z) (let g : ActLine t c ≡ x = cc e in g) o.0)
 in_order (ActLine t c ∷ z ∷ ls) (suc i) x y o e f = in_order (z ∷ ls) i x y o.1 e f
-
--- the first line is at 0 or later
-abbrev pub BeginsInTime : Plan → Type 0
-BeginsInTime L = whole (pos 0) ≤ℚ time_or (slice_get L.lines 0) (whole (pos 0))
 
 time_kept : (o : Option Line) (t u : Fraction) → t ≤ℚ time_or o u → t ≤ℚ time_or o t
 time_kept None t u h = ≤ℚ_refl t
@@ -48,3 +45,6 @@ follow_in_time P L v (p ∷ ps) o f h = follow_in_time P L (view_after v p) ps o
 
 pub in_time : (P : Problem) (L : Plan) (h : List Part) → BeginsInTime L → Prefix P L h → (view_of P h).time ≤ℚ target L (view_of P h)
 in_time P L h b a = subst (λ v. v.time ≤ℚ target L v) (sym (view_is P h a.rest a.begins)) (follow_in_time P L (first_view P) a.rest a.ordered a.follow b)
+
+pub until_is_ahead : UntilIsAhead
+until_is_ahead P L h b a = least_above (view_of P h).time (target L (view_of P h)) P.timed (in_time P L h b a)

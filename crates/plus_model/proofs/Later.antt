@@ -6,8 +6,8 @@ use Rattle.plus_fraction.proofs.FractionMore.{<ℚ-≤ℚ_trans}
 use Rattle.plus_model.specs.Terms.{Problem}
 use Rattle.plus_model.specs.Plan.{Line, Plan}
 use Rattle.plus_model.specs.History.{Part, Enter, Round, Act, Run, View, view_after}
-use Rattle.plus_model.specs.Trajectory.{at_until, event_holds, set_ends, next_line, time_or, least, until, NextBy, HasBegun, Follow}
-use Rattle.plus_model.specs.Laws.{GoesOnFrom}
+use Rattle.plus_model.specs.Trajectory.{at_until, event_holds, set_ends, next_line, time_or, least, until, NextBy, HasBegun, Follow, first_view}
+use Rattle.plus_model.specs.Laws.{GoesOnFrom, PrefixGoesOn}
 use Rattle.plus_model.proofs.Moments.{not_below}
 use Rattle.plus_model.proofs.Steps.{until_within}
 
@@ -55,3 +55,6 @@ later_by P L L' v g (Some R) (Run S) n = n
 pub later_follow : (P : Problem) (L L' : Plan) (v : View) (xs : List Part) → GoesOnFrom L L' → HasBegun L' → Follow P L v xs → Follow P L' v xs
 later_follow P L L' v [] g b f = tt
 later_follow P L L' v (x ∷ xs) g b f = (b, later_by P L L' v g v.running x f.1, later_follow P L L' (view_after v x) xs g b f.2)
+
+pub prefix_goes_on : PrefixGoesOn
+prefix_goes_on P L L' h a g o b = record { ordered = o; rest = a.rest; begins = a.begins; follow = later_follow P L L' (first_view P) a.rest g b a.follow }

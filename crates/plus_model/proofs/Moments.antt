@@ -58,3 +58,14 @@ least_within time bound (l ∷ ls) = go (is_below time l.time) (is_below l.time 
     go true true e h k = ≤ℚ_trans _ _ _ h (<ℚ-≤ℚ _ _ (from_below _ _ e))
     go true false e h k = k
     go false q e h k = k
+
+-- the least is not below the present time, where the bound is not
+pub least_above : (time bound : Fraction) (ls : List Timed) → time ≤ℚ bound → time ≤ℚ least time bound ls
+least_above time bound [] h = h
+least_above time bound (l ∷ ls) h =
+    go (is_below time l.time) (is_below l.time bound) refl (least_above time l.time ls) (least_above time bound ls h)
+  where
+    go : (p q : Bool) → is_below time l.time ≡ p → (time ≤ℚ l.time → time ≤ℚ least time l.time ls) → time ≤ℚ least time bound ls → time ≤ℚ (if p && q then least time l.time ls else least time bound ls)
+    go true true e f k = f (<ℚ-≤ℚ _ _ (from_below _ _ e))
+    go true false e f k = k
+    go false q e f k = k

@@ -1,5 +1,5 @@
 -- At a view one breach stands at most.
-use Rattle.std.proofs.Common.{◌≡◌, ◌≢◌, ℕ, true, List, [], ◌∷◌, refl, ap, ap₂, sym, subst, ◌∙◌, inl, inr, pos, if◌then◌else◌}
+use Rattle.std.proofs.Common.{◌≡◌, ◌≢◌, ℕ, true, false, List, [], ◌∷◌, ◌++◌, refl, ap, ap₂, sym, subst, ◌∙◌, inl, inr, pos, if◌then◌else◌}
 use Rattle.std.proofs.lemmas.Bool.{cases_order}
 use Rattle.std.specs.Prelude.{Option, Some, None, Result, Ok, Err, IsSomeAnd, slice_get}
 use Rattle.plus_fraction.specs.Fraction.{Fraction, whole, ◌+ℚ◌, ◌-ℚ◌, ◌<ℚ◌}
@@ -9,10 +9,11 @@ use Rattle.plus_model.specs.Value.{holds}
 use Rattle.plus_model.specs.Joint.{Fault, NoValue as no_value, Conflict as conflict, joint}
 use Rattle.plus_model.specs.Firing.{firing, first_shared, effects_of}
 use Rattle.plus_model.specs.Running.{rates, moved, JustAfter, IsQuiet, first_coupled, GoesOn, Chosen, holding}
-use Rattle.plus_model.specs.Plan.{Called, Instance, UnknownAction as unknown, WrongArguments as wrong, ActLine, Plan}
+use Rattle.plus_model.specs.Plan.{Called, Instance, UnknownAction as unknown, WrongArguments as wrong, Line, ActLine, EndLine, Plan}
 use Rattle.plus_model.specs.History.{View}
 use Rattle.plus_model.specs.Trajectory.{next_line, until, IsEndOrNone, IsWorked}
-use Rattle.plus_model.specs.Breach.{Breach, UnknownAction, WrongArguments, Precondition, Conflict, NoValue, Repeats, Unsettled, Coupled, NoFirstMoment, Goal, IsFirst, IsOpen, IsDue, JointFails, Differs, HoldsAfter, IsMomentless, IsBreach}
+use Rattle.plus_model.specs.Breach.{Breach, UnknownAction, WrongArguments, Precondition, Conflict, NoValue, Repeats, Unsettled, Coupled, NoFirstMoment, Goal, IsFirst, IsOpen, IsDue, JointFails, Differs, HoldsAfter, IsMomentless, Stands, IsBreach, LineBreach, TimeGoesBack, AfterEnd, IsLineBreach}
+use Rattle.plus_model.specs.Laws.{OneLineBreach, LineBreachIsAlone}
 use Rattle.plus_model.proofs.Steps.{due_holds, one_chosen}
 use Rattle.plus_model.proofs.Final.{shared_some}
 use Rattle.plus_fraction.proofs.Ring.{var, ◌⊕◌, ◌⊖◌}
@@ -70,7 +71,7 @@ joint_stage P L v why h = elim h.due [
       (ap (λ b. if b then fault_answer (joint a.action.effects v.state) else Some (Precondition v.acted)) a.may ∙ ap fault_answer (subst (λ x. joint x v.state ≡ Err why) a.effects_is h.fails))
 ]
 
-stage_of : (P : Problem) (L : Plan) (v : View) (b : Breach) → IsBreach P L v b → Stage P L v b
+stage_of : (P : Problem) (L : Plan) (v : View) (b : Breach) → Stands P L v b → Stage P L v b
 unfolding round_answer round_by fault_answer act_answer of_fault
 stage_of P L v (UnknownAction i name) h = in_act (unknown name) h.1 (ap (λ j. Some (UnknownAction j name)) (sym h.0))
 stage_of P L v (WrongArguments i name) h = in_act (wrong name) h.1 (ap (λ j. Some (WrongArguments j name)) (sym h.0))
@@ -203,4 +204,36 @@ one_stage P L v b c (in_end w h) (in_open o k) = absurd (never P L v (open_or_ov
 one_stage P L v b c (in_end w h) (in_end x k) = h ∙ sym k
 
 pub one_breach : (P : Problem) (L : Plan) (v : View) (b c : Breach) → IsBreach P L v b → IsBreach P L v c → b ≡ c
-one_breach P L v b c h k = one_stage P L v b c (stage_of P L v b h) (stage_of P L v c k)
+one_breach P L v b c h k = one_stage P L v b c (stage_of P L v b h.stands) (stage_of P L v c k.stands)
+
+-- ---- a line that is read next
+after_of : (P : Problem) (L : Plan) (v : View) (line : Line) (b : LineBreach) → IsLineBreach P L v line b → IsWorked P L v × (L.closed ≡ false)
+after_of P L v line TimeGoesBack h = (h.3.worked, h.3.open_yet)
+after_of P L v line AfterEnd h = (h.2.worked, h.2.open_yet)
+
+-- it has no other breach beside it
+pub line_breach_is_alone : LineBreachIsAlone
+line_breach_is_alone P L v line b c h k =
+    let w = after_of P L v line b h in
+    let e : c ≡ Goal = one_stage P L v c Goal (stage_of P L v c k.stands) (in_end w.0 refl) in
+    let g : Stands P L v Goal = subst (λ x. Stands P L v x) e k.stands in
+    let f = g.0 in
+    let o = w.1 in
+    cc (f, o)
+
+not_nil : (xs : List Line) (x : Line) → [] ≡ xs ++ x ∷ [] → ⊥
+not_nil [] x e = cc
+not_nil (y ∷ ys) x e = cc
+
+-- the last line is an action or an end, and not both
+one_last : (xs ys : List Line) (t u : Fraction) (call : Called) → xs ++ ActLine t call ∷ [] ≡ ys ++ EndLine u ∷ [] → ⊥
+one_last [] [] t u call e = cc
+one_last [] (y ∷ ys) t u call e = not_nil ys (EndLine u) (let f : [] ≡ ys ++ EndLine u ∷ [] = cc e in f)
+one_last (x ∷ xs) [] t u call e = not_nil xs (ActLine t call) (let f : [] ≡ xs ++ ActLine t call ∷ [] = cc e in f)
+one_last (x ∷ xs) (y ∷ ys) t u call e = one_last xs ys t u call (let f : xs ++ ActLine t call ∷ [] ≡ ys ++ EndLine u ∷ [] = cc e in f)
+
+pub one_line_breach : OneLineBreach
+one_line_breach P L v line TimeGoesBack TimeGoesBack h k = refl
+one_line_breach P L v line AfterEnd AfterEnd h k = refl
+one_line_breach P L v line TimeGoesBack AfterEnd h k = absurd (one_last h.0 k.0 h.1 k.1 h.2 (sym h.3.lines ∙ k.2.lines))
+one_line_breach P L v line AfterEnd TimeGoesBack h k = absurd (one_last k.0 h.0 k.1 h.1 k.2 (sym k.3.lines ∙ h.2.lines))

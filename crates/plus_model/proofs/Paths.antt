@@ -7,7 +7,7 @@ use Rattle.plus_model.specs.Terms.{Problem}
 use Rattle.plus_model.specs.Plan.{Plan}
 use Rattle.plus_model.specs.History.{Part, Enter, Round, Act, Run, View, view_after, view_from}
 use Rattle.plus_model.specs.Trajectory.{IsEndOrNone, NextBy, Next, HasBegun, Follow, first_part, first_view, view_of, IsWorked}
-use Rattle.plus_model.specs.Laws.{OnePath, OneTrajectory}
+use Rattle.plus_model.specs.Laws.{OnePath, OneTrajectory, PrefixBegins, PrefixGrows}
 use Rattle.plus_model.proofs.Steps.{one_next}
 
 -- the lists are the same, or one goes on where the other ends
@@ -73,3 +73,17 @@ view_from-append v (x ∷ xs) p = view_from-append (view_after v x) xs p
 pub Follow-append : (P : Problem) (L : Plan) (v : View) (xs : List Part) (p : Part) → HasBegun L → Follow P L v xs → Next P L (view_from v xs) p → Follow P L v (xs ++ p ∷ [])
 Follow-append P L v [] p b f n = (b, n, tt)
 Follow-append P L v (x ∷ xs) p b f n = (f.0, f.1, Follow-append P L (view_after v x) xs p b f.2 n)
+
+pub prefix_begins : PrefixBegins
+prefix_begins P L o = record { ordered = o; rest = []; begins = refl; follow = tt }
+
+pub prefix_grows : PrefixGrows
+prefix_grows P L h p b a n = (
+  record {
+    ordered = a.ordered;
+    rest = a.rest ++ p ∷ [];
+    begins = ap (λ t. t ++ p ∷ []) a.begins;
+    follow = Follow-append P L (first_view P) a.rest p b a.follow (subst (λ v. Next P L v p) (view_is P h a.rest a.begins) n);
+  },
+  ap (λ t. view_of P (t ++ p ∷ [])) a.begins ∙ view_from-append (first_view P) a.rest p ∙ ap (λ v. view_after v p) (sym (view_is P h a.rest a.begins)),
+)

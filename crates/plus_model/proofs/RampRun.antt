@@ -14,7 +14,7 @@ use Rattle.plus_model.specs.Running.{rates, moved, JustAfter, GoesOn}
 use Rattle.plus_model.specs.Piece.{IsStraight, NoRoot, after}
 use Rattle.plus_model.specs.Live.{live}
 use Rattle.plus_model.specs.Trajectory.{literals, until}
-use Rattle.plus_model.specs.Breach.{NoFirstMoment, Unsettled, IsBreach, IsFirst, HoldsAfter}
+use Rattle.plus_model.specs.Breach.{NoFirstMoment, Unsettled, Stands, IsFirst, HoldsAfter}
 use Rattle.plus_model.specs.Ramp.{past_two, ramp, ramp_plan, up_rates, ramp_start, ramp_view, slider, slider_start, slider_view}
 use Rattle.plus_model.proofs.Decide.{AllStraight, running_after, goes_on_is}
 use Rattle.plus_model.proofs.Search.{OneTruth, live_truth}
@@ -100,7 +100,7 @@ from_zero_on : whole (pos 0) ≤ℚ whole (pos 2)
 unfolding over gcd gcd_within
 from_zero_on = record { cross = omega (arith, ints) }
 
-pub ramp_breach : IsBreach ramp ramp_plan ramp_view (NoFirstMoment 0 (whole (pos 2)))
+pub ramp_breach : Stands ramp ramp_plan ramp_view (NoFirstMoment 0 (whole (pos 2)))
 ramp_breach = momentless_by ramp ramp_plan ramp_view (0 ∷ []) up_rates (whole (pos 2)) 0 refl ramp_rates from_zero_on before_eight
     (stretch_to ramp ramp_start (0 ∷ []) up_rates (whole (pos 0)) (whole (pos 2) -ℚ whole (pos 0)) searched no_change)
     (λ p. record { still = still_at_two; on = goes_on at_two up_rates }) first_after
@@ -124,7 +124,7 @@ starts : running_after slider slider_start (whole (pos 0) ∷ []) ≡ 0 ∷ []
 unfolding literals compared over gcd gcd_within ◌+ℚ◌
 starts = refl
 
-pub slider_breach : IsBreach slider ramp_plan slider_view (Unsettled 0)
+pub slider_breach : Stands slider ramp_plan slider_view (Unsettled 0)
 unfolding literals rates firing compared over gcd gcd_within ◌+ℚ◌
 slider_breach = record {
   «open» = record { present = record { moment = refl; still = refl }; later = record { cross = omega (arith, ints) } };

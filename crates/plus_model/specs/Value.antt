@@ -1,4 +1,8 @@
 -- The value of an expression and the truth of a condition in a state.
+-- As in Fox and Long (2003) a fluent may be undefined. What follows from that is this project's profile: an expression
+-- has no value where a fluent in it has none or a divisor is zero; a comparison holds exactly where both sides have a
+-- value and stand in the relation; and a negation holds exactly where what it negates does not. So where `z` has no
+-- value, `(>= (z) 1)` is false and `(not (>= (z) 1))` is true.
 use Rattle.std.specs.Prelude.{ℕ, Bool, true, false, Option, Some, None, ◌&&◌, ◌||◌, not, slice_get, unwrap_or, pos, if◌then◌else◌}
 use Rattle.std.specs.declared.cmp.Ordering.{Ordering}
 use Rattle.std.specs.declared.cmp.Ordering.TheVariants.{Less, Equal, Greater}
@@ -29,6 +33,7 @@ stand test None right = false
 stand test (Some x) None = false
 stand test (Some x) (Some y) = passes test (compared x y)
 
+-- the number zero
 abbrev pub is_zero : Fraction → Bool
 is_zero x = passes Same (compared x (whole (pos 0)))
 
@@ -46,6 +51,7 @@ quotient x y = if is_zero y then None else Some (x /ℚ y)
 abbrev pub fluent_of : State → ℕ → Option Fraction
 fluent_of s f = unwrap_or (slice_get s.fluents f) None
 
+-- whether an atom is true
 abbrev pub atom_of : State → ℕ → Bool
 atom_of s a = unwrap_or (slice_get s.atoms a) false
 
@@ -58,12 +64,12 @@ value (Difference a b) s = on_both (λ x y. Some (x -ℚ y)) (value a s) (value 
 value (Product a b) s = on_both (λ x y. Some (x *ℚ y)) (value a s) (value b s)
 value (Quotient a b) s = on_both quotient (value a s) (value b s)
 
--- where the sign is false, the opposite
+-- the truth of a literal whose atom or comparison has truth b: where it is negative, the opposite
 abbrev pub signed : Bool → Bool → Bool
 signed true b = b
 signed false b = not b
 
--- the truth of a condition
+-- the truth of a condition, from the whole condition: no member is left out because another decides
 abbrev pub holds : Condition → State → Bool
 holds Always s = true
 holds Never s = false
