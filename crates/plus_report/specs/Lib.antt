@@ -1,0 +1,5 @@
+pub mod Labels
+pub mod Text
+pub mod Report
+pub mod ReportLaws
+pub mod Rows
