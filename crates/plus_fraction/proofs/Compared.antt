@@ -1,16 +1,47 @@
--- When two comparisons have one answer.
-use Rattle.std.proofs.Common.{◌≡◌, [], ◌∷◌, refl, ℤ, pos, arith, subst, sym, ◌∙◌, ap, ap₂, inl, inr, Equal, int_cmp, ◌*ℤ◌}
+-- The test `compared`: what each of its answers means.
+use Rattle.std.proofs.Common.{◌≡◌, ℤ, pos, arith, subst, sym, ◌∙◌, inl, inr, Less, Equal, Greater, cond, int_cmp, int_lt, ◌<ℤ◌, ◌*ℤ◌}
 use Rattle.std.proofs.lemmas.Int.{ints}
-use Rattle.plus_fraction.specs.Fraction.{Fraction, whole, ◌-ℚ◌, ◌*ℚ◌, ◌<ℚ◌, compared}
-use Rattle.plus_fraction.proofs.IntRing.{linear}
-use Rattle.plus_fraction.proofs.Ring.{var, num, ◌⊕◌, ◌⊖◌, ◌⊗◌}
-use Rattle.plus_fraction.proofs.FractionRing.{ringℚ}
-use Rattle.plus_fraction.proofs.FractionLinear.{common2, common3, commons, nums, lt_num, num_lt, num_eq, num as numerator}
+use Rattle.plus_fraction.specs.Fraction.{Fraction, whole, ◌-ℚ◌, ◌<ℚ◌, compared}
+use Rattle.plus_fraction.proofs.FractionBase.{same_cross}
 use Rattle.plus_fraction.proofs.FractionOrder.{<ℚ_or}
-use Rattle.plus_fraction.proofs.FractionMore.{JustAfter, just_after_below}
-use Rattle.plus_fraction.proofs.JustAfter.{just_after_map, just_after_falling}
-use Rattle.plus_fraction.proofs.Constancy.{line}
-use Rattle.plus_fraction.proofs.SameSign.{less-compared, greater-compared, same_answer}
+use Rattle.plus_fraction.proofs.FractionSigns.{difference_below, difference_none, difference_above}
+
+-- ---- from the answer to the order
+pub compared-less : (x y : Fraction) → compared x y ≡ Less → x <ℚ y
+unfolding compared
+compared-less x y e = record { cross = less (x.top *ℤ pos y.bottom) (y.top *ℤ pos x.bottom) e }
+  where
+    less : (a b : ℤ) → cond (int_lt a b) Less (cond (int_lt b a) Greater Equal) ≡ Less → a <ℤ b
+    less a b e = grind (arith, ints)
+
+pub compared-equal : (x y : Fraction) → compared x y ≡ Equal → x ≡ y
+unfolding compared
+compared-equal x y e = same_cross x y (equal (x.top *ℤ pos y.bottom) (y.top *ℤ pos x.bottom) e)
+  where
+    equal : (a b : ℤ) → cond (int_lt a b) Less (cond (int_lt b a) Greater Equal) ≡ Equal → a ≡ b
+    equal a b e = grind (arith, ints)
+
+pub compared-greater : (x y : Fraction) → compared x y ≡ Greater → y <ℚ x
+unfolding compared
+compared-greater x y e = record { cross = greater (x.top *ℤ pos y.bottom) (y.top *ℤ pos x.bottom) e }
+  where
+    greater : (a b : ℤ) → cond (int_lt a b) Less (cond (int_lt b a) Greater Equal) ≡ Greater → b <ℤ a
+    greater a b e = grind (arith, ints)
+
+-- ---- and back
+pub less-compared : (x y : Fraction) → x <ℚ y → compared x y ≡ Less
+unfolding compared
+less-compared x y h = less (x.top *ℤ pos y.bottom) (y.top *ℤ pos x.bottom) h.cross
+  where
+    less : (a b : ℤ) → a <ℤ b → int_cmp a b ≡ Less
+    less a b h = grind (arith, ints)
+
+pub greater-compared : (x y : Fraction) → y <ℚ x → compared x y ≡ Greater
+unfolding compared
+greater-compared x y h = greater (x.top *ℤ pos y.bottom) (y.top *ℤ pos x.bottom) h.cross
+  where
+    greater : (a b : ℤ) → b <ℤ a → int_cmp a b ≡ Greater
+    greater a b h = grind (arith, ints)
 
 pub compared_refl : (x : Fraction) → compared x x ≡ Equal
 unfolding compared
@@ -31,55 +62,6 @@ same_compared x y u w f g h = elim (<ℚ_or x y) [
   ]
 ]
 
-pub back : (y z : Fraction) → y -ℚ z <ℚ whole (pos 0) → y <ℚ z
-back y z h = common2 (y <ℚ z) y z (λ D d Y Z.
-    let h' = simp nums at (lt_num D _ _ (search commons) (search commons) h) in
-    num_lt D _ _ Y Z (omega (arith, linear)))
-
-pub forth : (y z : Fraction) → y <ℚ z → y -ℚ z <ℚ whole (pos 0)
-forth y z h = common2 (y -ℚ z <ℚ whole (pos 0)) y z (λ D d Y Z.
-    let h' = lt_num D _ _ Y Z h in
-    num_lt D _ _ (search commons) (search commons) (simp nums (omega (arith, linear))))
-
-above_forth : (y z : Fraction) → z <ℚ y → whole (pos 0) <ℚ y -ℚ z
-above_forth y z h = common2 (whole (pos 0) <ℚ y -ℚ z) y z (λ D d Y Z.
-    let h' = lt_num D _ _ Z Y h in
-    num_lt D _ _ (search commons) (search commons) (simp nums (omega (arith, linear))))
-
-pub meet : (y z : Fraction) → y -ℚ z ≡ whole (pos 0) → y ≡ z
-meet y z e = common2 (y ≡ z) y z (λ D d Y Z.
-    let e' = simp nums at (ap (numerator D) e) in
-    num_eq D _ _ Y Z (omega (arith, linear)))
-
-apart : (y z : Fraction) → y ≡ z → y -ℚ z ≡ whole (pos 0)
-apart y z e = subst (λ w. y -ℚ w ≡ whole (pos 0)) e (ringℚ (y ∷ []) (var 0 ⊖ var 0) (num (pos 0)) refl)
-
+-- x and y compare as their difference does with 0
 pub compared-sub : (x y : Fraction) → compared x y ≡ compared (x -ℚ y) (whole (pos 0))
-compared-sub x y = same_compared x y _ _ (forth x y) (apart x y) (above_forth x y)
-
-pub difference : (v m w n x : Fraction) → line v m x -ℚ line w n x ≡ line (v -ℚ w) (m -ℚ n) x
-difference v m w n x = ringℚ (v ∷ m ∷ w ∷ n ∷ x ∷ []) ((var 0 ⊕ var 1 ⊗ var 4) ⊖ (var 2 ⊕ var 3 ⊗ var 4)) ((var 0 ⊖ var 2) ⊕ (var 1 ⊖ var 3) ⊗ var 4) refl
-
--- two lines that do not meet strictly between a and b compare alike there
-pub same_order : (v m w n a b x y : Fraction) → ((r : Fraction) → a <ℚ r → r <ℚ b → line v m r ≡ line w n r → ⊥) → a <ℚ x → x <ℚ b → a <ℚ y → y <ℚ b → compared (line v m x) (line w n x) ≡ compared (line v m y) (line w n y)
-same_order v m w n a b x y none ax xb ay yb =
-    at x ∙ same_answer (v -ℚ w) (m -ℚ n) a b x y (λ r p q e. none r p q (meet _ _ (difference v m w n r ∙ e))) ax xb ay yb ∙ sym (at y)
-  where
-    at : (x : Fraction) → compared (line v m x) (line w n x) ≡ compared (line (v -ℚ w) (m -ℚ n) x) (whole (pos 0))
-    at x = compared-sub _ _ ∙ ap (λ z. compared z (whole (pos 0))) (difference v m w n x)
-
--- two lines of one slope compare as their values do
-pub same_slope : (v w m n x : Fraction) → m ≡ n → compared (line v m x) (line w n x) ≡ compared v w
-same_slope v w m n x e = sym (same_compared v w _ _ (up v w m n e) (λ d. ap₂ (λ a b. line a b x) d e) (up w v n m (sym e)))
-  where
-    up : (v w m n : Fraction) → m ≡ n → v <ℚ w → line v m x <ℚ line w n x
-    up v w m n e h = subst (λ k. line v m x <ℚ line w k x) e (common3 (line v m x <ℚ line w m x) v w (m *ℚ x) (λ D d V W X.
-        let h' = lt_num D _ _ V W h in
-        num_lt D _ _ (search commons) (search commons) (simp nums (omega (arith, linear)))))
-
--- just after 0
-pub below_after : (v m w n : Fraction) → v <ℚ w → JustAfter (λ x. line v m x <ℚ line w n x)
-below_after v m w n h = just_after_map _ _ (λ x k. back _ _ (subst (λ z. z <ℚ whole (pos 0)) (sym (difference v m w n x)) k)) (just_after_below (v -ℚ w) (m -ℚ n) (forth v w h))
-
-pub falls_after : (v m w n : Fraction) → v ≡ w → m <ℚ n → JustAfter (λ x. line v m x <ℚ line w n x)
-falls_after v m w n e h = just_after_map _ _ (λ x k. back _ _ (subst (λ z. z <ℚ whole (pos 0)) (sym (difference v m w n x)) k)) (just_after_falling (v -ℚ w) (m -ℚ n) (apart v w e) (forth m n h))
+compared-sub x y = same_compared x y _ _ (difference_below x y) (difference_none x y) (difference_above x y)

@@ -1,17 +1,15 @@
--- A linear function with no root strictly between two places has one sign there.
-use Rattle.std.proofs.Common.{◌≡◌, [], ◌∷◌, refl, pos, arith, subst, sym, ◌∙◌, ap, inl, inr}
-use Rattle.plus_fraction.specs.Fraction.{Fraction, whole, ◌+ℚ◌, ◌-ℚ◌, ◌*ℚ◌, ◌/ℚ◌, neg_ℚ, ◌<ℚ◌}
+-- A linear function with no root strictly between two places has one sign there, and two lines that do not meet have one order.
+use Rattle.std.proofs.Common.{◌≡◌, [], ◌∷◌, refl, pos, arith, subst, sym, ◌∙◌, ap, ap₂, inl, inr}
+use Rattle.plus_fraction.specs.Fraction.{Fraction, whole, ◌+ℚ◌, ◌-ℚ◌, ◌*ℚ◌, ◌/ℚ◌, neg_ℚ, ◌<ℚ◌, compared}
+use Rattle.plus_fraction.specs.Lines.{line}
 use Rattle.plus_fraction.proofs.IntRing.{linear}
 use Rattle.plus_fraction.proofs.Ring.{var, num, ◌⊕◌, ◌⊖◌, ◌⊗◌, minus}
 use Rattle.plus_fraction.proofs.FractionRing.{ringℚ}
-use Rattle.plus_fraction.proofs.FractionOrder.{<ℚ_irrefl, <ℚ_trans, <ℚ_or, *ℚ-lt}
+use Rattle.plus_fraction.proofs.FractionOrder.{<ℚ_irrefl, <ℚ_trans, <ℚ_or}
 use Rattle.plus_fraction.proofs.FractionLaws.{*ℚ_comm}
-use Rattle.plus_fraction.proofs.FractionSigns.{/ℚ-mul, below_cancel, lt_sub}
-use Rattle.plus_fraction.proofs.FractionLinear.{common2, common3, commons, nums, lt_num, num_lt, num_eq, num as numerator}
-
--- v + m x
-abbrev pub line : Fraction → Fraction → Fraction → Fraction
-line v m x = v +ℚ m *ℚ x
+use Rattle.plus_fraction.proofs.FractionSigns.{/ℚ-mul, below_cancel, lt_sub, above_of_product, neg_above, neg_below, neg_neg, neg_zero, below_of_difference, difference_below, equal_of_difference}
+use Rattle.plus_fraction.proofs.FractionLinear.{common2, common3, commons, nums, lt_num, num_lt}
+use Rattle.plus_fraction.proofs.Compared.{less-compared, greater-compared, same_compared, compared-sub}
 
 rises : (v m a b : Fraction) → line v m a <ℚ whole (pos 0) → whole (pos 0) <ℚ line v m b → m *ℚ a <ℚ m *ℚ b
 rises v m a b h k =
@@ -29,19 +27,6 @@ root_is v m n = *ℚ_comm m (root v m) ∙ /ℚ-mul (neg_ℚ v) m n
 
 pub root_zero : (v m : Fraction) → (m ≡ whole (pos 0) → ⊥) → line v m (root v m) ≡ whole (pos 0)
 root_zero v m n = ap (λ z. v +ℚ z) (root_is v m n) ∙ ringℚ (v ∷ []) (var 0 ⊕ minus (var 0)) (num (pos 0)) refl
-
-none_by : (a : Fraction) → whole (pos 0) *ℚ a ≡ whole (pos 0)
-none_by a = ringℚ (a ∷ []) (num (pos 0) ⊗ var 0) (num (pos 0)) refl
-
--- a factor of a product above 0
-above_of_product : (m z : Fraction) → whole (pos 0) <ℚ z → whole (pos 0) <ℚ m *ℚ z → whole (pos 0) <ℚ m
-above_of_product m z p h = elim (<ℚ_or (whole (pos 0)) m) [
-  | inl k ↦ k
-  | inr o ↦ absurd (elim o [
-    | inl e ↦ <ℚ_irrefl (whole (pos 0)) (subst (λ y. whole (pos 0) <ℚ y) (none_by z) (subst (λ y. whole (pos 0) <ℚ y *ℚ z) (sym e) h))
-    | inr k ↦ <ℚ_irrefl (whole (pos 0)) (<ℚ_trans _ _ _ h (subst (λ y. m *ℚ z <ℚ y) (none_by z) (*ℚ-lt m (whole (pos 0)) z k p)))
-  ])
-]
 
 slope_above : (m a b : Fraction) → a <ℚ b → m *ℚ a <ℚ m *ℚ b → whole (pos 0) <ℚ m
 slope_above m a b l h =
@@ -79,16 +64,6 @@ root_between v m a b l h k =
 pub neg_line : (v m x : Fraction) → neg_ℚ (line v m x) ≡ line (neg_ℚ v) (neg_ℚ m) x
 neg_line v m x = ringℚ (v ∷ m ∷ x ∷ []) (minus (var 0 ⊕ var 1 ⊗ var 2)) (minus (var 0) ⊕ minus (var 1) ⊗ var 2) refl
 
-pub neg_above : (x : Fraction) → whole (pos 0) <ℚ x → neg_ℚ x <ℚ whole (pos 0)
-neg_above x h = common2 (neg_ℚ x <ℚ whole (pos 0)) x x (λ D d X Y.
-    let h' = simp nums at (lt_num D _ _ (search commons) (search commons) h) in
-    num_lt D _ _ (search commons) (search commons) (simp nums (omega (arith, linear))))
-
-pub neg_below : (x : Fraction) → x <ℚ whole (pos 0) → whole (pos 0) <ℚ neg_ℚ x
-neg_below x h = common2 (whole (pos 0) <ℚ neg_ℚ x) x x (λ D d X Y.
-    let h' = simp nums at (lt_num D _ _ (search commons) (search commons) h) in
-    num_lt D _ _ (search commons) (search commons) (simp nums (omega (arith, linear))))
-
 -- a function that falls
 pub root_between_down : (v m a b : Fraction) → a <ℚ b → whole (pos 0) <ℚ line v m a → line v m b <ℚ whole (pos 0) → RootBetween v m a b
 root_between_down v m a b l h k =
@@ -97,11 +72,8 @@ root_between_down v m a b l h k =
       place = r.place;
       after = r.after;
       before = r.before;
-      is_root = twice (line v m r.place) ∙ ap neg_ℚ (neg_line v m r.place ∙ r.is_root) ∙ ringℚ [] (minus (num (pos 0))) (num (pos 0)) refl;
+      is_root = sym (neg_neg (line v m r.place)) ∙ ap neg_ℚ (neg_line v m r.place ∙ r.is_root) ∙ neg_zero;
     }
-  where
-    twice : (x : Fraction) → x ≡ neg_ℚ (neg_ℚ x)
-    twice x = ringℚ (x ∷ []) (var 0) (minus (minus (var 0))) refl
 
 -- what is below 0 at a is below 0 at each place between
 pub stays_below_from : (v m a b x : Fraction) → ((r : Fraction) → a <ℚ r → r <ℚ b → line v m r ≡ whole (pos 0) → ⊥) → line v m a <ℚ whole (pos 0) → a <ℚ x → x <ℚ b → line v m x <ℚ whole (pos 0)
@@ -129,28 +101,47 @@ stays_below v m a b x y n ax xb ay yb h = elim (<ℚ_or (line v m y) (whole (pos
   ])
 ]
 
--- two linear functions: what is below at a stays below where they do not meet
+stays_above : (v m a b x y : Fraction) → ((r : Fraction) → a <ℚ r → r <ℚ b → line v m r ≡ whole (pos 0) → ⊥) → a <ℚ x → x <ℚ b → a <ℚ y → y <ℚ b → whole (pos 0) <ℚ line v m x → whole (pos 0) <ℚ line v m y
+stays_above v m a b x y n ax xb ay yb h =
+    subst (λ z. whole (pos 0) <ℚ z) (neg_neg (line v m y)) (neg_below _ (subst (λ z. z <ℚ whole (pos 0)) (sym (neg_line v m y))
+    (stays_below (neg_ℚ v) (neg_ℚ m) a b x y
+    (λ r p q e. n r p q (sym (neg_neg (line v m r)) ∙ ap neg_ℚ (neg_line v m r ∙ e) ∙ neg_zero))
+    ax xb ay yb (subst (λ z. z <ℚ whole (pos 0)) (neg_line v m x) (neg_above _ h)))))
+
+pub same_answer : (v m a b x y : Fraction) → ((r : Fraction) → a <ℚ r → r <ℚ b → line v m r ≡ whole (pos 0) → ⊥) → a <ℚ x → x <ℚ b → a <ℚ y → y <ℚ b → compared (line v m x) (whole (pos 0)) ≡ compared (line v m y) (whole (pos 0))
+same_answer v m a b x y n ax xb ay yb = elim (<ℚ_or (line v m x) (whole (pos 0))) [
+  | inl h ↦ less-compared _ _ h ∙ sym (less-compared _ _ (stays_below v m a b x y n ax xb ay yb h))
+  | inr o ↦ elim o [
+    | inl e ↦ absurd (n x ax xb e)
+    | inr h ↦ greater-compared _ _ h ∙ sym (greater-compared _ _ (stays_above v m a b x y n ax xb ay yb h))
+  ]
+]
+
+-- ---- two lines
+pub difference : (v m w n x : Fraction) → line v m x -ℚ line w n x ≡ line (v -ℚ w) (m -ℚ n) x
+difference v m w n x = ringℚ (v ∷ m ∷ w ∷ n ∷ x ∷ []) ((var 0 ⊕ var 1 ⊗ var 4) ⊖ (var 2 ⊕ var 3 ⊗ var 4)) ((var 0 ⊖ var 2) ⊕ (var 1 ⊖ var 3) ⊗ var 4) refl
+
+-- what is below at a stays below where they do not meet
 pub stays_below_other : (v₁ m₁ v₂ m₂ a b x : Fraction) → ((r : Fraction) → a <ℚ r → r <ℚ b → line v₁ m₁ r ≡ line v₂ m₂ r → ⊥) → line v₁ m₁ a <ℚ line v₂ m₂ a → a <ℚ x → x <ℚ b → line v₁ m₁ x <ℚ line v₂ m₂ x
 stays_below_other v₁ m₁ v₂ m₂ a b x n h p q =
-    back (line v₁ m₁ x) (line v₂ m₂ x) (subst (λ z. z <ℚ whole (pos 0)) (sym (difference x))
+    below_of_difference _ _ (subst (λ z. z <ℚ whole (pos 0)) (sym (difference v₁ m₁ v₂ m₂ x))
     (stays_below_from (v₁ -ℚ v₂) (m₁ -ℚ m₂) a b x
-    (λ r s t e. n r s t (meet _ _ (difference r ∙ e)))
-    (subst (λ z. z <ℚ whole (pos 0)) (difference a) (forth _ _ h)) p q))
+    (λ r s t e. n r s t (equal_of_difference _ _ (difference v₁ m₁ v₂ m₂ r ∙ e)))
+    (subst (λ z. z <ℚ whole (pos 0)) (difference v₁ m₁ v₂ m₂ a) (difference_below _ _ h)) p q))
+
+-- two lines that do not meet strictly between a and b compare alike there
+pub same_order : (v m w n a b x y : Fraction) → ((r : Fraction) → a <ℚ r → r <ℚ b → line v m r ≡ line w n r → ⊥) → a <ℚ x → x <ℚ b → a <ℚ y → y <ℚ b → compared (line v m x) (line w n x) ≡ compared (line v m y) (line w n y)
+same_order v m w n a b x y none ax xb ay yb =
+    at x ∙ same_answer (v -ℚ w) (m -ℚ n) a b x y (λ r p q e. none r p q (equal_of_difference _ _ (difference v m w n r ∙ e))) ax xb ay yb ∙ sym (at y)
   where
-    difference : (x : Fraction) → line v₁ m₁ x -ℚ line v₂ m₂ x ≡ line (v₁ -ℚ v₂) (m₁ -ℚ m₂) x
-    difference x = ringℚ (v₁ ∷ m₁ ∷ v₂ ∷ m₂ ∷ x ∷ []) ((var 0 ⊕ var 1 ⊗ var 4) ⊖ (var 2 ⊕ var 3 ⊗ var 4)) ((var 0 ⊖ var 2) ⊕ (var 1 ⊖ var 3) ⊗ var 4) refl
+    at : (x : Fraction) → compared (line v m x) (line w n x) ≡ compared (line (v -ℚ w) (m -ℚ n) x) (whole (pos 0))
+    at x = compared-sub _ _ ∙ ap (λ z. compared z (whole (pos 0))) (difference v m w n x)
 
-    back : (y z : Fraction) → y -ℚ z <ℚ whole (pos 0) → y <ℚ z
-    back y z h = common2 (y <ℚ z) y z (λ D d Y Z.
-        let h' = simp nums at (lt_num D _ _ (search commons) (search commons) h) in
-        num_lt D _ _ Y Z (omega (arith, linear)))
-
-    forth : (y z : Fraction) → y <ℚ z → y -ℚ z <ℚ whole (pos 0)
-    forth y z h = common2 (y -ℚ z <ℚ whole (pos 0)) y z (λ D d Y Z.
-        let h' = lt_num D _ _ Y Z h in
-        num_lt D _ _ (search commons) (search commons) (simp nums (omega (arith, linear))))
-
-    meet : (y z : Fraction) → y -ℚ z ≡ whole (pos 0) → y ≡ z
-    meet y z e = common2 (y ≡ z) y z (λ D d Y Z.
-        let e' = simp nums at (ap (numerator D) e) in
-        num_eq D _ _ Y Z (omega (arith, linear)))
+-- two lines of one slope compare as their values do
+pub same_slope : (v w m n x : Fraction) → m ≡ n → compared (line v m x) (line w n x) ≡ compared v w
+same_slope v w m n x e = sym (same_compared v w _ _ (up v w m n e) (λ d. ap₂ (λ a b. line a b x) d e) (up w v n m (sym e)))
+  where
+    up : (v w m n : Fraction) → m ≡ n → v <ℚ w → line v m x <ℚ line w n x
+    up v w m n e h = subst (λ k. line v m x <ℚ line w k x) e (common3 (line v m x <ℚ line w m x) v w (m *ℚ x) (λ D d V W X.
+        let h' = lt_num D _ _ V W h in
+        num_lt D _ _ (search commons) (search commons) (simp nums (omega (arith, linear)))))

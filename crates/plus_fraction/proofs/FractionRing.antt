@@ -1,5 +1,5 @@
 -- Fractions are a commutative ring: `ringℚ` proves an identity from the terms of its two sides.
-use Rattle.std.proofs.Common.{◌≡◌, ℕ, List, arith, refl, ℤ, pos, negsuc, ◌+ℤ◌, ◌-ℤ◌, ◌*ℤ◌, neg_ℤ, get_or}
+use Rattle.std.proofs.Common.{◌≡◌, ℕ, List, arith, ◌∙◌, refl, ℤ, pos, negsuc, ◌+ℤ◌, ◌-ℤ◌, ◌*ℤ◌, neg_ℤ, get_or}
 use Rattle.plus_fraction.specs.Fraction.{Fraction, whole, ◌+ℚ◌, ◌-ℚ◌, ◌*ℚ◌, neg_ℚ}
 use Rattle.plus_fraction.proofs.IntRing.{products, linear}
 use Rattle.plus_fraction.proofs.FractionBase.{Is, Is-parts, same}
@@ -50,6 +50,15 @@ whole-mul a b = same (Is-whole (a *ℤ b)) (Is-mul (Is-whole a) (Is-whole b)) (p
   where
     product : (a b : ℤ) → (a *ℤ b) *ℤ (pos 1 *ℤ pos 1) ≡ (a *ℤ b) *ℤ pos 1
     product a b = refl
+
+pub zero-+ℚ : (x : Fraction) → whole (pos 0) +ℚ x ≡ x
+zero-+ℚ x = +ℚ_comm _ x ∙ +ℚ-zero x
+
+pub one-*ℚ : (x : Fraction) → whole (pos 1) *ℚ x ≡ x
+one-*ℚ x = *ℚ_comm _ x ∙ *ℚ-one x
+
+pub zero-*ℚ : (x : Fraction) → whole (pos 0) *ℚ x ≡ whole (pos 0)
+zero-*ℚ x = *ℚ_comm _ x ∙ *ℚ-zero x
 
 abbrev pub lawsℚ : RingLaws Fraction
 lawsℚ = record {

@@ -1,13 +1,15 @@
--- Quotients, signs, and linear functions: a linear function that is below 0 at one place and above 0 at another has a root between.
+-- Quotients and signs.
 use Rattle.std.proofs.Common.{◌≡◌, zero, suc, ◌*◌, ◌<◌, [], ◌∷◌, arith, sym, ap, refl, subst, ℤ, pos, negsuc, neg_ℤ, ◌*ℤ◌, ◌<ℤ◌, unsigned_abs, inl, inr, mul-pos, int_cmp}
 use Rattle.std.proofs.lemmas.Int.{ints, by_lt_z}
-use Rattle.plus_fraction.specs.Fraction.{Fraction, compared, whole, ◌+ℚ◌, ◌-ℚ◌, ◌*ℚ◌, ◌/ℚ◌, neg_ℚ, ◌<ℚ◌, sign_of}
+use Rattle.plus_fraction.specs.Fraction.{Fraction, compared, whole, ◌+ℚ◌, ◌-ℚ◌, ◌*ℚ◌, ◌/ℚ◌, neg_ℚ, ◌<ℚ◌, sign_of, over}
 use Rattle.plus_fraction.proofs.IntRing.{products, linear, *ℤ-pos, *ℤ-lt}
 use Rattle.plus_fraction.proofs.FractionBase.{Is, Is-parts, same, of_Is}
 use Rattle.plus_fraction.proofs.FractionLaws.{Is-over, Is-mul, Is-rebase, *ℚ_comm}
 use Rattle.plus_fraction.proofs.FractionOrder.{lt_by, <ℚ_irrefl, <ℚ_trans, <ℚ_or, +ℚ-lt, *ℚ-lt}
-use Rattle.plus_fraction.proofs.FractionRing.{ringℚ, Is-whole}
+use Rattle.plus_fraction.proofs.FractionRing.{ringℚ, Is-whole, zero-*ℚ}
 use Rattle.plus_fraction.proofs.Ring.{var, num, ◌⊕◌, ◌⊖◌, minus}
+use Rattle.plus_fraction.proofs.FractionLinear.{common2, commons, nums, lt_num, num_lt, num_eq, num as numerator}
+use Rattle.plus_fraction.specs.Gcd.{gcd, gcd_within}
 
 -- ---- quotients
 sign-abs : (t : ℤ) → sign_of t *ℤ t ≡ pos (unsigned_abs t)
@@ -99,3 +101,62 @@ compared_by {x} {y} {n} {m} d p q = by_lt_z n m
       where
         both : (a b n m : ℤ) → n ≡ m → a ≡ b → int_cmp a b ≡ int_cmp n m
         both a b n m h k = grind (arith, ints)
+
+-- ---- 0
+pub zero_by_top : (x : Fraction) → x.top ≡ pos 0 → x ≡ whole (pos 0)
+zero_by_top x e = same (Is-parts x) (Is-whole (pos 0)) (rw e (omega (arith, ints)))
+
+pub top_of_zero : (x : Fraction) → x ≡ whole (pos 0) → x.top ≡ pos 0
+unfolding over gcd gcd_within
+top_of_zero x e = ap (λ (q : Fraction). q.top) e
+
+-- ---- opposites
+pub neg_above : (x : Fraction) → whole (pos 0) <ℚ x → neg_ℚ x <ℚ whole (pos 0)
+neg_above x h = common2 (neg_ℚ x <ℚ whole (pos 0)) x x (λ D d X Y.
+    let h' = simp nums at (lt_num D _ _ (search commons) (search commons) h) in
+    num_lt D _ _ (search commons) (search commons) (simp nums (omega (arith, linear))))
+
+pub neg_below : (x : Fraction) → x <ℚ whole (pos 0) → whole (pos 0) <ℚ neg_ℚ x
+neg_below x h = common2 (whole (pos 0) <ℚ neg_ℚ x) x x (λ D d X Y.
+    let h' = simp nums at (lt_num D _ _ (search commons) (search commons) h) in
+    num_lt D _ _ (search commons) (search commons) (simp nums (omega (arith, linear))))
+
+pub neg_neg : (x : Fraction) → neg_ℚ (neg_ℚ x) ≡ x
+neg_neg x = ringℚ (x ∷ []) (minus (minus (var 0))) (var 0) refl
+
+pub neg_zero : neg_ℚ (whole (pos 0)) ≡ whole (pos 0)
+neg_zero = ringℚ [] (minus (num (pos 0))) (num (pos 0)) refl
+
+-- a factor of a product above 0
+pub above_of_product : (m z : Fraction) → whole (pos 0) <ℚ z → whole (pos 0) <ℚ m *ℚ z → whole (pos 0) <ℚ m
+above_of_product m z p h = elim (<ℚ_or (whole (pos 0)) m) [
+  | inl k ↦ k
+  | inr o ↦ absurd (elim o [
+    | inl e ↦ <ℚ_irrefl (whole (pos 0)) (subst (λ y. whole (pos 0) <ℚ y) (zero-*ℚ z) (subst (λ y. whole (pos 0) <ℚ y *ℚ z) (sym e) h))
+    | inr k ↦ <ℚ_irrefl (whole (pos 0)) (<ℚ_trans _ _ _ h (subst (λ y. m *ℚ z <ℚ y) (zero-*ℚ z) (*ℚ-lt m (whole (pos 0)) z k p)))
+  ])
+]
+
+-- ---- an order or an equation by the difference
+pub below_of_difference : (y z : Fraction) → y -ℚ z <ℚ whole (pos 0) → y <ℚ z
+below_of_difference y z h = common2 (y <ℚ z) y z (λ D d Y Z.
+    let h' = simp nums at (lt_num D _ _ (search commons) (search commons) h) in
+    num_lt D _ _ Y Z (omega (arith, linear)))
+
+pub difference_below : (y z : Fraction) → y <ℚ z → y -ℚ z <ℚ whole (pos 0)
+difference_below y z h = common2 (y -ℚ z <ℚ whole (pos 0)) y z (λ D d Y Z.
+    let h' = lt_num D _ _ Y Z h in
+    num_lt D _ _ (search commons) (search commons) (simp nums (omega (arith, linear))))
+
+pub difference_above : (y z : Fraction) → z <ℚ y → whole (pos 0) <ℚ y -ℚ z
+difference_above y z h = common2 (whole (pos 0) <ℚ y -ℚ z) y z (λ D d Y Z.
+    let h' = lt_num D _ _ Z Y h in
+    num_lt D _ _ (search commons) (search commons) (simp nums (omega (arith, linear))))
+
+pub equal_of_difference : (y z : Fraction) → y -ℚ z ≡ whole (pos 0) → y ≡ z
+equal_of_difference y z e = common2 (y ≡ z) y z (λ D d Y Z.
+    let e' = simp nums at (ap (numerator D) e) in
+    num_eq D _ _ Y Z (omega (arith, linear)))
+
+pub difference_none : (y z : Fraction) → y ≡ z → y -ℚ z ≡ whole (pos 0)
+difference_none y z e = subst (λ w. y -ℚ w ≡ whole (pos 0)) e (ringℚ (y ∷ []) (var 0 ⊖ var 0) (num (pos 0)) refl)

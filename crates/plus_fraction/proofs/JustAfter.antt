@@ -1,11 +1,23 @@
--- The sign of a linear function just after 0, in every case, and several facts at once.
-use Rattle.std.proofs.Common.{◌≡◌, [], ◌∷◌, refl, pos, subst, sym, ◌∙◌, ap, inl, inr}
-use Rattle.plus_fraction.specs.Fraction.{Fraction, whole, ◌+ℚ◌, ◌*ℚ◌, neg_ℚ, ◌<ℚ◌}
-use Rattle.plus_fraction.proofs.Ring.{var, num, ◌⊕◌, ◌⊗◌, minus}
+-- What holds just after 0: along one line, along two, and several facts at once.
+use Rattle.std.proofs.Common.{◌≡◌, ◌∷◌, [], refl, pos, arith, subst, sym, ap, inl, inr, ◌∙◌}
+use Rattle.std.proofs.lemmas.Int.{ints}
+use Rattle.plus_fraction.specs.Gcd.{gcd, gcd_within}
+use Rattle.plus_fraction.specs.Fraction.{Fraction, over, whole, ◌+ℚ◌, ◌-ℚ◌, ◌*ℚ◌, ◌/ℚ◌, neg_ℚ, ◌<ℚ◌, ◌≤ℚ◌}
+use Rattle.plus_fraction.specs.Lines.{line}
+use Rattle.plus_fraction.specs.JustAfter.{JustAfter}
+use Rattle.plus_fraction.proofs.IntRing.{linear}
+use Rattle.plus_fraction.proofs.Ring.{var, num, ◌⊕◌, ◌⊗◌}
 use Rattle.plus_fraction.proofs.FractionRing.{ringℚ}
-use Rattle.plus_fraction.proofs.FractionOrder.{<ℚ_trans, <ℚ_or, *ℚ-lt}
-use Rattle.plus_fraction.proofs.Constancy.{line, neg_line, neg_above, neg_below}
-use Rattle.plus_fraction.proofs.FractionMore.{JustAfter, just_after_below, one_above}
+use Rattle.plus_fraction.proofs.FractionLaws.{*ℚ_comm}
+use Rattle.plus_fraction.proofs.FractionOrder.{<ℚ_irrefl, <ℚ_trans, <ℚ_or, *ℚ-lt}
+use Rattle.plus_fraction.proofs.FractionAtMost.{≤ℚ_or, <ℚ-≤ℚ_trans}
+use Rattle.plus_fraction.proofs.FractionSigns.{/ℚ-mul, below_cancel, neg_above, neg_below, neg_neg, neg_zero, below_of_difference, difference_below, difference_none}
+use Rattle.plus_fraction.proofs.FractionLinear.{common2, commons, nums, lt_num, le_num, num_lt}
+use Rattle.plus_fraction.proofs.Constancy.{neg_line, difference}
+
+pub one_above : whole (pos 0) <ℚ whole (pos 1)
+unfolding over gcd gcd_within
+one_above = record { cross = omega (arith, ints) }
 
 pub just_after_map : (P Q : Fraction → Type 0) → ((x : Fraction) → P x → Q x) → JustAfter P → JustAfter Q
 just_after_map P Q f a = record { until = a.until; above = a.above; holds = λ x p q. f x (a.holds x p q) }
@@ -20,6 +32,44 @@ just_after_both P Q a b = elim (<ℚ_or a.until b.until) [
   ]
 ]
 
+-- ---- one line
+pub just_after_below : (v m : Fraction) → v <ℚ whole (pos 0) → JustAfter (λ x. line v m x <ℚ whole (pos 0))
+just_after_below v m h = elim (≤ℚ_or m (whole (pos 0))) [
+  | inl k ↦ record { until = whole (pos 1); above = one_above; holds = λ x p q. sum_below v (m *ℚ x) h (product m x k p) }
+  | inr k ↦
+      let n : m ≡ whole (pos 0) → ⊥ = λ e. <ℚ_irrefl m (subst (λ z. z <ℚ m) (sym e) k) in
+      let r : Fraction = neg_ℚ v /ℚ m in
+      let e : m *ℚ (neg_ℚ v /ℚ m) ≡ neg_ℚ v = *ℚ_comm m _ ∙ /ℚ-mul (neg_ℚ v) m n in
+      record {
+        until = r;
+        above = below_cancel m (whole (pos 0)) r k (subst (λ z. m *ℚ whole (pos 0) <ℚ z) (sym e) (subst (λ z. z <ℚ neg_ℚ v) (ringℚ (m ∷ []) (num (pos 0)) (var 0 ⊗ num (pos 0)) refl) (neg_below v h)));
+        holds = λ x p q. short v (m *ℚ x) (subst (λ z. m *ℚ x <ℚ z) e (subst (λ z. z <ℚ m *ℚ r) (*ℚ_comm x m) (subst (λ z. x *ℚ m <ℚ z) (*ℚ_comm r m) (*ℚ-lt x r m q k))));
+      }
+]
+  where
+    short : (v w : Fraction) → w <ℚ neg_ℚ v → v +ℚ w <ℚ whole (pos 0)
+    short v w h = common2 (v +ℚ w <ℚ whole (pos 0)) v w (λ D d V W.
+        let h' = simp nums at (lt_num D _ _ (search commons) (search commons) h) in
+        num_lt D _ _ (search commons) (search commons) (simp nums (omega (arith, linear))))
+
+    sum_below : (v w : Fraction) → v <ℚ whole (pos 0) → w ≤ℚ whole (pos 0) → v +ℚ w <ℚ whole (pos 0)
+    sum_below v w h k = common2 (v +ℚ w <ℚ whole (pos 0)) v w (λ D d V W.
+        let h' = simp nums at (lt_num D _ _ (search commons) (search commons) h) in
+        let k' = simp nums at (le_num D _ _ (search commons) (search commons) k) in
+        num_lt D _ _ (search commons) (search commons) (simp nums (omega (arith, linear))))
+
+    product : (m x : Fraction) → m ≤ℚ whole (pos 0) → whole (pos 0) <ℚ x → m *ℚ x ≤ℚ whole (pos 0)
+    product m x k p = elim (≤ℚ_or (m *ℚ x) (whole (pos 0))) [
+      | inl l ↦ l
+      | inr l ↦ elim (<ℚ_or m (whole (pos 0))) [
+        | inl b ↦ absurd (<ℚ_irrefl _ (<ℚ_trans _ _ _ l (subst (λ z. m *ℚ x <ℚ z) (ringℚ (x ∷ []) (num (pos 0) ⊗ var 0) (num (pos 0)) refl) (*ℚ-lt m (whole (pos 0)) x b p))))
+        | inr o ↦ elim o [
+          | inl e ↦ subst (λ z. z *ℚ x ≤ℚ whole (pos 0)) (sym e) (subst (λ z. z ≤ℚ whole (pos 0)) (ringℚ (x ∷ []) (num (pos 0)) (num (pos 0) ⊗ var 0) refl) (record { cross = omega (arith, linear) }))
+          | inr b ↦ absurd (<ℚ_irrefl _ (<ℚ-≤ℚ_trans _ _ _ b k))
+        ]
+      ]
+    ]
+
 pub just_after_falling : (v m : Fraction) → v ≡ whole (pos 0) → m <ℚ whole (pos 0) → JustAfter (λ x. line v m x <ℚ whole (pos 0))
 just_after_falling v m e h = record {
   until = whole (pos 1);
@@ -30,10 +80,7 @@ just_after_falling v m e h = record {
 }
 
 of_negated : (v m : Fraction) → JustAfter (λ x. line (neg_ℚ v) (neg_ℚ m) x <ℚ whole (pos 0)) → JustAfter (λ x. whole (pos 0) <ℚ line v m x)
-of_negated v m = just_after_map _ _ (λ x h. subst (λ z. whole (pos 0) <ℚ z) (twice (line v m x)) (neg_below _ (subst (λ z. z <ℚ whole (pos 0)) (sym (neg_line v m x)) h)))
-  where
-    twice : (x : Fraction) → neg_ℚ (neg_ℚ x) ≡ x
-    twice x = ringℚ (x ∷ []) (minus (minus (var 0))) (var 0) refl
+of_negated v m = just_after_map _ _ (λ x h. subst (λ z. whole (pos 0) <ℚ z) (neg_neg (line v m x)) (neg_below _ (subst (λ z. z <ℚ whole (pos 0)) (sym (neg_line v m x)) h)))
 
 -- one of three holds just after 0
 pub data SignAfter (v m : Fraction) : Type 0 where
@@ -49,9 +96,16 @@ sign_after v m = elim (<ℚ_or v (whole (pos 0))) [
       | inl h ↦ below (just_after_falling v m e h)
       | inr u ↦ elim u [
         | inl f ↦ none e f
-        | inr h ↦ above (of_negated v m (just_after_falling (neg_ℚ v) (neg_ℚ m) (ap neg_ℚ e ∙ ringℚ [] (minus (num (pos 0))) (num (pos 0)) refl) (neg_above m h)))
+        | inr h ↦ above (of_negated v m (just_after_falling (neg_ℚ v) (neg_ℚ m) (ap neg_ℚ e ∙ neg_zero) (neg_above m h)))
       ]
     ]
     | inr h ↦ above (of_negated v m (just_after_below (neg_ℚ v) (neg_ℚ m) (neg_above v h)))
   ]
 ]
+
+-- ---- two lines
+pub below_after : (v m w n : Fraction) → v <ℚ w → JustAfter (λ x. line v m x <ℚ line w n x)
+below_after v m w n h = just_after_map _ _ (λ x k. below_of_difference _ _ (subst (λ z. z <ℚ whole (pos 0)) (sym (difference v m w n x)) k)) (just_after_below (v -ℚ w) (m -ℚ n) (difference_below v w h))
+
+pub falls_after : (v m w n : Fraction) → v ≡ w → m <ℚ n → JustAfter (λ x. line v m x <ℚ line w n x)
+falls_after v m w n e h = just_after_map _ _ (λ x k. below_of_difference _ _ (subst (λ z. z <ℚ whole (pos 0)) (sym (difference v m w n x)) k)) (just_after_falling (v -ℚ w) (m -ℚ n) (difference_none v w e) (difference_below m n h))

@@ -5,9 +5,8 @@ pub mod FractionOrder
 pub mod FractionLinear
 pub mod Ring
 pub mod FractionRing
-pub mod Constancy
 pub mod FractionSigns
-pub mod FractionMore
-pub mod JustAfter
-pub mod SameSign
+pub mod FractionAtMost
 pub mod Compared
+pub mod Constancy
+pub mod JustAfter

@@ -3,3 +3,4 @@ pub mod GcdLemmas
 pub mod Fraction
 pub mod FractionCode
 pub mod Lines
+pub mod JustAfter

@@ -1,5 +1,10 @@
+-- Lines `v + m x`: values that move at a constant rate.
 use Rattle.std.specs.Prelude.{◌≡◌}
 use Rattle.plus_fraction.specs.Fraction.{Fraction, ◌+ℚ◌, ◌*ℚ◌, ◌<ℚ◌}
+
+-- the value at x of the line that begins at v with slope m
+abbrev pub line : Fraction → Fraction → Fraction → Fraction
+line v m x = v +ℚ m *ℚ x
 
 abbrev pub StaysBelow : Type 0
 StaysBelow =

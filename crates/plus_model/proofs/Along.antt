@@ -7,9 +7,8 @@ use Rattle.plus_fraction.specs.Fraction.{Fraction, whole, ◌+ℚ◌, ◌*ℚ◌
 use Rattle.plus_fraction.proofs.Ring.{var, num, ◌⊕◌, ◌⊖◌, ◌⊗◌}
 use Rattle.plus_fraction.proofs.FractionRing.{ringℚ}
 use Rattle.plus_fraction.proofs.FractionSigns.{/ℚ-mul}
-use Rattle.plus_fraction.proofs.FractionMore.{compared-equal}
-use Rattle.plus_fraction.proofs.Constancy.{line}
-use Rattle.plus_fraction.proofs.Compared.{compared_refl}
+use Rattle.plus_fraction.proofs.Compared.{compared-equal, compared_refl}
+use Rattle.plus_fraction.specs.Lines.{line}
 use Rattle.plus_model.specs.Terms.{Expression, Number, Fluent, Sum, Difference, Product, Quotient, Same, State}
 use Rattle.plus_model.specs.Value.{passes, is_zero, on_both, quotient, fluent_of, value}
 use Rattle.plus_model.specs.Running.{moved_values, moved}

@@ -2,7 +2,7 @@
 use Rattle.std.proofs.Common.{◌≡◌, ◌≢◌, ℕ, true, List, [], ◌∷◌, ◌++◌, refl, ap, sym, subst, ◌∙◌, inl, inr}
 use Rattle.std.specs.Prelude.{Option, Some, None, Ok, Err, IsSomeAnd, slice_get}
 use Rattle.plus_fraction.specs.Fraction.{Fraction, ◌+ℚ◌, ◌-ℚ◌, ◌<ℚ◌, ◌≤ℚ◌}
-use Rattle.plus_fraction.proofs.FractionMore.{≤ℚ_or}
+use Rattle.plus_fraction.proofs.FractionAtMost.{≤ℚ_or}
 use Rattle.plus_fraction.proofs.FractionOrder.{<ℚ_irrefl}
 use Rattle.plus_model.specs.Terms.{Problem, Action, State, Event}
 use Rattle.plus_model.specs.Value.{holds}

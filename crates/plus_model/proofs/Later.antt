@@ -2,7 +2,7 @@
 use Rattle.std.proofs.Common.{◌≡◌, ℕ, zero, suc, List, [], ◌∷◌, ◌++◌, refl, ap, sym, subst, ◌∙◌}
 use Rattle.std.specs.Prelude.{Option, Some, None, slice_get}
 use Rattle.plus_fraction.specs.Fraction.{◌<ℚ◌, ◌≤ℚ◌}
-use Rattle.plus_fraction.proofs.FractionMore.{<ℚ-≤ℚ_trans}
+use Rattle.plus_fraction.proofs.FractionAtMost.{<ℚ-≤ℚ_trans}
 use Rattle.plus_model.specs.Terms.{Problem}
 use Rattle.plus_model.specs.Plan.{Line, Plan}
 use Rattle.plus_model.specs.History.{Part, Enter, Round, Act, Run, View, view_after}

@@ -5,7 +5,7 @@ use Rattle.plus_fraction.proofs.IntRing.{linear}
 use Rattle.plus_fraction.proofs.FractionLinear.{common2, common3, commons, nums, lt_num, le_num, num_lt, num_le}
 use Rattle.std.specs.declared.cmp.Ordering.{Ordering}
 use Rattle.std.specs.declared.cmp.Ordering.TheVariants.{Less, Equal, Greater}
-use Rattle.plus_fraction.proofs.FractionMore.{compared-less}
+use Rattle.plus_fraction.proofs.Compared.{compared-less}
 use Rattle.plus_model.specs.Terms.{Timed, Below}
 use Rattle.plus_model.specs.Value.{passes}
 use Rattle.plus_model.specs.Trajectory.{least, is_below}

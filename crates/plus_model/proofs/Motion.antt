@@ -6,7 +6,7 @@ use Rattle.plus_fraction.proofs.Ring.{var, ◌⊕◌, ◌⊗◌}
 use Rattle.plus_fraction.proofs.FractionRing.{ringℚ}
 use Rattle.plus_fraction.proofs.IntRing.{linear}
 use Rattle.plus_fraction.proofs.FractionOrder.{<ℚ_trans, <ℚ_or}
-use Rattle.plus_fraction.proofs.FractionMore.{middle, middle_between}
+use Rattle.plus_fraction.proofs.FractionAtMost.{middle, middle_between}
 use Rattle.plus_fraction.proofs.FractionLinear.{common3, common4, commons, nums, lt_num, le_num, num_lt}
 use Rattle.plus_model.specs.Terms.{State, Event, Problem}
 use Rattle.plus_model.specs.Value.{holds}

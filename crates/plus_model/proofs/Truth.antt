@@ -5,11 +5,11 @@ use Rattle.std.specs.declared.cmp.Ordering.{Ordering}
 use Rattle.std.specs.declared.cmp.Ordering.TheVariants.{Less, Equal, Greater}
 use Rattle.plus_fraction.specs.Fraction.{Fraction, whole, ◌<ℚ◌, compared}
 use Rattle.plus_fraction.proofs.FractionOrder.{<ℚ_irrefl, <ℚ_or}
-use Rattle.plus_fraction.proofs.FractionMore.{JustAfter as Soon, one_above, compared-less, compared-equal, compared-greater}
-use Rattle.plus_fraction.proofs.JustAfter.{just_after_map, just_after_both}
-use Rattle.plus_fraction.proofs.SameSign.{less-compared, greater-compared}
-use Rattle.plus_fraction.proofs.Constancy.{line}
-use Rattle.plus_fraction.proofs.Compared.{same_order, same_slope, equal-compared, below_after, falls_after}
+use Rattle.plus_fraction.specs.JustAfter.{JustAfter as Soon}
+use Rattle.plus_fraction.proofs.JustAfter.{one_above, just_after_map, just_after_both, below_after, falls_after}
+use Rattle.plus_fraction.proofs.Compared.{compared-less, compared-equal, compared-greater, less-compared, greater-compared, equal-compared}
+use Rattle.plus_fraction.specs.Lines.{line}
+use Rattle.plus_fraction.proofs.Constancy.{same_order, same_slope}
 use Rattle.plus_model.specs.Terms.{Test, Condition, Always, Never, Both, Either, Atom, Compare, State}
 use Rattle.plus_model.specs.Value.{passes, stand, signed, atom_of, value, holds}
 use Rattle.plus_model.specs.Running.{moved, JustAfter}

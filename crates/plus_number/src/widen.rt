@@ -1,9 +1,9 @@
 // From millionths to pairs.
 ghost use Rattle.plus_number.specs.Widen.{same_fraction};
 
-use crate::ticks::Ticks;
 use crate::exact::Exact;
 use crate::frac::Frac64;
+use crate::ticks::Ticks;
 
 // The equal fraction.
 pub fn widen(t: Ticks) -> Frac64

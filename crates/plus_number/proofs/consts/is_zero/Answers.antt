@@ -1,6 +1,6 @@
 use Rattle.std.proofs.Common.{arith, ◌≡◌, ◌∙◌, sym, pos}
 use Rattle.std.proofs.lemmas.Int.{ints}
-use Rattle.plus_fraction.proofs.FractionMore.{zero_by_top, top_of_zero}
+use Rattle.plus_fraction.proofs.FractionSigns.{zero_by_top, top_of_zero}
 use Rattle.plus_number.proofs.consts.is_zero.Goals as goal
 
 pub returns : goal.returns
