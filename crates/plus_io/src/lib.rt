@@ -1,0 +1,11 @@
+//! The outside world: shelves of named byte texts, from which texts are read, and sinks, which take
+//! bytes. Each counts its faults, so that no answer can blame a fault that did not happen.
+#![tactic(auto)]
+
+mod fault;
+mod shelf;
+mod sink;
+
+pub use fault::{Failed, ReadStop};
+pub use shelf::{Shelf, read_all};
+pub use sink::{Sink, write_all};
