@@ -1,12 +1,13 @@
 -- How far effects are added.
-use Rattle.std.proofs.Common.{◌≡◌, ℕ, Bool, true, false, List, [], ◌∷◌, ◌++◌, length, map, refl, ap, sym, subst, ◌∙◌, append_assoc}
+use Rattle.std.proofs.Common.{◌≡◌, Bool, true, false, List, [], ◌∷◌, ◌++◌, length, map, refl, ap, sym, ◌∙◌, append_assoc}
 use Rattle.std.proofs.lemmas.List.{append-nil, map-append}
 use Rattle.std.specs.Prelude.{Option, Some, None, option_map, Result, Ok, Err, if◌then◌else◌}
 use Rattle.plus_fraction.specs.Fraction.{Fraction}
 use Rattle.plus_model.specs.Terms.{Effect, State}
 use Rattle.plus_model.specs.Value.{holds}
 use Rattle.plus_model.specs.Joint.{Fault, Change, change_of, changes_of, before}
-use Rattle.plus_state.specs.Steps.{Step, AllPass, FirstStop, effect_steps, add_steps, effect_change, as_some, as_list, after, AllEffectsFit}
+use Rattle.plus_state.specs.Steps.{Step, AllPass, FirstStop, effect_steps, add_steps, effect_change, as_some, as_list, after}
+use Rattle.plus_state.specs.Fits.{AllEffectsFit}
 use Rattle.plus_state.proofs.StepsLemmas.{pass_none, pass_append, stop_left, stop_right}
 
 after_nil : (done : List Change) (r : Result (List Change) Fault) → after (done ++ []) r ≡ after done r

@@ -1,14 +1,13 @@
 -- What an operation asks, by what its sides ask.
-use Rattle.std.proofs.Common.{◌≡◌, ℕ, Bool, true, false, List, [], ◌∷◌, ◌++◌, refl, ap, ap₂, sym, subst, ◌∙◌, inl, inr, pos, if◌then◌else◌}
+use Rattle.std.proofs.Common.{◌≡◌, Bool, true, false, List, [], ◌∷◌, ◌++◌, ap, ap₂, subst, ◌∙◌, inl, inr, pos}
 use Rattle.std.specs.Prelude.{Option, Some, None}
-use Rattle.plus_fraction.specs.Fraction.{Fraction, whole, compared, ◌/ℚ◌}
+use Rattle.plus_fraction.specs.Fraction.{Fraction, whole, compared}
 use Rattle.plus_state.specs.declared.term.Sign.{Sign}
-use Rattle.plus_state.specs.declared.term.Sign.TheVariants.{Divide}
-use Rattle.plus_model.specs.Value.{is_zero, quotient, on_both, stand, passes}
+use Rattle.plus_model.specs.Value.{is_zero, on_both, stand, passes}
 use Rattle.plus_model.specs.Terms.{Test, Same}
 use Rattle.plus_fraction.proofs.Compared.{equal-compared}
 use Rattle.plus_state.specs.Node.{Node}
-use Rattle.plus_state.specs.Asked.{result_of, outcome, node, node_of, if_some, sides, operation, AllFit, FirstUnfit}
+use Rattle.plus_state.specs.Asked.{result_of, node, node_of, if_some, sides, operation, AllFit, FirstUnfit}
 
 pub fit_append : (fits : Fraction → Type 0) (xs ys : List Node) → AllFit fits xs → AllFit fits ys → AllFit fits (xs ++ ys)
 unfolding AllFit

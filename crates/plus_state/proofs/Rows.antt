@@ -1,12 +1,11 @@
 -- Worked rows of what a condition asks.
-use Rattle.std.proofs.Common.{◌≡◌, ℕ, true, false, List, [], ◌∷◌, refl, pos}
+use Rattle.std.proofs.Common.{◌≡◌, ℕ, true, false, [], ◌∷◌, refl, pos}
 use Rattle.std.specs.Prelude.{Some, None}
 use Rattle.plus_fraction.specs.Fraction.{Fraction, whole}
-use Rattle.plus_model.specs.Terms.{Expression, Number, Fluent, Sum, Condition, Always, Never, Both, Either, Atom, Compare, State, AtLeast}
+use Rattle.plus_model.specs.Terms.{Number, Fluent, Sum, Condition, Always, Never, Both, Either, Atom, Compare, State, AtLeast}
 use Rattle.plus_state.specs.declared.term.Sign.TheVariants.{Plus}
-use Rattle.plus_state.specs.Node.{Node}
 use Rattle.plus_state.specs.Asked.{node, node_of, sides, operation}
-use Rattle.plus_state.specs.Tests.{tests_of, decided}
+use Rattle.plus_state.specs.Tests.{tests_of}
 
 abbrev two : Fraction
 two = whole (pos 2)

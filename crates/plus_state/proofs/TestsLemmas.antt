@@ -1,5 +1,5 @@
 -- What a condition asks, and what atoms decide of it, by its members.
-use Rattle.std.proofs.Common.{◌≡◌, ℕ, ◌<◌, ◌≤◌, ◌+◌, suc, Bool, true, false, not, ◌&&◌, ◌||◌, List, [], ◌∷◌, ◌++◌, length, map, drop, get_or, refl, ap, ap₂, sym, subst, ◌∙◌, add-one, append_assoc, drop-cons, arith}
+use Rattle.std.proofs.Common.{◌≡◌, ℕ, ◌<◌, ◌≤◌, ◌+◌, suc, Bool, true, false, not, List, [], ◌∷◌, ◌++◌, length, map, drop, get_or, refl, ap, sym, subst, ◌∙◌, add-one, drop-cons}
 use Rattle.std.proofs.lemmas.List.{append-nil, drop_all}
 use Rattle.std.specs.Prelude.{Option, Some, None, if◌then◌else◌}
 use Rattle.plus_fraction.specs.Fraction.{Fraction}
@@ -12,9 +12,10 @@ use Rattle.std.specs.Prelude.{Vec}
 use Rattle.std.specs.declared.alloc.Global.{Global}
 use Rattle.plus_state.specs.declared.term.Cond.{Cond, All, All', Any, Any', Row_of-Cond, end_of-Cond, more_of-Cond, items-the_row-Cond, items_hidden-the_row-Cond-0}
 use Rattle.plus_state.specs.View.{condition_of, all_in, any_in}
+use Rattle.plus_state.specs.Fits.{Fits}
 use Rattle.plus_state.specs.Node.{Node}
 use Rattle.plus_state.specs.Asked.{nodes, sides, AllFit, FirstUnfit}
-use Rattle.plus_state.specs.Tests.{asked, tests_of, verdict, decided, Fits, pair, unit, joined, join, join_some, join_open, join_decided}
+use Rattle.plus_state.specs.Tests.{asked, tests_of, verdict, decided, pair, unit, joined, join, join_decided}
 use Rattle.plus_state.proofs.AskedLemmas.{fit_append, unfit_left, unfit_right, fit_none}
 
 verdict_both : (c d : Condition) → verdict (live_both c d) ≡ join_decided true (verdict c) (verdict d)

@@ -1,5 +1,5 @@
 -- The nodes that an evaluation asks, in order, and the first of them whose result is no value of the type.
-use Rattle.std.specs.Prelude.{◌≡◌, ◌⊎◌, ℕ, ◌<◌, List, [], ◌∷◌, ◌++◌, Option, Some, None, if◌then◌else◌}
+use Rattle.std.specs.Prelude.{◌≡◌, ◌⊎◌, List, [], ◌∷◌, ◌++◌, Option, Some, None, if◌then◌else◌}
 use Rattle.plus_fraction.specs.Fraction.{Fraction, ◌+ℚ◌, ◌-ℚ◌, ◌*ℚ◌, ◌/ℚ◌}
 use Rattle.plus_state.specs.declared.term.Sign.{Sign}
 use Rattle.plus_state.specs.declared.term.Sign.TheVariants.{Plus, Minus, Times, Divide}
@@ -59,12 +59,3 @@ AllFit fits (n ∷ ns) = fits (result_of n.sign n.left n.right) × AllFit fits n
 unfoldable pub FirstUnfit : (Fraction → Type 0) → List Node → Node → Type 0
 FirstUnfit fits [] m = ⊥
 FirstUnfit fits (n ∷ ns) m = ((fits (result_of n.sign n.left n.right) → ⊥) × (m ≡ n)) ⊎ (fits (result_of n.sign n.left n.right) × FirstUnfit fits ns m)
-
--- each fluent is below this number
-abbrev pub IsIn : ℕ → Expression → Type 0
-IsIn n (Number x) = Unit {0}
-IsIn n (Fluent f) = f < n
-IsIn n (Sum a b) = IsIn n a × IsIn n b
-IsIn n (Difference a b) = IsIn n a × IsIn n b
-IsIn n (Product a b) = IsIn n a × IsIn n b
-IsIn n (Quotient a b) = IsIn n a × IsIn n b

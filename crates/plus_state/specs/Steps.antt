@@ -1,24 +1,21 @@
 -- What a joint effect asks: nodes, and faults, which always stop.
-use Rattle.std.specs.Prelude.{◌≡◌, ◌⊎◌, ℕ, ◌<◌, List, [], ◌∷◌, ◌++◌, map, Option, Some, None, Bool, true, false, Result, Ok, Err, if◌then◌else◌}
+use Rattle.std.specs.Prelude.{◌≡◌, ◌⊎◌, ℕ, List, [], ◌∷◌, ◌++◌, map, Option, Some, None, Bool, true, false, Result, Ok, Err, if◌then◌else◌}
 use Rattle.plus_fraction.specs.Fraction.{Fraction, ◌*ℚ◌, ◌/ℚ◌, neg_ℚ}
 use Rattle.plus_model.specs.Terms as model
 use Rattle.plus_model.specs.Terms.{State, Expression}
 use Rattle.plus_model.specs.Value.{value, is_zero, fluent_of, holds}
 use Rattle.plus_model.specs.Joint as joint
 use Rattle.plus_model.specs.Joint.{Fault, NoValue, Gains, Loses, Becomes, Moves}
-use Rattle.plus_state.specs.declared.term.Write.{Write}
-use Rattle.plus_state.specs.declared.term.Effect.{Effect}
-use Rattle.plus_state.specs.declared.term.Write.TheVariants.{Add, Delete, Assign, Increase, Decrease, ScaleUp, ScaleDown}
-use Rattle.plus_state.specs.declared.joint.Change.{Change}
-use Rattle.plus_state.specs.declared.joint.Change.TheVariants.{Gain, Lose, Become, Raise, Lower, Grow, Shrink}
-use Rattle.plus_state.specs.declared.joint.Halt.{Halt}
-use Rattle.plus_state.specs.declared.joint.Halt.TheVariants.{Missing, Number}
-use Rattle.plus_state.specs.declared.joint.AddStop.{AddStop}
-use Rattle.plus_state.specs.declared.joint.AddStop.TheVariants.{Halted, OutOfMemory}
-use Rattle.plus_state.specs.View.{expression_of, condition_of, overflow_of}
+use Rattle.plus_state.specs.declared.joint_effect.Change.{Change}
+use Rattle.plus_state.specs.declared.joint_effect.Change.TheVariants.{Gain, Lose, Become, Raise, Lower, Grow, Shrink}
+use Rattle.plus_state.specs.declared.joint_effect.Halt.{Halt}
+use Rattle.plus_state.specs.declared.joint_effect.Halt.TheVariants.{Missing, Number}
+use Rattle.plus_state.specs.declared.joint_effect.AddStop.{AddStop}
+use Rattle.plus_state.specs.declared.joint_effect.AddStop.TheVariants.{Halted, OutOfMemory}
+use Rattle.plus_state.specs.View.{overflow_of}
 use Rattle.plus_state.specs.Node.{Node}
-use Rattle.plus_state.specs.Asked.{nodes, result_of, IsIn}
-use Rattle.plus_state.specs.Tests.{tests_of, Fits}
+use Rattle.plus_state.specs.Asked.{nodes, result_of}
+use Rattle.plus_state.specs.Tests.{tests_of}
 
 pub data Step : Type 0 where
   asks : Node → Step
@@ -76,15 +73,6 @@ as_some (Err e) = Err e
 abbrev pub effect_change : model.Effect → State → Result (Option joint.Change) Fault
 effect_change e s = if holds e.guard s then as_some (joint.change_of e.write s) else Ok None
 
-abbrev pub write_of : {Q : Type 0} → (Q → Fraction) → Write Q → model.Write
-write_of v (Add a) = model.Add a.0
-write_of v (Delete a) = model.Delete a.0
-write_of v (Assign f e) = model.Assign f.0 (expression_of v e)
-write_of v (Increase f e) = model.Increase f.0 (expression_of v e)
-write_of v (Decrease f e) = model.Decrease f.0 (expression_of v e)
-write_of v (ScaleUp f e) = model.ScaleUp f.0 (expression_of v e)
-write_of v (ScaleDown f e) = model.ScaleDown f.0 (expression_of v e)
-
 -- the node of a scaling is asked only when the joint effect ends
 abbrev pub change_view : {Q : Type 0} → (Q → Fraction) → Change Q → joint.Change
 change_view v (Gain a) = Gains a.0
@@ -98,25 +86,6 @@ change_view v (Shrink f w x) = Becomes f.0 (v w /ℚ v x)
 abbrev pub halt_of : {Q : Type 0} → (Q → Fraction) → Halt Q → Step
 halt_of v (Missing f) = fault (NoValue f.0)
 halt_of v (Number o) = asks (overflow_of v o)
-
-abbrev pub WriteFits : ℕ → ℕ → model.Write → Type 0
-WriteFits atoms fluents (model.Add a) = a < atoms
-WriteFits atoms fluents (model.Delete a) = a < atoms
-WriteFits atoms fluents (model.Assign f e) = (f < fluents) × IsIn fluents e
-WriteFits atoms fluents (model.Increase f e) = (f < fluents) × IsIn fluents e
-WriteFits atoms fluents (model.Decrease f e) = (f < fluents) × IsIn fluents e
-WriteFits atoms fluents (model.ScaleUp f e) = (f < fluents) × IsIn fluents e
-WriteFits atoms fluents (model.ScaleDown f e) = (f < fluents) × IsIn fluents e
-
-abbrev pub effect_of : {Q : Type 0} → (Q → Fraction) → Effect Q → model.Effect
-effect_of v e = record { guard = condition_of v e.guard; write = write_of v e.write }
-
-abbrev pub EffectFits : ℕ → ℕ → model.Effect → Type 0
-EffectFits atoms fluents e = Fits atoms fluents e.guard × WriteFits atoms fluents e.write
-
-abbrev pub AllEffectsFit : ℕ → ℕ → List model.Effect → Type 0
-AllEffectsFit atoms fluents [] = Unit {0}
-AllEffectsFit atoms fluents (e ∷ es) = EffectFits atoms fluents e × AllEffectsFit atoms fluents es
 
 abbrev pub as_list : {A : Type 0} → Option A → List A
 as_list None = []

@@ -5,9 +5,10 @@ ghost use Rattle.plus_number.specs.Exact.{Answers};
 ghost use Rattle.plus_model.specs.Value.{is_zero, value as value_of};
 ghost use Rattle.plus_state.specs.View.{expression_of, overflow_of};
 ghost use Rattle.plus_state.specs.Tells.{Tells};
-ghost use Rattle.plus_state.specs.Asked.{nodes, node, node_of, result_of, outcome, AllFit, FirstUnfit, IsIn};
+ghost use Rattle.plus_state.specs.Asked.{nodes, node, node_of, result_of, outcome, AllFit, FirstUnfit};
+ghost use Rattle.plus_state.specs.Fits.{IsIn};
 
-use crate::state::State;
+use crate::states::State;
 use crate::term::{Expr, Overflow, Sign};
 use plus_number::consts::zero;
 use plus_number::exact::{Exact, Outside};
