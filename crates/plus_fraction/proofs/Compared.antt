@@ -1,9 +1,11 @@
 -- The test `compared`: what each of its answers means.
-use Rattle.std.proofs.Common.{◌≡◌, ℤ, pos, arith, subst, sym, ◌∙◌, inl, inr, Less, Equal, Greater, cond, int_cmp, int_lt, ◌<ℤ◌, ◌*ℤ◌}
+use Rattle.std.proofs.Common.{◌≡◌, ℤ, pos, arith, subst, sym, ◌∙◌, ap, ◌⊎◌, inl, inr, IsTrue, Less, Equal, Greater, cond, int_cmp, int_lt, ◌<ℤ◌, ◌*ℤ◌}
 use Rattle.std.proofs.lemmas.Int.{ints}
-use Rattle.plus_fraction.specs.Fraction.{Fraction, whole, ◌-ℚ◌, ◌<ℚ◌, compared}
+use Rattle.plus_fraction.specs.Fraction.{Fraction, whole, ◌-ℚ◌, ◌<ℚ◌, ◌==ℚ◌, compared}
 use Rattle.plus_fraction.proofs.FractionBase.{same_cross}
-use Rattle.plus_fraction.proofs.FractionOrder.{<ℚ_or}
+use Rattle.plus_fraction.proofs.FractionOrder.{<ℚ_or, <ℚ_irrefl, <ℚ_trans}
+use Rattle.std.specs.Cmp.{IsTotalOrder}
+use Rattle.std.specs.Ordering.{int_eq, ordering_reverse}
 use Rattle.plus_fraction.proofs.FractionSigns.{difference_below, difference_none, difference_above}
 
 -- ---- from the answer to the order
@@ -65,3 +67,45 @@ same_compared x y u w f g h = elim (<ℚ_or x y) [
 -- x and y compare as their difference does with 0
 pub compared-sub : (x y : Fraction) → compared x y ≡ compared (x -ℚ y) (whole (pos 0))
 compared-sub x y = same_compared x y _ _ (difference_below x y) (difference_none x y) (difference_above x y)
+
+-- ---- the test of equality
+pub same-equal : (x y : Fraction) → IsTrue (x ==ℚ y) → x ≡ y
+unfolding ◌==ℚ◌
+same-equal x y h = same_cross x y (equal (x.top *ℤ pos y.bottom) (y.top *ℤ pos x.bottom) h)
+  where
+    equal : (a b : ℤ) → IsTrue (int_eq a b) → a ≡ b
+    equal a b h = grind (arith, ints)
+
+pub equal-same : (x y : Fraction) → x ≡ y → IsTrue (x ==ℚ y)
+unfolding ◌==ℚ◌
+equal-same x y e = subst (λ z. IsTrue (int_eq (x.top *ℤ pos z.bottom) (z.top *ℤ pos x.bottom))) e (itself (x.top *ℤ pos x.bottom))
+  where
+    itself : (a : ℤ) → IsTrue (int_eq a a)
+    itself a = grind (arith, ints)
+
+-- equal or not
+pub equal_or : (x y : Fraction) → (x ≡ y) ⊎ (x ≡ y → ⊥)
+equal_or x y = elim (<ℚ_or x y) [
+  | inl h ↦ inr (λ e. <ℚ_irrefl y (subst (λ z. z <ℚ y) e h))
+  | inr o ↦ elim o [
+    | inl e ↦ inl e
+    | inr h ↦ inr (λ e. <ℚ_irrefl y (subst (λ z. y <ℚ z) e h))
+  ]
+]
+
+-- ---- a total order, as sorted collections want it
+pub compared_flip : (x y : Fraction) → compared x y ≡ ordering_reverse (compared y x)
+compared_flip x y = elim (<ℚ_or x y) [
+  | inl h ↦ less-compared x y h ∙ sym (ap ordering_reverse (greater-compared y x h))
+  | inr o ↦ elim o [
+    | inl e ↦ equal-compared x y e ∙ sym (ap ordering_reverse (equal-compared y x (sym e)))
+    | inr h ↦ greater-compared x y h ∙ sym (ap ordering_reverse (less-compared y x h))
+  ]
+]
+
+pub compared_total : IsTotalOrder compared
+compared_total = record {
+  antisymm = compared_flip;
+  trans = λ x y z p q. less-compared x z (<ℚ_trans _ _ _ (compared-less x y p) (compared-less y z q));
+  congr = λ x y z p. ap (λ w. compared w z) (compared-equal x y p);
+}

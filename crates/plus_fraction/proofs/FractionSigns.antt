@@ -1,12 +1,12 @@
 -- Quotients and signs.
-use Rattle.std.proofs.Common.{◌≡◌, zero, suc, ◌*◌, ◌<◌, [], ◌∷◌, arith, sym, ap, refl, subst, ℤ, pos, negsuc, neg_ℤ, ◌*ℤ◌, ◌<ℤ◌, unsigned_abs, inl, inr, mul-pos, int_cmp}
+use Rattle.std.proofs.Common.{◌≡◌, zero, suc, ◌*◌, ◌<◌, [], ◌∷◌, arith, sym, ◌∙◌, ap, refl, subst, ℤ, pos, negsuc, neg_ℤ, ◌*ℤ◌, ◌<ℤ◌, unsigned_abs, inl, inr, mul-pos, int_cmp}
 use Rattle.std.proofs.lemmas.Int.{ints, by_lt_z}
 use Rattle.plus_fraction.specs.Fraction.{Fraction, compared, whole, ◌+ℚ◌, ◌-ℚ◌, ◌*ℚ◌, ◌/ℚ◌, neg_ℚ, ◌<ℚ◌, sign_of, over}
 use Rattle.plus_fraction.proofs.IntRing.{products, linear, *ℤ-pos, *ℤ-lt}
 use Rattle.plus_fraction.proofs.FractionBase.{Is, Is-parts, same, of_Is}
-use Rattle.plus_fraction.proofs.FractionLaws.{Is-over, Is-mul, Is-rebase, *ℚ_comm}
+use Rattle.plus_fraction.proofs.FractionLaws.{Is-over, Is-mul, Is-rebase, *ℚ_comm, *ℚ_assoc}
 use Rattle.plus_fraction.proofs.FractionOrder.{lt_by, <ℚ_irrefl, <ℚ_trans, <ℚ_or, +ℚ-lt, *ℚ-lt}
-use Rattle.plus_fraction.proofs.FractionRing.{ringℚ, Is-whole, zero-*ℚ}
+use Rattle.plus_fraction.proofs.FractionRing.{ringℚ, Is-whole, zero-*ℚ, one-*ℚ, *ℚ-zero}
 use Rattle.plus_fraction.proofs.Ring.{var, num, ◌⊕◌, ◌⊖◌, minus}
 use Rattle.plus_fraction.proofs.FractionLinear.{common2, commons, nums, lt_num, num_lt, num_eq, num as numerator}
 use Rattle.plus_fraction.specs.Gcd.{gcd, gcd_within}
@@ -32,6 +32,26 @@ unfolding ◌/ℚ◌
   where
     undone : (a p b q s k : ℤ) → s *ℤ b ≡ k → ((a *ℤ q *ℤ s) *ℤ b) *ℤ p ≡ a *ℤ ((p *ℤ k) *ℤ q)
     undone a p b q s k e = let e' = simp products at (ap (λ x. x *ℤ (a *ℤ (q *ℤ p))) e) in simp products (omega (arith, linear))
+
+-- a factor that is not 0 cancels
+pub *ℚ_cancel : (m x y : Fraction) → (m ≡ whole (pos 0) → ⊥) → m *ℚ x ≡ m *ℚ y → x ≡ y
+*ℚ_cancel m x y n e = sym (undone x) ∙ ap (λ z. i *ℚ z) e ∙ undone y
+  where
+    i : Fraction
+    i = whole (pos 1) /ℚ m
+
+    undone : (z : Fraction) → i *ℚ (m *ℚ z) ≡ z
+    undone z = sym (*ℚ_assoc i m z) ∙ ap (λ w. w *ℚ z) (/ℚ-mul (whole (pos 1)) m n) ∙ one-*ℚ z
+
+-- a quotient is told by its product with the divisor
+pub /ℚ_unique : (x y z : Fraction) → (y ≡ whole (pos 0) → ⊥) → z *ℚ y ≡ x → z ≡ x /ℚ y
+/ℚ_unique x y z n e = *ℚ_cancel y z (x /ℚ y) n (*ℚ_comm y z ∙ e ∙ sym (/ℚ-mul x y n) ∙ *ℚ_comm _ y)
+
+pub zero-/ℚ : (y : Fraction) → (y ≡ whole (pos 0) → ⊥) → whole (pos 0) /ℚ y ≡ whole (pos 0)
+zero-/ℚ y n = sym (/ℚ_unique (whole (pos 0)) y (whole (pos 0)) n (zero-*ℚ y))
+
+pub *ℚ-/ℚ : (x y : Fraction) → (y ≡ whole (pos 0) → ⊥) → (x *ℚ y) /ℚ y ≡ x
+*ℚ-/ℚ x y n = sym (/ℚ_unique (x *ℚ y) y x n refl)
 
 -- ---- signs
 pub lt_sub : (x y : Fraction) → x <ℚ y → whole (pos 0) <ℚ y -ℚ x
@@ -110,7 +130,16 @@ pub top_of_zero : (x : Fraction) → x ≡ whole (pos 0) → x.top ≡ pos 0
 unfolding over gcd gcd_within
 top_of_zero x e = ap (λ (q : Fraction). q.top) e
 
+pub zero_not_one : whole (pos 0) ≡ whole (pos 1) → ⊥
+zero_not_one e = let k = of_Is (subst (λ (x : Fraction). Is x (pos 0) (pos 1)) e (Is-whole (pos 0))) (Is-whole (pos 1)) in omega (arith, ints)
+
+pub zero_of_product : (m x : Fraction) → m *ℚ x ≡ whole (pos 0) → (m ≡ whole (pos 0) → ⊥) → x ≡ whole (pos 0)
+zero_of_product m x e n = *ℚ_cancel m x (whole (pos 0)) n (e ∙ sym (*ℚ-zero m))
+
 -- ---- opposites
+pub +ℚ-neg : (x : Fraction) → x +ℚ neg_ℚ x ≡ whole (pos 0)
++ℚ-neg x = ringℚ (x ∷ []) (var 0 ⊕ minus (var 0)) (num (pos 0)) refl
+
 pub neg_above : (x : Fraction) → whole (pos 0) <ℚ x → neg_ℚ x <ℚ whole (pos 0)
 neg_above x h = common2 (neg_ℚ x <ℚ whole (pos 0)) x x (λ D d X Y.
     let h' = simp nums at (lt_num D _ _ (search commons) (search commons) h) in

@@ -1,10 +1,11 @@
 -- A fraction: a reduced pair of whole numbers with a denominator of at least 1, of any size.
-use Rattle.std.specs.Prelude.{◌≡◌, ℕ, zero, suc, ◌*◌, ◌/◌, ◌<◌, ℤ, pos, negsuc, ◌+ℤ◌, ◌-ℤ◌, ◌*ℤ◌, ◌<ℤ◌, ◌≤ℤ◌, neg_ℤ, unsigned_abs, int_div}
-use Rattle.std.specs.Ordering.{int_cmp}
+use Rattle.std.specs.Prelude.{◌≡◌, ℕ, zero, suc, ◌*◌, ◌/◌, ◌<◌, Bool, ℤ, pos, negsuc, ◌+ℤ◌, ◌-ℤ◌, ◌*ℤ◌, ◌<ℤ◌, ◌≤ℤ◌, neg_ℤ, unsigned_abs, int_div}
+use Rattle.std.specs.Ordering.{int_cmp, int_eq}
 use Rattle.std.specs.declared.cmp.Ordering.{Ordering}
 use Rattle.plus_fraction.specs.Gcd.{gcd}
 use Rattle.plus_fraction.specs.GcdLemmas.{IsPositive-quotient, IsReduced-quotient, IsPositive-one, IsReduced-one}
 
+-- Equal fractions have equal parts, so `≡` is equality of fractions.
 pub record Fraction : Type 0 where
   pub top : ℤ
   pub bottom : ℕ
@@ -22,9 +23,11 @@ over n (suc k) =
       reduced = IsReduced-quotient n k;
     }
 
+-- n/1
 abbrev pub whole : ℤ → Fraction
 whole n = over n 1
 
+-- ---- arithmetic, by the rules that are taught at school
 infixl 6 ◌+ℚ◌
 unfoldable pub ◌+ℚ◌ : Fraction → Fraction → Fraction
 x +ℚ y = over (x.top *ℤ pos y.bottom +ℤ y.top *ℤ pos x.bottom) (x.bottom * y.bottom)
@@ -45,17 +48,23 @@ abbrev pub sign_of : ℤ → ℤ
 sign_of (pos n) = pos 1
 sign_of (negsuc n) = negsuc 0
 
--- 0 where y is 0
+-- x times the reciprocal of y, whose denominator is brought above 0 by its sign; 0 where y is 0
 infixl 7 ◌/ℚ◌
 unfoldable pub ◌/ℚ◌ : Fraction → Fraction → Fraction
 x /ℚ y = over (x.top *ℤ pos y.bottom *ℤ sign_of y.top) (x.bottom * unsigned_abs y.top)
 
-infix 4 ◌<ℚ◌ ◌≤ℚ◌
+-- ---- order, by cross products (records, so that a hypothesis tells its two sides)
+infix 4 ◌<ℚ◌ ◌≤ℚ◌ ◌==ℚ◌
 pub record ◌<ℚ◌ (x y : Fraction) : Type 0 where
   pub cross : (x.top *ℤ pos y.bottom) <ℤ (y.top *ℤ pos x.bottom)
 
 pub record ◌≤ℚ◌ (x y : Fraction) : Type 0 where
   pub cross : (x.top *ℤ pos y.bottom) ≤ℤ (y.top *ℤ pos x.bottom)
 
+-- the test that tells below, equal and above
 unfoldable pub compared : Fraction → Fraction → Ordering
 compared x y = int_cmp (x.top *ℤ pos y.bottom) (y.top *ℤ pos x.bottom)
+
+-- the test of equality
+unfoldable pub ◌==ℚ◌ : Fraction → Fraction → Bool
+x ==ℚ y = int_eq (x.top *ℤ pos y.bottom) (y.top *ℤ pos x.bottom)

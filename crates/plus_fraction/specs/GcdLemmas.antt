@@ -1,7 +1,8 @@
+-- The greatest common divisor: what it is, and that the parts over it are reduced.
 use Rattle.std.proofs.Common.{◌≡◌, ℕ, zero, suc, ◌*◌, ◌/◌, ◌%◌, ◌-◌, ◌<◌, ◌≤◌, arith, sym, ◌∙◌, ap, ap₂, refl, subst, ℤ, pos, negsuc, neg_ℤ, unsigned_abs, int_div}
 use Prim.Native.Nat.{◌∣◌}
 use Rattle.std.specs.Int.{IsGcd}
-use Rattle.std.proofs.Math.Nat.{mod_def, mul-div-mul_right, dvd-mul_right, div-mul_cancel, mul-sub, mul-one, div_self, mul-div_cancel, pos_of_dvd_of_pos, mul_comm}
+use Rattle.std.proofs.Math.Nat.{mod_def, mul-div-mul_right, dvd-mul_right, div-mul_cancel, mul-sub, mul-one, div_self, mul-div_cancel, pos_of_dvd_of_pos, mul_comm, eq-one_of_dvd-one}
 use Rattle.std.proofs.lemmas.Nat.Gcd.{IsGcd-from_zero, IsGcd-from_mod, same_from_IsGcd}
 use Rattle.plus_fraction.specs.Gcd.{gcd, gcd_within}
 
@@ -78,7 +79,9 @@ IsPositive-quotient n k = div-pos (gcd (unsigned_abs n) (suc k)) (gcd_is (unsign
         of_product zero g e = absurd (omega arith)
         of_product (suc q) g e = omega arith
 
-pub IsReduced-quotient : (n : ℤ) (k : ℕ) → gcd (unsigned_abs (int_div n (pos (gcd (unsigned_abs n) (suc k))))) (suc k / gcd (unsigned_abs n) (suc k)) ≡ 1
+pub IsReduced-quotient :
+    (n : ℤ) (k : ℕ)
+    → gcd (unsigned_abs (int_div n (pos (gcd (unsigned_abs n) (suc k))))) (suc k / gcd (unsigned_abs n) (suc k)) ≡ 1
 IsReduced-quotient n k =
     ap (λ (a : ℕ). gcd a (suc k / gcd (unsigned_abs n) (suc k))) (unsigned_abs-div n (gcd (unsigned_abs n) (suc k)))
     ∙ reduced_of (unsigned_abs n) (suc k) (omega arith)
@@ -95,3 +98,6 @@ gcd-zero a b h = sym (gcd_unique a b a (IsGcd-from_zero a b h))
 
 pub gcd-mod : (a b : ℕ) → gcd b (a % b) ≡ gcd a b
 gcd-mod a b = gcd_unique a b _ (IsGcd-from_mod a b _ (gcd_is b (a % b)))
+
+pub gcd-one : (a : ℕ) → gcd a 1 ≡ 1
+gcd-one a = eq-one_of_dvd-one (gcd_is a 1).1

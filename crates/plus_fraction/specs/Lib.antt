@@ -4,3 +4,6 @@ pub mod Fraction
 pub mod FractionCode
 pub mod Lines
 pub mod JustAfter
+pub mod FieldLaws
+pub mod OrderLaws
+pub mod LineLaws
