@@ -12,8 +12,8 @@ use Rattle.plus_model.specs.Running.{rates, moved, JustAfter, IsQuiet, Stretch, 
 use Rattle.plus_model.specs.Plan.{Called, Instance, UnknownAction as unknown, WrongArguments as wrong, Line, ActLine, Plan}
 use Rattle.plus_model.specs.History.{Part, Enter, Round, Act, Run, View}
 use Rattle.plus_model.specs.Trajectory.{at_until, event_holds, set_ends, next_line, until, IsEndOrNone, ActMayFollow, RunMayFollow, AtMoment, InStretch, EnterMayFollow, NextBy, Next, IsWorked, Prefix, Trajectory, view_of, first_view, first_part}
-use Rattle.plus_model.specs.Breach.{Breach, UnknownAction, WrongArguments, Precondition, Conflict, NoValue, Repeats, Unsettled, Coupled, NoFirstMoment, Goal, IsPresent, IsOpen, IsDue, JointFails, RatesFail, IsUnsettled, IsCoupled, IsMomentless, Stands}
-use Rattle.plus_model.specs.Laws.{GoesOnFrom, BreachIsFinal, GoalIsFinal, BreachIsNoTrajectory}
+use Rattle.plus_model.specs.Breach.{Breach, UnknownAction, WrongArguments, Precondition, Conflict, NoValue, Repeats, Unsettled, Coupled, NoFirstMoment, Goal, IsPresent, IsOpen, IsDue, JointFails, RatesFail, IsUnsettled, IsCoupled, IsMomentless, Stands, Breaks}
+use Rattle.plus_model.specs.Laws.{GoesOnFrom, BreachIsFinal, BreachIsNoTrajectory}
 use Rattle.plus_model.proofs.Steps.{due_holds, one_chosen}
 use Rattle.plus_model.proofs.Later.{same_line, same_until, still_later, later_follow}
 use Rattle.plus_model.proofs.Moments.{not_below, ≤ℚ-<ℚ_trans, sub_above}
@@ -194,9 +194,9 @@ no_trajectory P L L' h h' a g stuck t n =
     ]
 
 pub breach_is_final : BreachIsFinal
-breach_is_final P L h b a br ng L' h' g t =
-    let s = breach_stuck P L L' (view_of P h) b g br.stands ng in
-    no_trajectory P L L' h h' a g s.nothing t (λ e. s.no_end (subst (λ x. IsWorked P L' (view_of P x)) (sym e) t.worked))
+breach_is_final P L h b br ng L' h' g t =
+    let s = breach_stuck P L L' (view_of P h) b g br.breach.stands ng in
+    no_trajectory P L L' h h' br.prefix g s.nothing t (λ e. s.no_end (subst (λ x. IsWorked P L' (view_of P x)) (sym e) t.worked))
 
 pub goes_on_itself : (L : Plan) → GoesOnFrom L L
 goes_on_itself L = record { more = []; lines = nil L.lines }
@@ -205,11 +205,11 @@ goes_on_itself L = record { more = []; lines = nil L.lines }
     nil [] = refl
     nil (x ∷ xs) = ap (λ t. x ∷ t) (nil xs)
 
-pub goal_is_final : GoalIsFinal
-goal_is_final P L h h' a br t =
-    no_trajectory P L L h h' a (goes_on_itself L) (nothing_after P L (view_of P h) br.stands.1) t
-    (λ e. let f = subst (λ x. holds P.goal (view_of P x).state ≡ true) (sym e) t.goal in let k = br.stands.2 in cc (f, k))
+goal_is_final : (P : Problem) (L : Plan) (h h' : List Part) → Breaks P L h Goal → Trajectory P L h' → ⊥
+goal_is_final P L h h' br t =
+    no_trajectory P L L h h' br.prefix (goes_on_itself L) (nothing_after P L (view_of P h) br.breach.stands.1) t
+    (λ e. let f = subst (λ x. holds P.goal (view_of P x).state ≡ true) (sym e) t.goal in let k = br.breach.stands.2 in cc (f, k))
 
 pub breach_is_no_trajectory : BreachIsNoTrajectory
-breach_is_no_trajectory P L h h' Goal a br t = goal_is_final P L h h' a br t
-breach_is_no_trajectory P L h h' b a br t = breach_is_final P L h b a br (λ e. cc e) L h' (goes_on_itself L) t
+breach_is_no_trajectory P L h h' Goal br t = goal_is_final P L h h' br t
+breach_is_no_trajectory P L h h' b br t = breach_is_final P L h b br (λ e. cc e) L h' (goes_on_itself L) t

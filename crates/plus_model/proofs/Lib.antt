@@ -11,9 +11,7 @@ pub mod Truth
 pub mod Alive
 pub mod Search
 pub mod Decide
-pub mod TankRun
 pub mod Searched
 pub mod OneBreach
-pub mod RampRun
 pub mod Longest
 pub mod InTime

@@ -22,7 +22,9 @@ no_after (ActLine u c ∷ []) t line more o = no_after [] t line more o.1
 no_after (ActLine u c ∷ y ∷ ys) t line more o = no_after (y ∷ ys) t line more o.1
 
 pub line_breach_is_final : LineBreachIsFinal
-line_breach_is_final P L h line TimeGoesBack a b L' h' more e t =
+line_breach_is_final P L h line TimeGoesBack k L' h' more e t =
+    let b = k.breach in
     no_back b.0 (ActLine b.1 b.2) line more b.4 (subst IsInOrder (e ∙ ap (λ ls. ls ++ line ∷ more) b.3.lines) t.prefix.ordered)
-line_breach_is_final P L h line AfterEnd a b L' h' more e t =
+line_breach_is_final P L h line AfterEnd k L' h' more e t =
+    let b = k.breach in
     no_after b.0 b.1 line more (subst IsInOrder (e ∙ ap (λ ls. ls ++ line ∷ more) b.2.lines) t.prefix.ordered)

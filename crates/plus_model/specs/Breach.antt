@@ -9,8 +9,8 @@ use Rattle.plus_model.specs.Joint.{Fault, NoValue as no_value, Conflict as confl
 use Rattle.plus_model.specs.Firing.{firing, first_shared, effects_of, is_in}
 use Rattle.plus_model.specs.Running.{JustAfter, RunsAfter, rates, moved, holding, Chosen, Settled, first_coupled, IsQuiet}
 use Rattle.plus_model.specs.Plan.{Called, Instance, UnknownAction as unknown, WrongArguments as wrong, Line, ActLine, EndLine, time_of, Plan}
-use Rattle.plus_model.specs.History.{View}
-use Rattle.plus_model.specs.Trajectory.{next_line, until, HasBegun, IsWorked}
+use Rattle.plus_model.specs.History.{Part, View}
+use Rattle.plus_model.specs.Trajectory.{next_line, until, HasBegun, IsWorked, Prefix, view_of}
 
 -- what is wrong
 pub data Breach : Type 0 where
@@ -126,6 +126,11 @@ pub record IsBreach (P : Problem) (L : Plan) (v : View) (b : Breach) : Type 0 wh
   pub begun : HasBegun L
   pub stands : Stands P L v b
 
+-- the plan breaks at this history by this breach
+pub record Breaks (P : Problem) (L : Plan) (h : List Part) (b : Breach) : Type 0 where
+  pub prefix : Prefix P L h
+  pub breach : IsBreach P L (view_of P h) b
+
 -- a breach of the line that is read next, after lines that are worked
 pub data LineBreach : Type 0 where
   TimeGoesBack AfterEnd : LineBreach
@@ -141,3 +146,8 @@ abbrev pub IsLineBreach : Problem → Plan → View → Line → LineBreach → 
 IsLineBreach P L v line TimeGoesBack =
     (before : List Line) × (t : Fraction) × (call : Called) × IsAfter P L v before (ActLine t call) × (time_of line <ℚ t)
 IsLineBreach P L v line AfterEnd = (before : List Line) × (t : Fraction) × IsAfter P L v before (EndLine t)
+
+-- the lines read break at this history by the line that is read next
+pub record BreaksBy (P : Problem) (L : Plan) (h : List Part) (line : Line) (b : LineBreach) : Type 0 where
+  pub prefix : Prefix P L h
+  pub breach : IsLineBreach P L (view_of P h) line b

@@ -12,7 +12,7 @@ use Rattle.plus_model.specs.Live.{live}
 use Rattle.plus_model.specs.Plan.{Line, Plan, IsInOrder}
 use Rattle.plus_model.specs.History.{Part, View, view_after}
 use Rattle.plus_model.specs.Trajectory.{time_or, until, HasBegun, IsWorked, Next, Prefix, Trajectory, first_part, view_of}
-use Rattle.plus_model.specs.Breach.{Breach, Goal, LineBreach, IsBreach, IsLineBreach}
+use Rattle.plus_model.specs.Breach.{Breach, Goal, LineBreach, IsBreach, Breaks, IsLineBreach, BreaksBy}
 
 -- h is the first parts of h'
 pub record Begins (h h' : List Part) : Type 0 where
@@ -66,8 +66,7 @@ OneLongest = (P : Problem) (L : Plan) (h h' : List Part) → IsLongest P L h →
 
 -- where a breach stands, no prefix is longer
 abbrev pub BreachIsLongest : Type 0
-BreachIsLongest =
-    (P : Problem) (L : Plan) (h : List Part) (b : Breach) → Prefix P L h → IsBreach P L (view_of P h) b → IsLongest P L h
+BreachIsLongest = (P : Problem) (L : Plan) (h : List Part) (b : Breach) → Breaks P L h b → IsLongest P L h
 
 -- where the lines are worked, no prefix is longer
 abbrev pub WorkedIsLongest : Type 0
@@ -81,14 +80,12 @@ UnbegunIsLongest = (P : Problem) (L : Plan) (h : List Part) → Prefix P L h →
 abbrev pub OneBrokenPrefix : Type 0
 OneBrokenPrefix =
     (P : Problem) (L : Plan) (h h' : List Part) (b c : Breach)
-    → Prefix P L h → IsBreach P L (view_of P h) b → Prefix P L h' → IsBreach P L (view_of P h') c
-    → (h ≡ h') × (b ≡ c)
+    → Breaks P L h b → Breaks P L h' c → (h ≡ h') × (b ≡ c)
 
--- a plan that breaks has no trajectory
+-- a plan that breaks has no trajectory, whatever the breach
 abbrev pub BreachIsNoTrajectory : Type 0
 BreachIsNoTrajectory =
-    (P : Problem) (L : Plan) (h h' : List Part) (b : Breach)
-    → Prefix P L h → IsBreach P L (view_of P h) b → Trajectory P L h' → ⊥
+    (P : Problem) (L : Plan) (h h' : List Part) (b : Breach) → Breaks P L h b → Trajectory P L h' → ⊥
 
 -- a prefix with this property, none of whose proper first parts has it
 pub record StopsFirst (Stop : List Part → Type 0) (P : Problem) (L : Plan) (h : List Part) : Type 0 where
@@ -132,24 +129,16 @@ UntilIsAhead =
     (P : Problem) (L : Plan) (h : List Part)
     → BeginsInTime L → Prefix P L h → (view_of P h).time ≤ℚ until P L (view_of P h)
 
--- a breach but Goal is final, whatever lines come later
+-- a breach but Goal is final whatever lines follow: no plan whose lines begin with these has a trajectory
 abbrev pub BreachIsFinal : Type 0
 BreachIsFinal =
-    (P : Problem) (L : Plan) (h : List Part) (b : Breach)
-    → Prefix P L h → IsBreach P L (view_of P h) b → b ≢ Goal
+    (P : Problem) (L : Plan) (h : List Part) (b : Breach) → Breaks P L h b → b ≢ Goal
     → (L' : Plan) (h' : List Part) → GoesOnFrom L L' → Trajectory P L' h' → ⊥
-
--- where the goal fails at the end, the plan has no trajectory
-abbrev pub GoalIsFinal : Type 0
-GoalIsFinal =
-    (P : Problem) (L : Plan) (h h' : List Part)
-    → Prefix P L h → IsBreach P L (view_of P h) Goal → Trajectory P L h' → ⊥
 
 -- where the next line has such a breach, no plan that has it there has a trajectory
 abbrev pub LineBreachIsFinal : Type 0
 LineBreachIsFinal =
-    (P : Problem) (L : Plan) (h : List Part) (line : Line) (b : LineBreach)
-    → Prefix P L h → IsLineBreach P L (view_of P h) line b
+    (P : Problem) (L : Plan) (h : List Part) (line : Line) (b : LineBreach) → BreaksBy P L h line b
     → (L' : Plan) (h' : List Part) (more : List Line)
     → L'.lines ≡ L.lines ++ line ∷ more → Trajectory P L' h' → ⊥
 

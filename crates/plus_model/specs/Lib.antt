@@ -10,6 +10,4 @@ pub mod Breach
 pub mod Laws
 pub mod Piece
 pub mod Live
-pub mod Tank
 pub mod Codes
-pub mod Ramp

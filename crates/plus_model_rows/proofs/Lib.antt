@@ -1,0 +1,3 @@
+pub mod TermRows
+pub mod Runs
+pub mod SideRow
