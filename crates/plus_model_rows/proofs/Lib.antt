@@ -1,3 +1,4 @@
 pub mod TermRows
+pub mod TimeRows
 pub mod Runs
 pub mod SideRow

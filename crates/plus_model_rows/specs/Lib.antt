@@ -1,3 +1,4 @@
 pub mod Values
 pub mod Effects
+pub mod Times
 pub mod Rises

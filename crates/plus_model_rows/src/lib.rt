@@ -4,3 +4,4 @@
 
 pub mod histories;
 pub mod terms;
+pub mod times;
