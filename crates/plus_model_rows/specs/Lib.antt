@@ -2,3 +2,4 @@ pub mod Values
 pub mod Effects
 pub mod Times
 pub mod Rises
+pub mod Tank

@@ -1,8 +1,31 @@
-//! Whole plans that are valid: each row's history is a trajectory.
+//! Plans that are valid: each row's history is a trajectory, and by the laws the only one.
 ghost use Rattle.plus_model.specs.Trajectory.{Trajectory};
+ghost use Rattle.plus_model_rows.specs.Tank.{tank, tank_plan, tank_history};
+ghost use Rattle.plus_model_rows.specs.Tank.{timed_tank, timed_plan, timed_history};
 ghost use Rattle.plus_model_rows.specs.Rises.{to_eight, side_world, side_history};
+ghost use Rattle.plus_model_rows.specs.Rises.{stick_world, stick_history, note_plan, note_history};
+
+/// A tank is opened, fills, and closes by an event at 7/2.
+pub fn tank_row()
+    ensures { Trajectory tank tank_plan tank_history }
+{}
+
+/// A timed literal closes it at the moment when it is full, and the event does not fire.
+pub fn timed_row()
+    ensures { Trajectory timed_tank timed_plan timed_history }
+{}
 
 /// A process stops by itself at 5, and a moment stands there.
 pub fn side_row()
     ensures { Trajectory side_world to_eight side_history }
+{}
+
+/// A process holds at one value of x alone, which x crosses: nothing happens.
+pub fn stick_row()
+    ensures { Trajectory stick_world to_eight stick_history }
+{}
+
+/// But an action at that moment makes both processes run on.
+pub fn note_row()
+    ensures { Trajectory stick_world note_plan note_history }
 {}

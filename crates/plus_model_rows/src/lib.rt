@@ -2,6 +2,7 @@
 //! They show that the definitions say what they are meant to say, clause by clause.
 #![tactic(auto)]
 
+pub mod breaches;
 pub mod histories;
 pub mod terms;
 pub mod times;
