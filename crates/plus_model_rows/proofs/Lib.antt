@@ -6,3 +6,5 @@ pub mod UpRows
 pub mod GrowRow
 pub mod StickRow
 pub mod TankRow
+pub mod DoorRow
+pub mod MixedRow

@@ -3,3 +3,5 @@ pub mod Effects
 pub mod Times
 pub mod Rises
 pub mod Tank
+pub mod Door
+pub mod Mixed

@@ -2,7 +2,15 @@
 ghost use Rattle.std.specs.Prelude.{[], ◌∷◌, pos};
 ghost use Rattle.plus_fraction.specs.Fraction.{whole};
 ghost use Rattle.plus_model.specs.Breach.{Breaks, NoFirstMoment, Repeats, Conflict};
-ghost use Rattle.plus_model.specs.Breach.{Unsettled, Coupled, NoValue};
+ghost use Rattle.plus_model.specs.Breach.{Unsettled, Coupled, NoValue, Precondition, Goal};
+ghost use Rattle.plus_model.specs.Breach.{UnknownAction, WrongArguments};
+ghost use Rattle.plus_model.specs.Breach.{BreaksBy, TimeGoesBack, AfterEnd};
+ghost use Rattle.plus_model_rows.specs.Door.{door, shut, end_at, empty_plan, start_history};
+ghost use Rattle.plus_model_rows.specs.Door.{locked_plan, locked_history};
+ghost use Rattle.plus_model_rows.specs.Door.{closed_plan, closed_history};
+ghost use Rattle.plus_model_rows.specs.Door.{unknown_plan, wrong_plan, lines_to_one};
+ghost use Rattle.plus_model_rows.specs.Door.{ended_at_one, ended_history};
+ghost use Rattle.plus_model_rows.specs.Mixed.{missing, copy_plan, missing_history};
 ghost use Rattle.plus_model_rows.specs.Rises.{to_eight, values, enter, over_world, over_history};
 ghost use Rattle.plus_model_rows.specs.Rises.{again_world, again_history, clash_world, clash_history};
 ghost use Rattle.plus_model_rows.specs.Rises.{grow_world, grow_history, coupled_world, lacking_world};
@@ -35,4 +43,44 @@ pub fn coupled_row()
 /// A rate on a fluent without value.
 pub fn lacking_row()
     ensures { Breaks lacking_world to_eight (enter 0 lacking_world.initial ∷ []) (NoValue 1) }
+{}
+
+/// An effect reads a fluent without value.
+pub fn copy_row()
+    ensures { Breaks missing copy_plan missing_history (NoValue 1) }
+{}
+
+/// The door is opened while it is locked.
+pub fn locked_row()
+    ensures { Breaks door locked_plan locked_history (Precondition 0) }
+{}
+
+/// The door is left closed.
+pub fn closed_row()
+    ensures { Breaks door closed_plan closed_history Goal }
+{}
+
+/// Nothing is done.
+pub fn empty_row()
+    ensures { Breaks door empty_plan start_history Goal }
+{}
+
+/// No action has this name.
+pub fn unknown_row()
+    ensures { Breaks door unknown_plan start_history (UnknownAction 0 shut) }
+{}
+
+/// An argument is wrong.
+pub fn wrong_row()
+    ensures { Breaks door wrong_plan start_history (WrongArguments 0 shut) }
+{}
+
+/// A line has a time below that of the line before.
+pub fn back_row()
+    ensures { BreaksBy door lines_to_one closed_history (end_at 0) TimeGoesBack }
+{}
+
+/// A line stands after the end; that its time goes back as well is not what is named.
+pub fn after_row()
+    ensures { BreaksBy door ended_at_one ended_history (end_at 0) AfterEnd }
 {}

@@ -1,5 +1,8 @@
 //! Plans that are valid: each row's history is a trajectory, and by the laws the only one.
 ghost use Rattle.plus_model.specs.Trajectory.{Trajectory};
+ghost use Rattle.plus_model_rows.specs.Door.{door, door_plan, door_history};
+ghost use Rattle.plus_model_rows.specs.Mixed.{mixed, mixed_plan, mixed_history};
+ghost use Rattle.plus_model_rows.specs.Mixed.{missing, missing_plan, missing_history};
 ghost use Rattle.plus_model_rows.specs.Tank.{tank, tank_plan, tank_history};
 ghost use Rattle.plus_model_rows.specs.Tank.{timed_tank, timed_plan, timed_history};
 ghost use Rattle.plus_model_rows.specs.Rises.{to_eight, side_world, side_history};
@@ -28,4 +31,19 @@ pub fn stick_row()
 /// But an action at that moment makes both processes run on.
 pub fn note_row()
     ensures { Trajectory stick_world note_plan note_history }
+{}
+
+/// A door is unlocked and opened.
+pub fn door_row()
+    ensures { Trajectory door door_plan door_history }
+{}
+
+/// Two numeric effects of one action read the state before it.
+pub fn mixed_row()
+    ensures { Trajectory mixed mixed_plan mixed_history }
+{}
+
+/// The empty plan, where the goal negates a comparison whose side has no value.
+pub fn missing_row()
+    ensures { Trajectory missing missing_plan missing_history }
 {}
