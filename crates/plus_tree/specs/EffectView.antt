@@ -1,0 +1,16 @@
+-- What a contract sees of an `EffectTree`.
+use Rattle.std.specs.Prelude.{◌+◌, ◌≤◌, List, [], ◌∷◌}
+use Rattle.std.proofs.Common.{arith}
+use denote.Param.Weighed.{most}
+use Rattle.plus_tree.specs.declared.names.Span.{Span}
+use Rattle.plus_tree.specs.declared.trees.EffectNode.{EffectNode}
+use Rattle.plus_tree.specs.declared.trees.EffectNode.TheVariants.{All, Leaf}
+use Rattle.plus_tree.specs.Effect.{Effect, e_all, e_leaf, effects_of, effect_size, effects_size}
+
+abbrev pub effect_view : EffectNode → Span → Effect
+effect_view (All es) s = e_all (effects_of es.items) s
+effect_view (Leaf l) s = e_leaf l s
+
+pub most_le : (es : List Effect) → most (λ e. effect_size e + 1) es ≤ effects_size (effects_of es)
+most_le [] = omega arith
+most_le (e ∷ es) = omega (arith, most_le es)

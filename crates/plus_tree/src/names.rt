@@ -1,0 +1,71 @@
+//! Names, and where they stand.
+
+ghost use Rattle.std.specs.Prelude.{◌≡◌, IfOk, map};
+ghost use Rattle.plus_tree.specs.Lowered.{lowered};
+
+use std::alloc::{AllocError, Global};
+use std::default::MadeWith;
+use std::marker::Model;
+
+/// A place in a text: from the byte at `start` up to the byte before `end`, counted from 0.
+#[derive(Clone, Copy, Debug, PartialEq, Eq)]
+pub struct Span {
+    pub start: usize,
+    pub end: usize,
+}
+
+/// A name in small letters. Contracts see it as the list of its bytes.
+#[derive(Debug, Drop)]
+pub struct Name {
+    bytes: Vec<u8>,
+}
+
+impl Model for Name {
+    ghost use Rattle.std.specs.Prelude.{List, ℕ};
+
+    ghost Value = { List ℕ };
+
+    ghost view = { λ a. a.bytes.items };
+}
+
+// What an empty place of a list of names holds.
+impl MadeWith<Global> for Name {
+    fn made_with(alloc: Global) -> Name {
+        Name {
+            bytes: Vec::new(alloc),
+        }
+    }
+}
+
+impl Name {
+    /// The name of these bytes. PDDL tells no case apart, so names are kept in small letters.
+    pub fn new(alloc: Global, bytes: &[u8]) -> Result<Name, AllocError>
+        ensures { IfOk result (λ name. name ≡ bytes.now) }
+    {
+        Ok(Name {
+            bytes: Vec::from_slice(alloc, bytes)?,
+        })
+    }
+
+    /// The name that a word of a text spells: its bytes in small letters.
+    pub fn of_word(alloc: Global, word: &[u8]) -> Result<Name, AllocError>
+        ensures { IfOk result (λ name. name ≡ lowered word.now) }
+    {
+        let lower: Vec<u8> = word.iter().map(|b| b.to_ascii_lowercase()).collect(alloc)?;
+        Ok(Name { bytes: lower })
+    }
+
+    /// The bytes of the name.
+    pub fn bytes(&self) -> &[u8]
+        ensures { result.now ≡ self.now }
+    {
+        &self.bytes
+    }
+}
+
+/// A name where it stands in a text.
+#[derive(Debug, Drop)]
+pub struct Spelled {
+    pub name: Name,
+    pub span: Span,
+}
