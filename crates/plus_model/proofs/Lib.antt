@@ -15,3 +15,4 @@ pub mod Searched
 pub mod OneBreach
 pub mod Longest
 pub mod InTime
+pub mod Reading

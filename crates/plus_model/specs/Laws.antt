@@ -2,16 +2,16 @@
 -- First: what happens is determined. Of two prefixes of one plan one begins the other, a plan has at most one trajectory,
 -- and at most one breach. Second: what a reader of a plan's first lines may rely on. A prefix stays one whatever lines
 -- follow, a breach is final, and time never passes the next line. Third: what a search for the next moment may rely on.
-use Rattle.std.specs.Prelude.{◌≡◌, ◌≢◌, ◌⊎◌, ◌↔◌, Bool, true, List, [], ◌∷◌, ◌++◌, slice_get, pos}
+use Rattle.std.specs.Prelude.{◌≡◌, ◌≢◌, ◌⊎◌, ◌↔◌, Bool, true, List, [], ◌∷◌, ◌++◌, Some, None, slice_get, pos}
 use Rattle.plus_fraction.specs.Fraction.{Fraction, whole, ◌<ℚ◌, ◌≤ℚ◌}
 use Rattle.plus_model.specs.Terms.{Condition, State, Problem}
 use Rattle.plus_model.specs.Value.{holds}
 use Rattle.plus_model.specs.Running.{moved, JustAfter}
 use Rattle.plus_model.specs.Piece.{after, IsStraight, NoRoot}
 use Rattle.plus_model.specs.Live.{live}
-use Rattle.plus_model.specs.Plan.{Line, Plan, IsInOrder}
+use Rattle.plus_model.specs.Plan.{Called, Line, ActLine, time_of, Plan, IsInOrder}
 use Rattle.plus_model.specs.History.{Part, View, view_after}
-use Rattle.plus_model.specs.Trajectory.{time_or, until, HasBegun, IsWorked, Next, Prefix, Trajectory, first_part, view_of}
+use Rattle.plus_model.specs.Trajectory.{next_line, time_or, until, HasBegun, IsWorked, Next, Prefix, Trajectory, first_part, view_of}
 use Rattle.plus_model.specs.Breach.{Breach, Goal, LineBreach, IsBreach, Breaks, IsLineBreach, BreaksBy}
 
 -- h is the first parts of h'
@@ -116,6 +116,20 @@ abbrev pub PrefixGrows : Type 0
 PrefixGrows =
     (P : Problem) (L : Plan) (h : List Part) (part : Part) → HasBegun L → Prefix P L h → Next P L (view_of P h) part
     → Prefix P L (h ++ part ∷ []) × (view_of P (h ++ part ∷ []) ≡ view_after (view_of P h) part)
+
+-- a line whose time is not below that of the last, which is no end, may follow lines in order
+abbrev pub OrderGrows : Type 0
+OrderGrows =
+    (before : List Line) (t : Fraction) (call : Called) (line : Line)
+    → IsInOrder (before ++ ActLine t call ∷ []) → t ≤ℚ time_of line
+    → IsInOrder ((before ++ ActLine t call ∷ []) ++ line ∷ [])
+
+-- where all lines read are acted, the line that is read next is the next to act
+abbrev pub NextIsRead : Type 0
+NextIsRead =
+    (P : Problem) (L L' : Plan) (h : List Part) (line : Line) (more : List Line)
+    → Prefix P L h → next_line L (view_of P h) ≡ None → L'.lines ≡ L.lines ++ line ∷ more
+    → next_line L' (view_of P h) ≡ Some line
 
 -- a prefix is one for every plan in order whose lines begin with those read, and for the same lines at the text's end
 abbrev pub PrefixGoesOn : Type 0

@@ -1,4 +1,7 @@
 -- Values that move along a line, and the test of values and slopes just after a state.
+-- None of this is part of what a plan means. It is how the meaning can be computed: with constant rates each expression
+-- that is linear has a value and a slope, and a condition keeps its truth between two roots of its comparisons. The laws
+-- `AfterTells` and `OneTruthBetween` say that this computes what the definitions say.
 use Rattle.std.specs.Prelude.{◌≡◌, ℕ, Bool, true, false, List, Option, Some, None, ◌&&◌, ◌||◌, slice_get, unwrap_or, pos, if◌then◌else◌}
 use Rattle.std.specs.declared.cmp.Ordering.{Ordering}
 use Rattle.std.specs.declared.cmp.Ordering.TheVariants.{Less, Equal, Greater}
@@ -11,6 +14,7 @@ pub data Piece : Type 0 where
   Missing Crooked : Piece
   Straight : Fraction → Fraction → Piece
 
+-- an operation on two values that move along lines
 abbrev pub on_pieces : (Fraction → Fraction → Fraction → Fraction → Piece) → Piece → Piece → Piece
 on_pieces op Missing q = Missing
 on_pieces op Crooked q = Crooked
@@ -18,9 +22,11 @@ on_pieces op (Straight v m) Missing = Missing
 on_pieces op (Straight v m) Crooked = Crooked
 on_pieces op (Straight v m) (Straight w n) = op v m w n
 
+-- the rate of a fluent
 abbrev pub rate_of : List Fraction → ℕ → Fraction
 rate_of rs f = unwrap_or (slice_get rs f) (whole (pos 0))
 
+-- a fluent that has a value moves at its rate
 abbrev pub straight_fluent : Option Fraction → Fraction → Piece
 straight_fluent None m = Missing
 straight_fluent (Some v) m = Straight v m
@@ -48,6 +54,7 @@ then_slopes Less o = Less
 then_slopes Equal o = o
 then_slopes Greater o = Greater
 
+-- whether a comparison of these sides holds just after
 abbrev pub after_sides : Test → Piece → Piece → Bool
 after_sides test Missing q = false
 after_sides test Crooked q = false
@@ -72,6 +79,7 @@ StraightSides (Straight v m) Missing = Unit {0}
 StraightSides (Straight v m) Crooked = ⊥
 StraightSides (Straight v m) (Straight w n) = Unit {0}
 
+-- every comparison has two such sides
 abbrev pub IsStraight : Condition → State → List Fraction → Type 0
 IsStraight Always s rs = Unit {0}
 IsStraight Never s rs = Unit {0}

@@ -11,7 +11,7 @@ use Rattle.plus_model.specs.Running.{rates, moved, first_coupled}
 use Rattle.plus_model.specs.Trajectory.{until, set_ends, literals, first_view, RunMayFollow, EnterMayFollow}
 use Rattle.plus_model.specs.Breach.{Unsettled, Coupled, NoValue, Breaks, Stands}
 use Rattle.plus_model.proofs.Decide.{goes_on_only}
-use Rattle.plus_model_rows.specs.Rises.{n, values, stretch, moment, enter, to_eight, grow_world, grow_history, coupled_world, lacking_world}
+use Rattle.plus_model_rows.specs.Rises.{n, values, stretch, moment, enter, to_eight, grow_world, grow_history, coupled_world, lacking_world, starting_world}
 use Rattle.plus_model_rows.proofs.Runs.{settles, all_straight, goes, no_change, begins, enters, not_before}
 
 abbrev x_up : List Fraction
@@ -101,6 +101,28 @@ lacking_row = record {
     stands = inr (record {
       «open» = record { present = record { moment = refl; still = refl }; later = record { cross = omega (arith, ints) } };
       fail = inl refl;
+    });
+  };
+}
+
+-- process 1 does not hold at 0, and it holds just after
+pub starting_row : Breaks starting_world to_eight (enter 0 starting_world.initial ∷ []) (NoValue 1)
+unfolding firing literals rates over gcd gcd_within compared ◌+ℚ◌
+starting_row = record {
+  prefix = record { ordered = tt; rest = []; begins = refl; follow = tt };
+  breach = record {
+    begun = inr refl;
+    stands = inr (record {
+      «open» = record { present = record { moment = refl; still = refl }; later = record { cross = omega (arith, ints) } };
+      fail = inr (
+        0 ∷ 1 ∷ [],
+        record {
+          first = x_up;
+          first_is = ap (λ x. Ok (x ∷ n 0 ∷ [])) (same_cross _ _ refl);
+          chosen = goes starting_world starting_world.initial x_up (0 ∷ 1 ∷ []) (tt, (tt, tt)) refl;
+        },
+        refl,
+      );
     });
   };
 }

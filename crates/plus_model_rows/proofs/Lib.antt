@@ -8,3 +8,4 @@ pub mod StickRow
 pub mod TankRow
 pub mod DoorRow
 pub mod MixedRow
+pub mod AfterRow

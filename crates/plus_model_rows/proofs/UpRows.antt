@@ -11,9 +11,11 @@ use Rattle.plus_model.specs.Firing.{firing, first_shared, effects_of, IsRound}
 use Rattle.plus_model.specs.Running.{rates, moved, first_coupled, IsQuiet}
 use Rattle.plus_model.specs.Trajectory.{until, event_holds, literals, first_view, RunMayFollow, EnterMayFollow}
 use Rattle.plus_model.specs.Breach.{NoFirstMoment, Repeats, Conflict, Breaks, Stands, HoldsAfter, IsFirst}
+use Rattle.plus_fraction.proofs.FractionOrder.{<ℚ_irrefl, <ℚ_trans}
+use Rattle.plus_model.proofs.Moments.{≤ℚ_refl}
 use Rattle.plus_model.proofs.Searched.{NoChange, SearchedTo, stretch_to, momentless_by}
 use Rattle.plus_model.proofs.Truth.{TruthAfter, after_is, to_just_after}
-use Rattle.plus_model_rows.specs.Rises.{n, values, up, world, if_x, stretch, to_eight, over_world, over_history, again_world, again_history, clash_world, clash_history}
+use Rattle.plus_model_rows.specs.Rises.{n, values, up, world, if_x, stretch, to_eight, over_world, over_history, again_world, again_history, clash_world, clash_history, at_once_world}
 use Rattle.plus_model_rows.proofs.Runs.{StraightEvents, RootlessEvents, events_after, settles, goes, no_change, begins, enters, not_before}
 
 abbrev pub one_up : List Fraction
@@ -153,4 +155,45 @@ unfolding literals
 over_row = record {
   prefix = record { ordered = tt; rest = _; begins = refl; follow = (inr refl, run_over, tt) };
   breach = record { begun = inr refl; stands = stands_over };
+}
+
+-- ---- the same at the beginning of a stretch
+run_at_once : RunMayFollow at_once_world (until at_once_world to_eight (first_view at_once_world)) (first_view at_once_world) (0 ∷ [])
+unfolding firing over gcd gcd_within compared
+run_at_once = up_run at_once_world.events refl
+
+rates_at_once : rates at_once_world (values 0 0) (0 ∷ []) ≡ Ok one_up
+unfolding rates over gcd gcd_within ◌+ℚ◌
+rates_at_once = ap (λ x. Ok (x ∷ n 0 ∷ [])) (same_cross _ _ refl)
+
+no_time : n 0 -ℚ n 0 ≡ n 0
+unfolding over gcd gcd_within ◌-ℚ◌
+no_time = same_cross _ _ refl
+
+at_zero : moved (values 0 0) one_up (n 0 -ℚ n 0) ≡ values 0 0
+unfolding moved over gcd gcd_within ◌+ℚ◌ ◌-ℚ◌ ◌*ℚ◌
+at_zero = ap₂ valued (same_cross _ _ refl) (same_cross _ _ refl)
+
+above_zero : TruthAfter (values 0 0) one_up (if_x Above 0) true
+unfolding over gcd gcd_within compared
+above_zero = after_is (if_x Above 0) (values 0 0) one_up tt
+
+first_at_once : IsFirst (HoldsAfter at_once_world (values 0 0) one_up) 0
+first_at_once = record { has = to_just_after (values 0 0) one_up (if_x Above 0) above_zero; none_before = λ j h. absurd (omega arith) }
+
+zero_before_eight : n 0 <ℚ until at_once_world to_eight (stretch 0 (values 0 0) (0 ∷ []) 0)
+unfolding over gcd gcd_within
+zero_before_eight = record { cross = omega (arith, ints) }
+
+stands_at_once : Stands at_once_world to_eight (stretch 0 (values 0 0) (0 ∷ []) 0) (NoFirstMoment 0 (n 0))
+stands_at_once = momentless_by at_once_world to_eight (stretch 0 (values 0 0) (0 ∷ []) 0) (0 ∷ []) one_up (n 0) 0 refl rates_at_once (≤ℚ_refl (n 0)) zero_before_eight
+    (λ x p q. absurd (<ℚ_irrefl (n 0) (<ℚ_trans (n 0) x (n 0) p (subst (λ z. x <ℚ z) no_time q))))
+    (λ p. absurd (<ℚ_irrefl (n 0) (subst (λ z. n 0 <ℚ z) no_time p)))
+    (subst (λ s. IsFirst (HoldsAfter at_once_world s one_up) 0) (sym at_zero) first_at_once)
+
+pub at_once_row : Breaks at_once_world to_eight over_history (NoFirstMoment 0 (n 0))
+unfolding literals
+at_once_row = record {
+  prefix = record { ordered = tt; rest = _; begins = refl; follow = (inr refl, run_at_once, tt) };
+  breach = record { begun = inr refl; stands = stands_at_once };
 }

@@ -1,8 +1,9 @@
 -- Worked rows over two fluents x and y, whose values are 0 at first: time that passes, and what ends a stretch.
 -- `up` is a process without condition that raises x by 1. Plans end at 8.
-use Rattle.std.specs.Prelude.{ℕ, Bool, true, false, List, [], ◌∷◌, Some, None, pos}
+use Rattle.std.specs.Prelude.{ℕ, Bool, true, false, List, [], ◌∷◌, Some, None, pos, negsuc}
 use Rattle.plus_fraction.specs.Fraction.{Fraction, whole}
-use Rattle.plus_model.specs.Terms.{Expression, Number, Fluent, Test, AtMost, Same, AtLeast, Above, Condition, Always, Compare, Write, Assign, Increase, Action, Event, Process, State, Problem}
+use Rattle.plus_model.specs.Terms.{Expression, Number, Fluent, Sum, Test, Below, AtMost, Same, AtLeast, Above, Condition, Always, Compare, Write, Assign, Increase, Action, Event, Process, State, Problem}
+use Rattle.plus_model.specs.Running.{JustAfter}
 use Rattle.plus_model.specs.Plan.{Instance, ActLine, EndLine, Plan}
 use Rattle.plus_model.specs.History.{Part, Enter, Round, Act, Run, View}
 
@@ -120,3 +121,46 @@ coupled_world = world (moves Always 0 true (Fluent 1) ∷ moves Always 1 true (N
 -- a rate on y, which has no value
 abbrev pub lacking_world : Problem
 lacking_world = world_of (record { atoms = []; fluents = Some (n 0) ∷ None ∷ [] }) (moves Always 1 true (Number (n 1)) ∷ []) []
+
+-- a process that starts just after 0, with a rate on y, which has no value
+abbrev pub starting_world : Problem
+starting_world = world_of lacking_world.initial (up ∷ moves (if_x Above 0) 1 true (Number (n 1)) ∷ []) []
+
+-- an event that holds at every moment after 0, and not at 0
+abbrev pub at_once_world : Problem
+at_once_world = world (up ∷ []) (fires (if_x Above 0) (Assign 0 (Number (n 0))) ∷ [])
+
+abbrev pub rises : List Fraction
+rises = n 1 ∷ n 0 ∷ []
+
+abbrev pub falls : List Fraction
+falls = whole (negsuc 0) ∷ n 0 ∷ []
+
+abbrev pub rests : List Fraction
+rests = n 0 ∷ n 0 ∷ []
+
+-- this holds just after x = 5
+abbrev pub SoonAfter : List Fraction → Condition → Type 0
+SoonAfter rs c = JustAfter (values 5 0) rs c
+
+-- which comparisons hold just after x = 5, where x rises, falls and rests
+pub record AfterRows : Type 0 where
+  pub rising_above : SoonAfter rises (if_x Above 5)
+  pub rising_at_least : SoonAfter rises (if_x AtLeast 5)
+  pub rising_same : SoonAfter rises (if_x Same 5) → ⊥
+  pub rising_at_most : SoonAfter rises (if_x AtMost 5) → ⊥
+  pub rising_below : SoonAfter rises (if_x Below 5) → ⊥
+  pub falling_above : SoonAfter falls (if_x Above 5) → ⊥
+  pub falling_at_least : SoonAfter falls (if_x AtLeast 5) → ⊥
+  pub falling_same : SoonAfter falls (if_x Same 5) → ⊥
+  pub falling_at_most : SoonAfter falls (if_x AtMost 5)
+  pub falling_below : SoonAfter falls (if_x Below 5)
+  pub resting_above : SoonAfter rests (if_x Above 5) → ⊥
+  pub resting_at_least : SoonAfter rests (if_x AtLeast 5)
+  pub resting_same : SoonAfter rests (if_x Same 5)
+  pub resting_at_most : SoonAfter rests (if_x AtMost 5)
+  pub resting_below : SoonAfter rests (if_x Below 5) → ⊥
+  pub rising_not_same : SoonAfter rises (Compare Same (Fluent 0) (Number (n 5)) false)
+  pub not_yet : SoonAfter rises (if_x AtLeast 6) → ⊥
+  pub still : SoonAfter rises (if_x Below 6)
+  pub sides : SoonAfter rises (Compare Below (Fluent 0) (Sum (Fluent 0) (Number (n 1))) true)

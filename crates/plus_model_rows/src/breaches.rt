@@ -13,6 +13,7 @@ ghost use Rattle.plus_model_rows.specs.Door.{ended_at_one, ended_history};
 ghost use Rattle.plus_model_rows.specs.Mixed.{missing, copy_plan, missing_history};
 ghost use Rattle.plus_model_rows.specs.Rises.{to_eight, values, enter, over_world, over_history};
 ghost use Rattle.plus_model_rows.specs.Rises.{again_world, again_history, clash_world, clash_history};
+ghost use Rattle.plus_model_rows.specs.Rises.{at_once_world, starting_world};
 ghost use Rattle.plus_model_rows.specs.Rises.{grow_world, grow_history, coupled_world, lacking_world};
 
 /// An event holds at every moment after 5, and not at 5.
@@ -83,4 +84,14 @@ pub fn back_row()
 /// A line stands after the end; that its time goes back as well is not what is named.
 pub fn after_row()
     ensures { BreaksBy door ended_at_one ended_history (end_at 0) AfterEnd }
+{}
+
+/// An event holds at every moment after the beginning of a stretch, and not at it.
+pub fn at_once_row()
+    ensures { Breaks at_once_world to_eight over_history (NoFirstMoment 0 (whole (pos 0))) }
+{}
+
+/// A process that starts just after the moment has a rate on a fluent without value.
+pub fn starting_row()
+    ensures { Breaks starting_world to_eight (enter 0 starting_world.initial ∷ []) (NoValue 1) }
 {}

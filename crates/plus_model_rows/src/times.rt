@@ -1,4 +1,5 @@
 //! Rates, moved states, rounds of events, literals, and how far time may pass.
+ghost use Rattle.plus_model_rows.specs.Rises.{AfterRows};
 ghost use Rattle.plus_model_rows.specs.Times.{RateRows, RoundRows, TimeRows};
 
 /// Which processes hold, what their rates add up to, and what a rate reads.
@@ -14,4 +15,9 @@ pub fn round_rows()
 /// What literals do, how far time may pass, and which lines are in order.
 pub fn time_rows()
     ensures { TimeRows }
+{}
+
+/// Which comparisons hold just after a state, where a value rises, falls and rests.
+pub fn after_rows()
+    ensures { AfterRows }
 {}
