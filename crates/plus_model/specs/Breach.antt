@@ -1,6 +1,7 @@
--- The breaches: why a plan has no trajectory. A breach stands at the end of the one longest prefix, and names what is
--- wrong there. At one view one breach stands at most, and where it stands no later line can mend the plan.
--- Nothing is said before the plan has begun: while no line is read and the text is not at its end, no breach stands.
+-- The breaches: why a plan has no trajectory. A breach stands at the end of the one longest prefix,
+-- and names what is wrong there. At one view one breach stands at most, and where it stands no
+-- later line can mend the plan. Nothing is said before the plan has begun: while no line is read
+-- and the text is not at its end, no breach stands.
 use Rattle.std.specs.Prelude.{◌≡◌, ◌≢◌, ◌⊎◌, ◌↔◌, ℕ, ◌<◌, ◌++◌, true, false, List, [], ◌∷◌, Some, None, IsSomeAnd, Ok, Err, slice_get}
 use Rattle.plus_fraction.specs.Fraction.{Fraction, ◌-ℚ◌, ◌<ℚ◌, ◌≤ℚ◌}
 use Rattle.plus_model.specs.Terms.{Action, Effect, State, Problem}
@@ -63,7 +64,8 @@ pub record JointFails (P : Problem) (L : Plan) (v : View) (why : Fault) : Type 0
   pub due : RoundDue P v effects ⊎ ActsDue P L v effects
   pub fails : joint effects v.state ≡ Err why
 
--- the rates of the processes that hold, or of those that they choose, are none because of this fluent
+-- the rates of the processes that hold, or of those that they choose, are none because of this
+-- fluent
 pub record RatesFail (P : Problem) (u : Fraction) (v : View) (f : ℕ) : Type 0 where
   pub «open» : IsOpen P u v
   pub fail :
@@ -83,7 +85,8 @@ pub record IsUnsettled (P : Problem) (u : Fraction) (v : View) (p : ℕ) : Type 
   pub own_is : rates P v.state running ≡ Ok own
   pub first : IsFirst (Differs P v.state running own) p
 
--- the running set is settled, and p is its first process with a rate that reads a moving fluent, f the first such fluent
+-- the running set is settled, and p is its first process with a rate that reads a moving fluent, f
+-- the first such fluent
 pub record IsCoupled (P : Problem) (u : Fraction) (v : View) (p f : ℕ) : Type 0 where
   pub «open» : IsOpen P u v
   pub running : List ℕ
@@ -95,8 +98,9 @@ pub record IsCoupled (P : Problem) (u : Fraction) (v : View) (p f : ℕ) : Type 
 abbrev pub HoldsAfter : Problem → State → List Fraction → ℕ → Type 0
 HoldsAfter P s rs e = IsSomeAnd (slice_get P.events e) (λ ev. JustAfter s rs ev.condition)
 
--- in the stretch nothing begins up to and with t, and e is the first event that holds just after t: only a strict
--- comparison, or the negation of one that is not strict, makes an event without a first moment
+-- in the stretch nothing begins up to and with t, and e is the first event that holds just after t:
+-- only a strict comparison, or the negation of one that is not strict, makes an event without a
+-- first moment
 pub record IsMomentless (P : Problem) (u : Fraction) (v : View) (e : ℕ) (t : Fraction) : Type 0 where
   pub running : List ℕ
   pub runs : v.running ≡ Some running
@@ -104,7 +108,8 @@ pub record IsMomentless (P : Problem) (u : Fraction) (v : View) (e : ℕ) (t : F
   pub rate_is : rates P v.state running ≡ Ok rate
   pub from : v.time ≤ℚ t
   pub before : t <ℚ u
-  pub quiet : (x : Fraction) → v.time <ℚ x → x ≤ℚ t → IsQuiet P (moved v.state rate (x -ℚ v.time)) running rate
+  pub quiet :
+      (x : Fraction) → v.time <ℚ x → x ≤ℚ t → IsQuiet P (moved v.state rate (x -ℚ v.time)) running rate
   pub first : IsFirst (HoldsAfter P (moved v.state rate (t -ℚ v.time)) rate) e
 
 -- what stands at the view where it has this breach
@@ -112,7 +117,8 @@ abbrev pub Stands : Problem → Plan → View → Breach → Type 0
 Stands P L v (UnknownAction i name) = (i ≡ v.acted) × IsDue P L v (unknown name)
 Stands P L v (WrongArguments i name) = (i ≡ v.acted) × IsDue P L v (wrong name)
 Stands P L v (Precondition i) =
-    (i ≡ v.acted) × (action : Action) × IsDue P L v (Instance action) × (holds action.condition v.state ≡ false)
+    (i ≡ v.acted) × (action : Action)
+    × IsDue P L v (Instance action) × (holds action.condition v.state ≡ false)
 Stands P L v (Conflict f) = JointFails P L v (conflict f)
 Stands P L v (NoValue f) = JointFails P L v (no_value f) ⊎ RatesFail P (until P L v) v f
 Stands P L v (Repeats e) = (v.running ≡ None) × (first_shared (firing P v.state) v.fired ≡ Some e)
@@ -135,7 +141,8 @@ pub record Breaks (P : Problem) (L : Plan) (h : List Part) (b : Breach) : Type 0
 pub data LineBreach : Type 0 where
   TimeGoesBack AfterEnd : LineBreach
 
--- the lines before are worked and this is their last; more lines are read, so the text is not at its end
+-- the lines before are worked and this is their last; more lines are read, so the text is not at
+-- its end
 pub record IsAfter (P : Problem) (L : Plan) (v : View) (before : List Line) (last : Line) : Type 0 where
   pub worked : IsWorked P L v
   pub open_yet : L.closed ≡ false
@@ -144,8 +151,10 @@ pub record IsAfter (P : Problem) (L : Plan) (v : View) (before : List Line) (las
 -- a line that stands after an end is refused for that, whatever its time
 abbrev pub IsLineBreach : Problem → Plan → View → Line → LineBreach → Type 0
 IsLineBreach P L v line TimeGoesBack =
-    (before : List Line) × (t : Fraction) × (call : Called) × IsAfter P L v before (ActLine t call) × (time_of line <ℚ t)
-IsLineBreach P L v line AfterEnd = (before : List Line) × (t : Fraction) × IsAfter P L v before (EndLine t)
+    (before : List Line) × (t : Fraction) × (call : Called)
+    × IsAfter P L v before (ActLine t call) × (time_of line <ℚ t)
+IsLineBreach P L v line AfterEnd =
+    (before : List Line) × (t : Fraction) × IsAfter P L v before (EndLine t)
 
 -- the lines read break at this history by the line that is read next
 pub record BreaksBy (P : Problem) (L : Plan) (h : List Part) (line : Line) (b : LineBreach) : Type 0 where

@@ -1,7 +1,8 @@
--- The parts of a history, and the view of it on which the next part depends.
--- A history tells what happens, in order. A moment begins with `Enter`: time has come to it. Then rounds of events and
--- actions may follow at that moment, and `Run` says which processes run from there on, up to the next `Enter`.
--- An `Enter` is what Fox and Long (2003) call a happening; here it stands also where an event or process makes one.
+-- The parts of a history, and the view of it on which the next part depends. A history tells what
+-- happens, in order. A moment begins with `Enter`: time has come to it. Then rounds of events and
+-- actions may follow at that moment, and `Run` says which processes run from there on, up to the
+-- next `Enter`. An `Enter` is what Fox and Long (2003) call a happening; here it stands also where
+-- an event or process makes one.
 use Rattle.std.specs.Prelude.{ℕ, suc, List, [], ◌∷◌, ◌++◌, Option, Some, None}
 use Rattle.plus_fraction.specs.Fraction.{Fraction}
 use Rattle.plus_model.specs.Terms.{State}
@@ -21,12 +22,16 @@ pub record View : Type 0 where
   pub running : Option (List ℕ)  -- where the last part is a Run
   pub acted : ℕ  -- how many lines
 
--- the view after one more part; events that fired are forgotten at a new moment and after each action
+-- the view after one more part; events that fired are forgotten at a new moment and after each
+-- action
 abbrev pub view_after : View → Part → View
 view_after v (Enter t a s) = record { time = t; state = s; fired = []; running = None; acted = v.acted }
-view_after v (Round events s) = record { time = v.time; state = s; fired = v.fired ++ events; running = None; acted = v.acted }
-view_after v (Act i s) = record { time = v.time; state = s; fired = []; running = None; acted = suc v.acted }
-view_after v (Run running) = record { time = v.time; state = v.state; fired = v.fired; running = Some running; acted = v.acted }
+view_after v (Round events s) =
+    record { time = v.time; state = s; fired = v.fired ++ events; running = None; acted = v.acted }
+view_after v (Act i s) =
+    record { time = v.time; state = s; fired = []; running = None; acted = suc v.acted }
+view_after v (Run running) =
+    record { time = v.time; state = v.state; fired = v.fired; running = Some running; acted = v.acted }
 
 -- the view after several more parts
 abbrev pub view_from : View → List Part → View

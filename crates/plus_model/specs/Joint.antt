@@ -1,22 +1,24 @@
--- The joint effect of several effects that happen at once.
--- All of them read the state before it. An atom that is added and deleted is true afterwards, as in Fox and Long (2003):
--- the new atoms are (s minus the deleted) and the added. Two or more writes on one fluent are allowed only where all
--- are `increase` or `decrease`, whose amounts add up; Fox and Long ask the same of two actions at one moment.
--- Here it is asked of all effects, those of one action included, and any other pair is a conflict.
--- There is no joint effect where an amount has no value, where `increase`, `decrease` or a scaling meets a fluent without
--- value, or where `scale-down` divides by zero. Which reason counts where there are several is this project's profile:
--- first every effect in order for what lacks a value, then the fluents in ground order for conflicts.
+-- The joint effect of several effects that happen at once. All of them read the state before it. An
+-- atom that is added and deleted is true afterwards, as in Fox and Long (2003): the new atoms are
+-- (s minus the deleted) and the added. Two or more writes on one fluent are allowed only where all
+-- are `increase` or `decrease`, whose amounts add up; Fox and Long ask the same of two actions at
+-- one moment. Here it is asked of all effects, those of one action included, and any other pair is
+-- a conflict. There is no joint effect where an amount has no value, where `increase`, `decrease`
+-- or a scaling meets a fluent without value, or where `scale-down` divides by zero. Which reason
+-- counts where there are several is this project's profile: first every effect in order for what
+-- lacks a value, then the fluents in ground order for conflicts.
 use Rattle.std.specs.Prelude.{ℕ, suc, Bool, false, List, [], ◌∷◌, Option, Some, None, Result, Ok, Err, option_map, nat_eq, ◌||◌, ◌&&◌, not, if◌then◌else◌}
 use Rattle.plus_fraction.specs.Fraction.{Fraction, ◌+ℚ◌, ◌*ℚ◌, ◌/ℚ◌, neg_ℚ}
 use Rattle.plus_model.specs.Terms.{Write, Add, Delete, Assign, Increase, Decrease, ScaleUp, ScaleDown, Effect, State}
 use Rattle.plus_model.specs.Value.{is_zero, fluent_of, value, holds}
 
--- why there is no joint effect: the fluent that is written lacks a value or an amount, or its writes clash
+-- why there is no joint effect: the fluent that is written lacks a value or an amount, or its
+-- writes clash
 pub data Fault : Type 0 where
   NoValue Conflict : ℕ → Fault
 
--- what a write does to an atom or a fluent, its amount evaluated: `Moves` is an `increase` or `decrease`, and a scaling
--- is a new value like an `assign`
+-- what a write does to an atom or a fluent, its amount evaluated: `Moves` is an `increase` or
+-- `decrease`, and a scaling is a new value like an `assign`
 pub data Change : Type 0 where
   Gains Loses : ℕ → Change
   Becomes Moves : ℕ → Fraction → Change
@@ -32,10 +34,13 @@ change_of (Add a) s = Ok (Gains a)
 change_of (Delete a) s = Ok (Loses a)
 change_of (Assign f e) s = given f (value e s) (λ x. Ok (Becomes f x))
 change_of (Increase f e) s = given f (value e s) (λ x. given f (fluent_of s f) (λ v. Ok (Moves f x)))
-change_of (Decrease f e) s = given f (value e s) (λ x. given f (fluent_of s f) (λ v. Ok (Moves f (neg_ℚ x))))
-change_of (ScaleUp f e) s = given f (value e s) (λ x. given f (fluent_of s f) (λ v. Ok (Becomes f (v *ℚ x))))
+change_of (Decrease f e) s =
+    given f (value e s) (λ x. given f (fluent_of s f) (λ v. Ok (Moves f (neg_ℚ x))))
+change_of (ScaleUp f e) s =
+    given f (value e s) (λ x. given f (fluent_of s f) (λ v. Ok (Becomes f (v *ℚ x))))
 change_of (ScaleDown f e) s =
-    given f (value e s) (λ x. given f (fluent_of s f) (λ v. if is_zero x then Err (NoValue f) else Ok (Becomes f (v /ℚ x))))
+    given f (value e s) (λ x. given f (fluent_of s f) (λ v.
+    if is_zero x then Err (NoValue f) else Ok (Becomes f (v /ℚ x))))
 
 -- one change before others, or the first fault
 abbrev pub before : Result Change Fault → Result (List Change) Fault → Result (List Change) Fault
@@ -46,7 +51,8 @@ before (Ok c) (Ok cs) = Ok (c ∷ cs)
 -- the changes of the effects whose guard holds, in order, or the first fault
 abbrev pub changes_of : List Effect → State → Result (List Change) Fault
 changes_of [] s = Ok []
-changes_of (e ∷ es) s = if holds e.guard s then before (change_of e.write s) (changes_of es s) else changes_of es s
+changes_of (e ∷ es) s =
+    if holds e.guard s then before (change_of e.write s) (changes_of es s) else changes_of es s
 
 -- whether an atom is gained; whether it is lost
 abbrev pub gains : ℕ → List Change → Bool

@@ -1,7 +1,8 @@
--- The laws over the definitions alone. Each is the contract of a function of `src/laws.rt`, and so proved.
--- First: what happens is determined. Of two prefixes of one plan one begins the other, a plan has at most one trajectory,
--- and at most one breach. Second: what a reader of a plan's first lines may rely on. A prefix stays one whatever lines
--- follow, a breach is final, and time never passes the next line. Third: what a search for the next moment may rely on.
+-- The laws over the definitions alone. Each is the contract of a function of `src/laws.rt`, and so
+-- proved. First: what happens is determined. Of two prefixes of one plan one begins the other, a
+-- plan has at most one trajectory, and at most one breach. Second: what a reader of a plan's first
+-- lines may rely on. A prefix stays one whatever lines follow, a breach is final, and time never
+-- passes the next line. Third: what a search for the next moment may rely on.
 use Rattle.std.specs.Prelude.{◌≡◌, ◌≢◌, ◌⊎◌, ◌↔◌, Bool, true, List, [], ◌∷◌, ◌++◌, Some, None, slice_get, pos}
 use Rattle.plus_fraction.specs.Fraction.{Fraction, whole, ◌<ℚ◌, ◌≤ℚ◌}
 use Rattle.plus_model.specs.Terms.{Condition, State, Problem}
@@ -42,11 +43,13 @@ OnePath =
 
 -- there is at most one trajectory
 abbrev pub OneTrajectory : Type 0
-OneTrajectory = (P : Problem) (L : Plan) (h h' : List Part) → Trajectory P L h → Trajectory P L h' → h ≡ h'
+OneTrajectory =
+    (P : Problem) (L : Plan) (h h' : List Part) → Trajectory P L h → Trajectory P L h' → h ≡ h'
 
 -- at a view one breach stands at most
 abbrev pub OneBreach : Type 0
-OneBreach = (P : Problem) (L : Plan) (v : View) (b c : Breach) → IsBreach P L v b → IsBreach P L v c → b ≡ c
+OneBreach =
+    (P : Problem) (L : Plan) (v : View) (b c : Breach) → IsBreach P L v b → IsBreach P L v c → b ≡ c
 
 -- a line that is read next has one breach at most
 abbrev pub OneLineBreach : Type 0
@@ -66,15 +69,18 @@ OneLongest = (P : Problem) (L : Plan) (h h' : List Part) → IsLongest P L h →
 
 -- where a breach stands, no prefix is longer
 abbrev pub BreachIsLongest : Type 0
-BreachIsLongest = (P : Problem) (L : Plan) (h : List Part) (b : Breach) → Breaks P L h b → IsLongest P L h
+BreachIsLongest =
+    (P : Problem) (L : Plan) (h : List Part) (b : Breach) → Breaks P L h b → IsLongest P L h
 
 -- where the lines are worked, no prefix is longer
 abbrev pub WorkedIsLongest : Type 0
-WorkedIsLongest = (P : Problem) (L : Plan) (h : List Part) → Prefix P L h → IsWorked P L (view_of P h) → IsLongest P L h
+WorkedIsLongest =
+    (P : Problem) (L : Plan) (h : List Part) → Prefix P L h → IsWorked P L (view_of P h) → IsLongest P L h
 
 -- before the plan has begun, no prefix is longer than the first part
 abbrev pub UnbegunIsLongest : Type 0
-UnbegunIsLongest = (P : Problem) (L : Plan) (h : List Part) → Prefix P L h → (HasBegun L → ⊥) → IsLongest P L h
+UnbegunIsLongest =
+    (P : Problem) (L : Plan) (h : List Part) → Prefix P L h → (HasBegun L → ⊥) → IsLongest P L h
 
 -- a plan breaks at one history at most, and by one breach
 abbrev pub OneBrokenPrefix : Type 0
@@ -114,7 +120,8 @@ PrefixBegins = (P : Problem) (L : Plan) → IsInOrder L.lines → Prefix P L (fi
 -- a prefix and a part that may come next are a prefix, and this is its view
 abbrev pub PrefixGrows : Type 0
 PrefixGrows =
-    (P : Problem) (L : Plan) (h : List Part) (part : Part) → HasBegun L → Prefix P L h → Next P L (view_of P h) part
+    (P : Problem) (L : Plan) (h : List Part) (part : Part)
+    → HasBegun L → Prefix P L h → Next P L (view_of P h) part
     → Prefix P L (h ++ part ∷ []) × (view_of P (h ++ part ∷ []) ≡ view_after (view_of P h) part)
 
 -- a line whose time is not below that of the last, which is no end, may follow lines in order
@@ -131,19 +138,22 @@ NextIsRead =
     → Prefix P L h → next_line L (view_of P h) ≡ None → L'.lines ≡ L.lines ++ line ∷ more
     → next_line L' (view_of P h) ≡ Some line
 
--- a prefix is one for every plan in order whose lines begin with those read, and for the same lines at the text's end
+-- a prefix is one for every plan in order whose lines begin with those read, and for the same lines
+-- at the text's end
 abbrev pub PrefixGoesOn : Type 0
 PrefixGoesOn =
     (P : Problem) (L L' : Plan) (h : List Part)
     → Prefix P L h → GoesOnFrom L L' → IsInOrder L'.lines → HasBegun L' → Prefix P L' h
 
--- on every prefix of a plan that begins at 0 or later, time has not passed the moment up to which it may go
+-- on every prefix of a plan that begins at 0 or later, time has not passed the moment up to which
+-- it may go
 abbrev pub UntilIsAhead : Type 0
 UntilIsAhead =
     (P : Problem) (L : Plan) (h : List Part)
     → BeginsInTime L → Prefix P L h → (view_of P h).time ≤ℚ until P L (view_of P h)
 
--- a breach but Goal is final whatever lines follow: no plan whose lines begin with these has a trajectory
+-- a breach but Goal is final whatever lines follow: no plan whose lines begin with these has a
+-- trajectory
 abbrev pub BreachIsFinal : Type 0
 BreachIsFinal =
     (P : Problem) (L : Plan) (h : List Part) (b : Breach) → Breaks P L h b → b ≢ Goal
@@ -158,7 +168,8 @@ LineBreachIsFinal =
 
 -- ---- what a search for the next moment may rely on
 
--- where no live comparison of a condition has a root strictly between a and b, it has one truth there
+-- where no live comparison of a condition has a root strictly between a and b, it has one truth
+-- there
 abbrev pub OneTruthBetween : Type 0
 OneTruthBetween =
     (c : Condition) (s : State) (rs : List Fraction) (a b : Fraction) → NoRoot (live c s) s rs a b
@@ -167,4 +178,5 @@ OneTruthBetween =
 -- the test of values and slopes tells what holds just after
 abbrev pub AfterTells : Type 0
 AfterTells =
-    (c : Condition) (s : State) (rs : List Fraction) → IsStraight c s rs → JustAfter s rs c ↔ (after c s rs ≡ true)
+    (c : Condition) (s : State) (rs : List Fraction)
+    → IsStraight c s rs → JustAfter s rs c ↔ (after c s rs ≡ true)

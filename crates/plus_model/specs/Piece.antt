@@ -1,7 +1,8 @@
--- Values that move along a line, and the test of values and slopes just after a state.
--- None of this is part of what a plan means. It is how the meaning can be computed: with constant rates each expression
--- that is linear has a value and a slope, and a condition keeps its truth between two roots of its comparisons. The laws
--- `AfterTells` and `OneTruthBetween` say that this computes what the definitions say.
+-- Values that move along a line, and the test of values and slopes just after a state. None of this
+-- is part of what a plan means. It is how the meaning can be computed: with constant rates each
+-- expression that is linear has a value and a slope, and a condition keeps its truth between two
+-- roots of its comparisons. The laws `AfterTells` and `OneTruthBetween` say that this computes what
+-- the definitions say.
 use Rattle.std.specs.Prelude.{◌≡◌, ℕ, Bool, true, false, List, Option, Some, None, ◌&&◌, ◌||◌, slice_get, unwrap_or, pos, if◌then◌else◌}
 use Rattle.std.specs.declared.cmp.Ordering.{Ordering}
 use Rattle.std.specs.declared.cmp.Ordering.TheVariants.{Less, Equal, Greater}
@@ -33,18 +34,21 @@ straight_fluent (Some v) m = Straight v m
 
 -- one factor stands still, or the product is no line
 abbrev pub product_piece : Fraction → Fraction → Fraction → Fraction → Piece
-product_piece v m w n = if is_zero m then Straight (v *ℚ w) (v *ℚ n) else if is_zero n then Straight (v *ℚ w) (m *ℚ w) else Crooked
+product_piece v m w n =
+    if is_zero m then Straight (v *ℚ w) (v *ℚ n) else if is_zero n then Straight (v *ℚ w) (m *ℚ w) else Crooked
 
 -- the divisor stands still
 abbrev pub quotient_piece : Fraction → Fraction → Fraction → Fraction → Piece
-quotient_piece v m w n = if is_zero n then if is_zero w then Missing else Straight (v /ℚ w) (m /ℚ w) else Crooked
+quotient_piece v m w n =
+    if is_zero n then if is_zero w then Missing else Straight (v /ℚ w) (m /ℚ w) else Crooked
 
 -- value and slope of an expression along these rates
 abbrev pub piece : Expression → State → List Fraction → Piece
 piece (Number x) s rs = Straight x (whole (pos 0))
 piece (Fluent f) s rs = straight_fluent (fluent_of s f) (rate_of rs f)
 piece (Sum a b) s rs = on_pieces (λ v m w n. Straight (v +ℚ w) (m +ℚ n)) (piece a s rs) (piece b s rs)
-piece (Difference a b) s rs = on_pieces (λ v m w n. Straight (v -ℚ w) (m -ℚ n)) (piece a s rs) (piece b s rs)
+piece (Difference a b) s rs =
+    on_pieces (λ v m w n. Straight (v -ℚ w) (m -ℚ n)) (piece a s rs) (piece b s rs)
 piece (Product a b) s rs = on_pieces product_piece (piece a s rs) (piece b s rs)
 piece (Quotient a b) s rs = on_pieces quotient_piece (piece a s rs) (piece b s rs)
 
@@ -69,7 +73,8 @@ after Never s rs = false
 after (Both c d) s rs = after c s rs && after d s rs
 after (Either c d) s rs = after c s rs || after d s rs
 after (Atom a positive) s rs = signed positive (atom_of s a)
-after (Compare test left right positive) s rs = signed positive (after_sides test (piece left s rs) (piece right s rs))
+after (Compare test left right positive) s rs =
+    signed positive (after_sides test (piece left s rs) (piece right s rs))
 
 -- both sides are lines, or one has no value before the other is asked
 abbrev pub StraightSides : Piece → Piece → Type 0
@@ -94,7 +99,8 @@ NoRootSides Missing q a b = Unit {0}
 NoRootSides Crooked q a b = ⊥
 NoRootSides (Straight v m) Missing a b = Unit {0}
 NoRootSides (Straight v m) Crooked a b = ⊥
-NoRootSides (Straight v m) (Straight w n) a b = (r : Fraction) → a <ℚ r → r <ℚ b → (m ≡ n → ⊥) → v +ℚ m *ℚ r ≡ w +ℚ n *ℚ r → ⊥
+NoRootSides (Straight v m) (Straight w n) a b =
+    (r : Fraction) → a <ℚ r → r <ℚ b → (m ≡ n → ⊥) → v +ℚ m *ℚ r ≡ w +ℚ n *ℚ r → ⊥
 
 -- no comparison has a root strictly between a and b
 abbrev pub NoRoot : Condition → State → List Fraction → Fraction → Fraction → Type 0
@@ -103,4 +109,5 @@ NoRoot Never s rs a b = Unit {0}
 NoRoot (Both c d) s rs a b = NoRoot c s rs a b × NoRoot d s rs a b
 NoRoot (Either c d) s rs a b = NoRoot c s rs a b × NoRoot d s rs a b
 NoRoot (Atom x positive) s rs a b = Unit {0}
-NoRoot (Compare test left right positive) s rs a b = NoRootSides (piece left s rs) (piece right s rs) a b
+NoRoot (Compare test left right positive) s rs a b =
+    NoRootSides (piece left s rs) (piece right s rs) a b

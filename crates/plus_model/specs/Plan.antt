@@ -1,6 +1,7 @@
--- The lines of a plan that were read. A plan is a list of timed actions, as in Fox and Long (2003), and may end with a
--- line that says how long the world goes on after them. Several actions may have one time: they go one after the other,
--- in the order of the text (this project's profile; no separation by a small epsilon is asked for, and none is added).
+-- The lines of a plan that were read. A plan is a list of timed actions, as in Fox and Long (2003),
+-- and may end with a line that says how long the world goes on after them. Several actions may have
+-- one time: they go one after the other, in the order of the text (this project's profile; no
+-- separation by a small epsilon is asked for, and none is added).
 use Rattle.std.specs.Prelude.{ℕ, Bool, List, [], ◌∷◌}
 use Rattle.plus_fraction.specs.Fraction.{Fraction, ◌≤ℚ◌}
 use Rattle.plus_model.specs.Terms.{Action}
@@ -20,8 +21,9 @@ abbrev pub time_of : Line → Fraction
 time_of (ActLine t call) = t
 time_of (EndLine t) = t
 
--- the lines that were read, blank ones left out, and whether the text was read to its end. A plan that is not closed may
--- have further lines: the meaning of what was read so far must not depend on them.
+-- the lines that were read, blank ones left out, and whether the text was read to its end. A plan
+-- that is not closed may have further lines: the meaning of what was read so far must not depend on
+-- them.
 pub record Plan : Type 0 where
   pub lines : List Line
   pub closed : Bool

@@ -1,9 +1,10 @@
--- The ground problem: what is left of a PDDL+ domain and problem once every variable is replaced by objects.
--- It is the language of Fox and Long (2003, levels 1 and 2) with the processes and events of Fox and Long (2006)
--- and the timed initial literals of Edelkamp and Hoffmann (2004). Ground atoms and ground fluents have numbers: the
--- places of their values in a state. Processes and events are known by their places in their lists, which are
--- in ground order (the order of the schemas in the text, and for one schema the order of its argument tuples).
--- All numbers are fractions of any size: the meaning knows no rounding and no overflow.
+-- The ground problem: what is left of a PDDL+ domain and problem once every variable is replaced by
+-- objects. It is the language of Fox and Long (2003, levels 1 and 2) with the processes and events
+-- of Fox and Long (2006) and the timed initial literals of Edelkamp and Hoffmann (2004). Ground
+-- atoms and ground fluents have numbers: the places of their values in a state. Processes and
+-- events are known by their places in their lists, which are in ground order (the order of the
+-- schemas in the text, and for one schema the order of its argument tuples). All numbers are
+-- fractions of any size: the meaning knows no rounding and no overflow.
 use Rattle.std.specs.Prelude.{ℕ, Bool, List, Option}
 use Rattle.plus_fraction.specs.Fraction.{Fraction}
 
@@ -17,9 +18,10 @@ pub data Expression : Type 0 where
 pub data Test : Type 0 where
   Below AtMost Same AtLeast Above : Test
 
--- A condition. Negations stand at the leaves alone: `Atom a false` is `(not a)`, and `Compare test l r false` is the
--- negation of the comparison, which is not the opposite comparison where a side has no value.
--- `(and c d)` is Both c (Both d Always), and `(or c d)` is Either c (Either d Never); quantifiers are expanded to these.
+-- A condition. Negations stand at the leaves alone: `Atom a false` is `(not a)`, and `Compare test
+-- l r false` is the negation of the comparison, which is not the opposite comparison where a side
+-- has no value. `(and c d)` is Both c (Both d Always), and `(or c d)` is Either c (Either d Never);
+-- quantifiers are expanded to these.
 pub data Condition : Type 0 where
   Always Never : Condition
   Both Either : Condition → Condition → Condition
@@ -31,13 +33,14 @@ pub data Write : Type 0 where
   Add Delete : ℕ → Write
   Assign Increase Decrease ScaleUp ScaleDown : ℕ → Expression → Write
 
--- a write that is done where the guard holds: `(when guard write)`; without a `when` the guard is Always
+-- a write that is done where the guard holds: `(when guard write)`; without a `when` the guard is
+-- Always
 pub record Effect : Type 0 where
   pub guard : Condition
   pub write : Write
 
--- a continuous effect `(increase (f) (* #t amount))` or, where `up` is false, `(decrease (f) (* #t amount))`:
--- the fluent goes up, or down, by this amount in each unit of time
+-- a continuous effect `(increase (f) (* #t amount))` or, where `up` is false, `(decrease (f) (* #t
+-- amount))`: the fluent goes up, or down, by this amount in each unit of time
 pub record Rate : Type 0 where
   pub fluent : ℕ
   pub up : Bool

@@ -1,12 +1,14 @@
--- Which parts may come next, and so which histories are prefixes and trajectories of a problem and a plan.
--- This is what it means that a plan is valid: it has a trajectory. The definition speaks of all fractions of time inside a
--- stretch. It knows no root, no slope and no search for the next moment.
--- - A moment goes in this order: the timed literals of that time (before everything else, this project's profile), a
---   cascade of events, then each action of that time in the order of the text, with a cascade after each.
--- - Time passes only where no event holds, and while a stretch lasts no event holds in it: each event of Fox and Long (2006)
---   fires at the first moment at which its condition holds.
--- - A moment stands at time 0, at each time of a plan line and of a literal up to the end, and at any other time exactly
---   where an event holds on arrival or the running set does not go on.
+-- Which parts may come next, and so which histories are prefixes and trajectories of a problem and
+-- a plan. This is what it means that a plan is valid: it has a trajectory. The definition speaks of
+-- all fractions of time inside a stretch. It knows no root, no slope and no search for the next
+-- moment.
+-- - A moment goes in this order: the timed literals of that time (before everything else, this
+--   project's profile), a cascade of events, then each action of that time in the order of the
+--   text, with a cascade after each.
+-- - Time passes only where no event holds, and while a stretch lasts no event holds in it: each
+--   event of Fox and Long (2006) fires at the first moment at which its condition holds.
+-- - A moment stands at time 0, at each time of a plan line and of a literal up to the end, and at
+--   any other time exactly where an event holds on arrival or the running set does not go on.
 -- - The goal is asked in the state after the last moment.
 use Rattle.std.specs.Prelude.{◌≡◌, ◌≢◌, ◌⊎◌, ℕ, Bool, true, List, [], ◌∷◌, Option, Some, None, Ok, slice_get, ◌&&◌, if◌then◌else◌, pos}
 use Rattle.plus_fraction.specs.Fraction.{Fraction, whole, ◌-ℚ◌, ◌<ℚ◌, ◌≤ℚ◌, compared}
@@ -57,20 +59,23 @@ least time bound (l ∷ ls) =
 abbrev pub until : Problem → Plan → View → Fraction
 until P L v = least v.time (target L v) P.timed
 
--- the action is done: no event holds, its condition does, and this is the state after its joint effect
+-- the action is done: no event holds, its condition does, and this is the state after its joint
+-- effect
 pub record Acts (P : Problem) (v : View) (action : Action) (after : State) : Type 0 where
   pub still : firing P v.state ≡ []
   pub may : holds action.condition v.state ≡ true
   pub effect : joint action.effects v.state ≡ Ok after
 
--- the action of the first line not acted may come next: the line has the present time and its call an action
+-- the action of the first line not acted may come next: the line has the present time and its call
+-- an action
 pub record ActMayFollow (P : Problem) (L : Plan) (v : View) (i : ℕ) (after : State) : Type 0 where
   pub action : Action
   pub line : i ≡ v.acted
   pub due : next_line L v ≡ Some (ActLine v.time (Instance action))
   pub acts : Acts P v action after
 
--- the running set may come next: no event holds, time is to pass up to u, the set is settled and no rate reads what moves
+-- the running set may come next: no event holds, time is to pass up to u, the set is settled and no
+-- rate reads what moves
 pub record RunMayFollow (P : Problem) (u : Fraction) (v : View) (running : List ℕ) : Type 0 where
   pub still : firing P v.state ≡ []
   pub later : v.time <ℚ u
@@ -78,16 +83,21 @@ pub record RunMayFollow (P : Problem) (u : Fraction) (v : View) (running : List 
   pub settled : Settled P v.state running rate
   pub uncoupled : first_coupled P running rate ≡ None
 
--- why a stretch ends on arrival in a state: this is as far as time may pass; or an event holds there; or the running set
--- does not go on from there
-pub data Cause (P : Problem) (running : List ℕ) (rate : List Fraction) (AtUntil : Type 0) (arrival : State) : Type 0 where
+-- why a stretch ends on arrival in a state: this is as far as time may pass; or an event holds
+-- there; or the running set does not go on from there
+pub data Cause
+    (P : Problem) (running : List ℕ) (rate : List Fraction) (AtUntil : Type 0) (arrival : State)
+    : Type 0 where
   at_until : AtUntil → Cause P running rate AtUntil arrival
   event_holds : firing P arrival ≢ [] → Cause P running rate AtUntil arrival
   set_ends : (GoesOn P arrival rate running → ⊥) → Cause P running rate AtUntil arrival
 
--- the end of a stretch may come next: the moment t, at most u. The state on arrival is the moved state; the literals of
--- that time come at once, and whether an event holds or the set goes on is asked before them.
-pub record EnterMayFollow (P : Problem) (u : Fraction) (v : View) (running : List ℕ) (t : Fraction) (arrival after : State) : Type 0 where
+-- the end of a stretch may come next: the moment t, at most u. The state on arrival is the moved
+-- state; the literals of that time come at once, and whether an event holds or the set goes on is
+-- asked before them.
+pub record EnterMayFollow
+    (P : Problem) (u : Fraction) (v : View) (running : List ℕ) (t : Fraction) (arrival after : State)
+    : Type 0 where
   pub rate : List Fraction
   pub rate_is : rates P v.state running ≡ Ok rate
   pub later : v.time <ℚ t
@@ -118,8 +128,8 @@ NextBy P L v (Some running) part = InStretch P L v running part
 abbrev pub Next : Problem → Plan → View → Part → Type 0
 Next P L v part = NextBy P L v v.running part
 
--- a line was read, or the end of the text. Before that only the first part stands: what comes after it depends on whether
--- the plan is empty.
+-- a line was read, or the end of the text. Before that only the first part stands: what comes after
+-- it depends on whether the plan is empty.
 abbrev pub HasBegun : Plan → Type 0
 HasBegun L = (L.lines ≢ []) ⊎ (L.closed ≡ true)
 
@@ -128,7 +138,8 @@ abbrev pub Follow : Problem → Plan → View → List Part → Type 0
 Follow P L v [] = Unit {0}
 Follow P L v (part ∷ parts) = HasBegun L × Next P L v part × Follow P L (view_after v part) parts
 
--- the first part: time 0, the initial state, and the state after the literals of time 0; and the view of it
+-- the first part: time 0, the initial state, and the state after the literals of time 0; and the
+-- view of it
 abbrev pub first_part : Problem → Part
 first_part P = Enter (whole (pos 0)) P.initial (literals P (whole (pos 0)) P.initial)
 
@@ -159,7 +170,8 @@ IsEndOrNone None = Unit {0}
 IsEndOrNone (Some (EndLine t)) = Unit {0}
 IsEndOrNone (Some (ActLine t call)) = ⊥
 
--- the lines are worked: every action is acted, no event holds, the last part is no Run, and time is to go no further
+-- the lines are worked: every action is acted, no event holds, the last part is no Run, and time is
+-- to go no further
 pub record IsWorked (P : Problem) (L : Plan) (v : View) : Type 0 where
   pub acted : IsEndOrNone (next_line L v)
   pub still : firing P v.state ≡ []

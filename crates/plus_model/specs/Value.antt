@@ -1,8 +1,8 @@
--- The value of an expression and the truth of a condition in a state.
--- As in Fox and Long (2003) a fluent may be undefined. What follows from that is this project's profile: an expression
--- has no value where a fluent in it has none or a divisor is zero; a comparison holds exactly where both sides have a
--- value and stand in the relation; and a negation holds exactly where what it negates does not. So where `z` has no
--- value, `(>= (z) 1)` is false and `(not (>= (z) 1))` is true.
+-- The value of an expression and the truth of a condition in a state. As in Fox and Long (2003) a
+-- fluent may be undefined. What follows from that is this project's profile: an expression has no
+-- value where a fluent in it has none or a divisor is zero; a comparison holds exactly where both
+-- sides have a value and stand in the relation; and a negation holds exactly where what it negates
+-- does not. So where `z` has no value, `(>= (z) 1)` is false and `(not (>= (z) 1))` is true.
 use Rattle.std.specs.Prelude.{ℕ, Bool, true, false, Option, Some, None, ◌&&◌, ◌||◌, not, slice_get, unwrap_or, pos, if◌then◌else◌}
 use Rattle.std.specs.declared.cmp.Ordering.{Ordering}
 use Rattle.std.specs.declared.cmp.Ordering.TheVariants.{Less, Equal, Greater}
@@ -38,7 +38,8 @@ abbrev pub is_zero : Fraction → Bool
 is_zero x = passes Same (compared x (whole (pos 0)))
 
 -- an operation on two values, where both are there
-abbrev pub on_both : (Fraction → Fraction → Option Fraction) → Option Fraction → Option Fraction → Option Fraction
+abbrev pub on_both : (Fraction → Fraction → Option Fraction) → Option Fraction → Option Fraction
+    → Option Fraction
 on_both op None right = None
 on_both op (Some x) None = None
 on_both op (Some x) (Some y) = op x y

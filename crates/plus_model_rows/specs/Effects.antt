@@ -1,5 +1,5 @@
--- Worked rows of joint effects. The state has the atoms 0 (true) and 1 (false), and the fluents 0 (6), 1 (4)
--- and 2 (no value).
+-- Worked rows of joint effects. The state has the atoms 0 (true) and 1 (false), and the fluents 0
+-- (6), 1 (4) and 2 (no value).
 use Rattle.std.specs.Prelude.{◌≡◌, ℕ, Bool, true, false, List, [], ◌∷◌, Option, Some, None, Result, Ok, Err, pos}
 use Rattle.plus_fraction.specs.Fraction.{Fraction, whole, over}
 use Rattle.plus_model.specs.Terms.{Number, Difference, Condition, Always, Atom, Write, Add, Delete, Assign, Increase, Decrease, ScaleUp, ScaleDown, Effect, State}
@@ -17,7 +17,8 @@ after_all effects = joint effects some_values
 
 -- the state with these atoms, or with these values
 abbrev pub with_truths : Bool → Bool → Result State Fault
-with_truths a b = Ok (record { atoms = a ∷ b ∷ []; fluents = Some (whole (pos 6)) ∷ Some (whole (pos 4)) ∷ None ∷ [] })
+with_truths a b =
+    Ok (record { atoms = a ∷ b ∷ []; fluents = Some (whole (pos 6)) ∷ Some (whole (pos 4)) ∷ None ∷ [] })
 
 abbrev pub with_values : Fraction → Fraction → Option Fraction → Result State Fault
 with_values x y z = Ok (record { atoms = true ∷ false ∷ []; fluents = Some x ∷ Some y ∷ z ∷ [] })
@@ -33,7 +34,8 @@ pub record AtomRows : Type 0 where
   pub add_wins_later : after_all (does (Delete 1) ∷ does (Add 1) ∷ []) ≡ with_truths true true
   pub no_change : after_all (does (Add 0) ∷ does (Delete 1) ∷ []) ≡ with_truths true false
   pub guarded : after_all (when (Atom 1 true) (Delete 0) ∷ []) ≡ with_truths true false
-  pub guards_read_before : after_all (does (Delete 0) ∷ when (Atom 0 true) (Add 1) ∷ []) ≡ with_truths false true
+  pub guards_read_before :
+      after_all (does (Delete 0) ∷ when (Atom 0 true) (Add 1) ∷ []) ≡ with_truths false true
 
 pub record FluentRows : Type 0 where
   pub assign : after_all (does (Assign 0 four) ∷ []) ≡ with_values (n 4) (n 4) None
@@ -43,7 +45,8 @@ pub record FluentRows : Type 0 where
   pub scale_up : after_all (does (ScaleUp 0 four) ∷ []) ≡ with_values (n 24) (n 4) None
   pub scale_down : after_all (does (ScaleDown 0 four) ∷ []) ≡ with_values (over (pos 3) 2) (n 4) None
   pub swap : after_all (does (Assign 0 four) ∷ does (Assign 1 six) ∷ []) ≡ with_values (n 4) (n 6) None
-  pub add_up : after_all (does (Increase 0 four) ∷ does (Decrease 0 (Number (n 1))) ∷ does (Increase 0 six) ∷ []) ≡ with_values (n 15) (n 4) None
+  pub add_up :
+      after_all (does (Increase 0 four) ∷ does (Decrease 0 (Number (n 1))) ∷ does (Increase 0 six) ∷ []) ≡ with_values (n 15) (n 4) None
 
 pub record FaultRows : Type 0 where
   pub amount : after_all (does (Assign 0 unknown) ∷ []) ≡ Err (NoValue 0)
@@ -55,10 +58,15 @@ pub record FaultRows : Type 0 where
   pub unasked : after_all (when (Atom 1 true) (Increase 2 unknown) ∷ []) ≡ Ok some_values
   pub assigned_before : after_all (does (Assign 2 four) ∷ does (Increase 2 four) ∷ []) ≡ Err (NoValue 2)
   pub two_assigns : after_all (does (Assign 0 four) ∷ does (Assign 0 four) ∷ []) ≡ Err (Conflict 0)
-  pub assign_and_increase : after_all (does (Assign 0 four) ∷ does (Increase 0 four) ∷ []) ≡ Err (Conflict 0)
-  pub decrease_and_assign : after_all (does (Decrease 1 four) ∷ does (Assign 1 four) ∷ []) ≡ Err (Conflict 1)
+  pub assign_and_increase :
+      after_all (does (Assign 0 four) ∷ does (Increase 0 four) ∷ []) ≡ Err (Conflict 0)
+  pub decrease_and_assign :
+      after_all (does (Decrease 1 four) ∷ does (Assign 1 four) ∷ []) ≡ Err (Conflict 1)
   pub two_scalings : after_all (does (ScaleUp 0 four) ∷ does (ScaleUp 0 four) ∷ []) ≡ Err (Conflict 0)
-  pub scaling_and_increase : after_all (does (ScaleDown 0 four) ∷ does (Increase 0 four) ∷ []) ≡ Err (Conflict 0)
-  pub lowest_conflict : after_all (does (Assign 1 six) ∷ does (Assign 0 six) ∷ does (Assign 1 six) ∷ does (Assign 0 six) ∷ []) ≡ Err (Conflict 0)
-  pub values_first : after_all (does (Assign 0 six) ∷ does (Assign 0 six) ∷ does (Assign 1 unknown) ∷ []) ≡ Err (NoValue 1)
+  pub scaling_and_increase :
+      after_all (does (ScaleDown 0 four) ∷ does (Increase 0 four) ∷ []) ≡ Err (Conflict 0)
+  pub lowest_conflict :
+      after_all (does (Assign 1 six) ∷ does (Assign 0 six) ∷ does (Assign 1 six) ∷ does (Assign 0 six) ∷ []) ≡ Err (Conflict 0)
+  pub values_first :
+      after_all (does (Assign 0 six) ∷ does (Assign 0 six) ∷ does (Assign 1 unknown) ∷ []) ≡ Err (NoValue 1)
   pub first_value : after_all (does (Assign 1 unknown) ∷ does (Assign 0 unknown) ∷ []) ≡ Err (NoValue 1)

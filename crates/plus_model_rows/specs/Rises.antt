@@ -1,5 +1,5 @@
--- Worked rows over two fluents x and y, whose values are 0 at first: time that passes, and what ends a stretch.
--- `up` is a process without condition that raises x by 1. Plans end at 8.
+-- Worked rows over two fluents x and y, whose values are 0 at first: time that passes, and what
+-- ends a stretch. `up` is a process without condition that raises x by 1. Plans end at 8.
 use Rattle.std.specs.Prelude.{ℕ, Bool, true, false, List, [], ◌∷◌, Some, None, pos, negsuc}
 use Rattle.plus_fraction.specs.Fraction.{Fraction, whole}
 use Rattle.plus_model.specs.Terms.{Expression, Number, Fluent, Sum, Test, Below, AtMost, Same, AtLeast, Above, Condition, Always, Compare, Write, Assign, Increase, Action, Event, Process, State, Problem}
@@ -25,7 +25,8 @@ abbrev pub up : Process
 up = moves Always 0 true (Number (n 1))
 
 abbrev pub fires : Condition → Write → Event
-fires condition write = record { label = []; condition = condition; effects = record { guard = Always; write = write } ∷ [] }
+fires condition write =
+    record { label = []; condition = condition; effects = record { guard = Always; write = write } ∷ [] }
 
 abbrev pub world_of : State → List Process → List Event → Problem
 world_of initial processes events = record {
@@ -52,7 +53,8 @@ abbrev pub moment : ℕ → State → ℕ → View
 moment t s acted = record { time = n t; state = s; fired = []; running = None; acted = acted }
 
 abbrev pub stretch : ℕ → State → List ℕ → ℕ → View
-stretch t s running acted = record { time = n t; state = s; fired = []; running = Some running; acted = acted }
+stretch t s running acted =
+    record { time = n t; state = s; fired = []; running = Some running; acted = acted }
 
 -- the running set ends: `side` holds at x = 5, and just after it does not
 abbrev pub side_world : Problem
@@ -84,11 +86,13 @@ abbrev pub again_world : Problem
 again_world = world (up ∷ []) (fires (if_x AtLeast 5) (Increase 0 (Number (n 1))) ∷ [])
 
 abbrev pub again_history : List Part
-again_history = enter 0 (values 0 0) ∷ Run (0 ∷ []) ∷ enter 5 (values 5 0) ∷ Round (0 ∷ []) (values 6 0) ∷ []
+again_history =
+    enter 0 (values 0 0) ∷ Run (0 ∷ []) ∷ enter 5 (values 5 0) ∷ Round (0 ∷ []) (values 6 0) ∷ []
 
 -- two events at one moment that give y two values
 abbrev pub clash_world : Problem
-clash_world = world (up ∷ []) (fires (if_x AtLeast 5) (Assign 1 (Number (n 1))) ∷ fires (if_x AtLeast 5) (Assign 1 (Number (n 2))) ∷ [])
+clash_world =
+    world (up ∷ []) (fires (if_x AtLeast 5) (Assign 1 (Number (n 1))) ∷ fires (if_x AtLeast 5) (Assign 1 (Number (n 2))) ∷ [])
 
 abbrev pub clash_history : List Part
 clash_history = enter 0 (values 0 0) ∷ Run (0 ∷ []) ∷ enter 5 (values 5 0) ∷ []
@@ -100,7 +104,8 @@ stick_world = world (up ∷ moves (if_x Same 5) 0 false (Number (n 1)) ∷ []) [
 abbrev pub stick_history : List Part
 stick_history = enter 0 (values 0 0) ∷ Run (0 ∷ []) ∷ enter 8 (values 8 0) ∷ []
 
--- but where an action makes a moment at x = 5, both processes hold there and take each other's rate away
+-- but where an action makes a moment at x = 5, both processes hold there and take each other's rate
+-- away
 abbrev pub note : Action
 note = record { label = []; condition = Always; effects = [] }
 
@@ -120,11 +125,13 @@ coupled_world = world (moves Always 0 true (Fluent 1) ∷ moves Always 1 true (N
 
 -- a rate on y, which has no value
 abbrev pub lacking_world : Problem
-lacking_world = world_of (record { atoms = []; fluents = Some (n 0) ∷ None ∷ [] }) (moves Always 1 true (Number (n 1)) ∷ []) []
+lacking_world =
+    world_of (record { atoms = []; fluents = Some (n 0) ∷ None ∷ [] }) (moves Always 1 true (Number (n 1)) ∷ []) []
 
 -- a process that starts just after 0, with a rate on y, which has no value
 abbrev pub starting_world : Problem
-starting_world = world_of lacking_world.initial (up ∷ moves (if_x Above 0) 1 true (Number (n 1)) ∷ []) []
+starting_world =
+    world_of lacking_world.initial (up ∷ moves (if_x Above 0) 1 true (Number (n 1)) ∷ []) []
 
 -- an event that holds at every moment after 0, and not at 0
 abbrev pub at_once_world : Problem

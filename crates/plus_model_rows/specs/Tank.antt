@@ -1,7 +1,7 @@
 -- A worked row: a tank that is opened at 1, is full at 7/2, and is left to 10.
 use Rattle.std.specs.Prelude.{true, false, List, [], ◌∷◌, Some, pos}
 use Rattle.plus_fraction.specs.Fraction.{Fraction, over, whole, ◌+ℚ◌, ◌-ℚ◌}
-use Rattle.plus_model.specs.Terms.{Number, Fluent, AtLeast, Condition, Always, Both, Atom, Compare, Add, Delete, Action, Timed, State, Problem}
+use Rattle.plus_model.specs.Terms.{Number, Fluent, AtLeast, Condition, Always, Both, Atom, Compare, Add, Delete, Action, Event, Process, Timed, State, Problem}
 use Rattle.plus_model.specs.Running.{moved}
 use Rattle.plus_model.specs.Plan.{Instance, ActLine, EndLine, Plan}
 use Rattle.plus_model.specs.History.{Part, Enter, Round, Act, Run}
@@ -11,24 +11,45 @@ abbrev pub at_five : Condition
 at_five = Compare AtLeast (Fluent 0) (Number (whole (pos 5))) true
 
 abbrev pub open_valve : Action
-open_valve = record { label = []; condition = Atom 0 false; effects = record { guard = Always; write = Add 0 } ∷ [] }
+open_valve =
+    record { label = []; condition = Atom 0 false; effects = record { guard = Always; write = Add 0 } ∷ [] }
+
+abbrev pub fill : Process
+fill = record {
+  label = [];
+  condition = Atom 0 true;
+  rates = record { fluent = 0; up = true; amount = Number (whole (pos 2)) } ∷ [];
+}
+
+abbrev pub is_full : Event
+is_full = record {
+  label = [];
+  condition = Both (Atom 0 true) (Both at_five Always);
+  effects = record { guard = Always; write = Delete 0 } ∷ [];
+}
 
 abbrev pub tank_of : List Timed → State → Condition → Problem
 tank_of timed initial goal = record {
   atoms = 1;
   fluents = 1;
-  processes = record { label = []; condition = Atom 0 true; rates = record { fluent = 0; up = true; amount = Number (whole (pos 2)) } ∷ [] } ∷ [];
-  events = record { label = []; condition = Both (Atom 0 true) (Both at_five Always); effects = record { guard = Always; write = Delete 0 } ∷ [] } ∷ [];
+  processes = fill ∷ [];
+  events = is_full ∷ [];
   timed = timed;
   initial = initial;
   goal = goal;
 }
 
 abbrev pub tank : Problem
-tank = tank_of [] (record { atoms = false ∷ []; fluents = Some (whole (pos 0)) ∷ [] }) (Both (Atom 0 false) (Both at_five Always))
+tank =
+    tank_of [] (record { atoms = false ∷ []; fluents = Some (whole (pos 0)) ∷ [] })
+    (Both (Atom 0 false) (Both at_five Always))
 
 abbrev pub tank_plan : Plan
-tank_plan = record { lines = ActLine (whole (pos 1)) (Instance open_valve) ∷ EndLine (whole (pos 10)) ∷ []; closed = true }
+tank_plan =
+    record {
+      lines = ActLine (whole (pos 1)) (Instance open_valve) ∷ EndLine (whole (pos 10)) ∷ [];
+      closed = true;
+    }
 
 abbrev pub no_rates : List Fraction
 no_rates = whole (pos 0) ∷ []
@@ -73,9 +94,12 @@ tank_history =
     ∷ Enter (whole (pos 10)) ended (literals tank (whole (pos 10)) ended)
     ∷ []
 
--- the same tank, open from the start, and closed by a literal at the moment when it is full: the event does not fire
+-- the same tank, open from the start, and closed by a literal at the moment when it is full: the
+-- event does not fire
 abbrev pub timed_tank : Problem
-timed_tank = tank_of (record { time = over (pos 5) 2; atom = 0; positive = false } ∷ []) (record { atoms = true ∷ []; fluents = Some (whole (pos 0)) ∷ [] }) (Atom 0 false)
+timed_tank =
+    tank_of (record { time = over (pos 5) 2; atom = 0; positive = false } ∷ [])
+    (record { atoms = true ∷ []; fluents = Some (whole (pos 0)) ∷ [] }) (Atom 0 false)
 
 abbrev pub timed_plan : Plan
 timed_plan = record { lines = EndLine (whole (pos 3)) ∷ []; closed = true }

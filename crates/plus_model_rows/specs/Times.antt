@@ -19,8 +19,9 @@ fall_of fluent amount = record { fluent = fluent; up = false; amount = amount }
 abbrev pub runs : Condition → List Rate → Process
 runs condition rates = record { label = []; condition = condition; rates = rates }
 
--- processes: 0 lifts fluent 0 by 5 and lowers fluent 1 by 1/2, 1 lowers fluent 0 by fluent 1, 2 lifts fluent 1 by
--- what has no value, 3 lifts what has no value, 4 lifts fluent 1 by a quotient that reads fluent 0
+-- processes: 0 lifts fluent 0 by 5 and lowers fluent 1 by 1/2, 1 lowers fluent 0 by fluent 1, 2
+-- lifts fluent 1 by what has no value, 3 lifts what has no value, 4 lifts fluent 1 by a quotient
+-- that reads fluent 0
 abbrev pub works : Problem
 works = record {
   atoms = 2;
@@ -46,17 +47,25 @@ three_rates x y z = x ∷ y ∷ z ∷ []
 
 pub record RateRows : Type 0 where
   pub hold : holding works some_values ≡ 0 ∷ 1 ∷ []
-  pub none : rates works some_values [] ≡ Ok (three_rates (whole (pos 0)) (whole (pos 0)) (whole (pos 0)))
-  pub one : rates works some_values (0 ∷ []) ≡ Ok (three_rates (whole (pos 5)) (over (negsuc 0) 2) (whole (pos 0)))
-  pub both : rates works some_values (0 ∷ 1 ∷ []) ≡ Ok (three_rates (whole (pos 1)) (over (negsuc 0) 2) (whole (pos 0)))
+  pub none :
+      rates works some_values [] ≡ Ok (three_rates (whole (pos 0)) (whole (pos 0)) (whole (pos 0)))
+  pub one :
+      rates works some_values (0 ∷ []) ≡ Ok (three_rates (whole (pos 5)) (over (negsuc 0) 2) (whole (pos 0)))
+  pub both :
+      rates works some_values (0 ∷ 1 ∷ []) ≡ Ok (three_rates (whole (pos 1)) (over (negsuc 0) 2) (whole (pos 0)))
   pub no_amount : rates works some_values (0 ∷ 2 ∷ []) ≡ Err 1
   pub no_value : rates works some_values (0 ∷ 3 ∷ []) ≡ Err 2
   pub first : rates works some_values (3 ∷ 2 ∷ []) ≡ Err 2
-  pub later : moved some_values (three_rates (whole (pos 1)) (over (negsuc 0) 2) (whole (pos 7))) (whole (pos 3)) ≡ valued (whole (pos 9)) (over (pos 5) 2)
-  pub uncoupled : first_coupled works (0 ∷ 1 ∷ []) (three_rates (whole (pos 5)) (whole (pos 0)) (whole (pos 0))) ≡ None
-  pub coupled : first_coupled works (0 ∷ 1 ∷ []) (three_rates (whole (pos 0)) (whole (pos 1)) (whole (pos 0))) ≡ Some (1, 1)
-  pub first_named : first_coupled works (1 ∷ 4 ∷ []) (three_rates (whole (pos 1)) (whole (pos 0)) (whole (pos 1))) ≡ Some (4, 2)
-  pub second_named : first_coupled works (1 ∷ 4 ∷ []) (three_rates (whole (pos 1)) (whole (pos 0)) (whole (pos 0))) ≡ Some (4, 0)
+  pub later :
+      moved some_values (three_rates (whole (pos 1)) (over (negsuc 0) 2) (whole (pos 7))) (whole (pos 3)) ≡ valued (whole (pos 9)) (over (pos 5) 2)
+  pub uncoupled :
+      first_coupled works (0 ∷ 1 ∷ []) (three_rates (whole (pos 5)) (whole (pos 0)) (whole (pos 0))) ≡ None
+  pub coupled :
+      first_coupled works (0 ∷ 1 ∷ []) (three_rates (whole (pos 0)) (whole (pos 1)) (whole (pos 0))) ≡ Some (1, 1)
+  pub first_named :
+      first_coupled works (1 ∷ 4 ∷ []) (three_rates (whole (pos 1)) (whole (pos 0)) (whole (pos 1))) ≡ Some (4, 2)
+  pub second_named :
+      first_coupled works (1 ∷ 4 ∷ []) (three_rates (whole (pos 1)) (whole (pos 0)) (whole (pos 0))) ≡ Some (4, 0)
 
 abbrev pub does : Write → Effect
 does write = record { guard = Always; write = write }
@@ -64,7 +73,8 @@ does write = record { guard = Always; write = write }
 abbrev pub fires : ℕ → Effect → Effect → Event
 fires atom one other = record { label = []; condition = Atom atom true; effects = one ∷ other ∷ [] }
 
--- events that hand on a token: 0 from atom 0 to 1, 1 from atom 0 to 2, 2 from atom 1 to 3, 3 from atom 4 to itself
+-- events that hand on a token: 0 from atom 0 to 1, 1 from atom 0 to 2, 2 from atom 1 to 3, 3 from
+-- atom 4 to itself
 abbrev pub chain : Problem
 chain = record {
   atoms = 5;
@@ -111,22 +121,27 @@ pub record RoundRows : Type 0 where
   pub next : firing chain two_tokens ≡ 2 ∷ []
   pub fresh : first_shared (2 ∷ []) (0 ∷ 1 ∷ []) ≡ None
   pub repeats : first_shared (0 ∷ 2 ∷ 3 ∷ []) (3 ∷ 2 ∷ []) ≡ Some 2
-  pub effects : effects_of chain (0 ∷ 3 ∷ []) ≡ does (Delete 0) ∷ does (Add 1) ∷ does (Delete 4) ∷ does (Add 4) ∷ []
+  pub effects :
+      effects_of chain (0 ∷ 3 ∷ []) ≡ does (Delete 0) ∷ does (Add 1) ∷ does (Delete 4) ∷ does (Add 4) ∷ []
   pub empty : Cascade chain [] no_token [] no_token
-  pub cascade : Cascade chain [] one_token ((0 ∷ 1 ∷ [], two_tokens) ∷ (2 ∷ [], last_tokens) ∷ []) last_tokens
+  pub cascade :
+      Cascade chain [] one_token ((0 ∷ 1 ∷ [], two_tokens) ∷ (2 ∷ [], last_tokens) ∷ []) last_tokens
   pub endless : firing chain loop_token ≡ 3 ∷ []
 
 abbrev pub at_time : ℕ → ℕ → View
-at_time t acted = record { time = whole (pos t); state = no_token; fired = []; running = None; acted = acted }
+at_time t acted =
+    record { time = whole (pos t); state = no_token; fired = []; running = None; acted = acted }
 
 abbrev pub called : ℕ → Line
 called t = ActLine (whole (pos t)) (UnknownAction [])
 
 abbrev pub lines_to_nine : Plan
-lines_to_nine = record { lines = called 1 ∷ called 4 ∷ called 4 ∷ EndLine (whole (pos 9)) ∷ []; closed = false }
+lines_to_nine =
+    record { lines = called 1 ∷ called 4 ∷ called 4 ∷ EndLine (whole (pos 9)) ∷ []; closed = false }
 
 pub record TimeRows : Type 0 where
-  pub set : literals chain (whole (pos 2)) two_tokens ≡ tokens (true ∷ true ∷ false ∷ false ∷ false ∷ [])
+  pub set :
+      literals chain (whole (pos 2)) two_tokens ≡ tokens (true ∷ true ∷ false ∷ false ∷ false ∷ [])
   pub untouched : literals chain (whole (pos 3)) two_tokens ≡ two_tokens
   pub cleared : literals chain (whole (pos 5)) one_token ≡ no_token
   pub to_line : until chain lines_to_nine (at_time 0 0) ≡ whole (pos 1)

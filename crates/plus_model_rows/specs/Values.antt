@@ -1,12 +1,13 @@
--- Worked rows of values and conditions. The state has the atoms 0 (true) and 1 (false), and the fluents 0 (6), 1 (4)
--- and 2 (no value).
+-- Worked rows of values and conditions. The state has the atoms 0 (true) and 1 (false), and the
+-- fluents 0 (6), 1 (4) and 2 (no value).
 use Rattle.std.specs.Prelude.{◌≡◌, Bool, true, false, [], ◌∷◌, Some, None, pos, negsuc}
 use Rattle.plus_fraction.specs.Fraction.{Fraction, whole, over}
 use Rattle.plus_model.specs.Terms.{Expression, Number, Fluent, Sum, Difference, Product, Quotient, Test, Below, AtMost, Same, AtLeast, Above, Always, Never, Both, Either, Atom, Compare, State}
 use Rattle.plus_model.specs.Value.{value, holds}
 
 abbrev pub some_values : State
-some_values = record { atoms = true ∷ false ∷ []; fluents = Some (whole (pos 6)) ∷ Some (whole (pos 4)) ∷ None ∷ [] }
+some_values =
+    record { atoms = true ∷ false ∷ []; fluents = Some (whole (pos 6)) ∷ Some (whole (pos 4)) ∷ None ∷ [] }
 
 abbrev pub six : Expression
 six = Fluent 0
@@ -32,7 +33,8 @@ pub record ValueRows : Type 0 where
   pub by_zero : value (Quotient six (Difference four four)) some_values ≡ None
   pub left_undefined : value (Sum unknown four) some_values ≡ None
   pub right_undefined : value (Product four unknown) some_values ≡ None
-  pub nested : value (Difference (Product six six) (Quotient four (Number (whole (pos 8))))) some_values ≡ Some (over (pos 71) 2)
+  pub nested :
+      value (Difference (Product six six) (Quotient four (Number (whole (pos 8))))) some_values ≡ Some (over (pos 71) 2)
 
 -- the comparison holds of 4 and 6, of 6 and 6, of 6 and 4
 abbrev pub three : Test → Bool × Bool × Bool
