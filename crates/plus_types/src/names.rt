@@ -1,0 +1,59 @@
+//! A table of names, numbered in the order in which they were declared.
+
+ghost use Rattle.std.specs.Prelude.{◌≡◌, ◌<◌, [], ◌∷◌, ◌++◌, not, length, position, IfOk, IfSome, OnErr, if◌then◌else◌};
+ghost use Rattle.std.specs.List.{list_any};
+ghost use Rattle.std.specs.Str.{bytes_eq};
+
+use indexmap::IndexSet;
+use std::alloc::{AllocError, Global};
+use std::marker::Model;
+
+/// Names without repeats, in the order in which they were added.
+#[derive(Drop)]
+pub struct Names {
+    table: IndexSet<Vec<u8>>,
+}
+
+impl Model for Names {
+    ghost use Rattle.std.specs.Prelude.{List, ℕ, map};
+
+    ghost Value = { List (List ℕ) };
+
+    ghost view = { λ n. map (λ key. key.items) n.table.keys };
+}
+
+impl Names {
+    /// The table without any name.
+    pub fn new(alloc: Global) -> Names
+        ensures { result ≡ [] }
+    {
+        Names {
+            table: IndexSet::new(alloc),
+        }
+    }
+
+    /// Adds a name at the end, and answers whether it was new.
+    pub fn add(&mut self, alloc: Global, name: &[u8]) -> Result<bool, AllocError>
+        ensures fresh { IfOk result (λ fresh. fresh ≡ not (list_any (bytes_eq name.now) self.old)) }
+        ensures added { IfOk result (λ fresh. self.new ≡ (if fresh then self.old ++ name.now ∷ [] else self.old)) }
+    {
+        let key = Vec::from_slice(alloc, name)?;
+        let (_, fresh) = self.table.insert_full(key)?;
+        Ok(fresh)
+    }
+
+    /// The number of a name: its place, from 0.
+    pub fn number(&self, name: &[u8]) -> Option<usize>
+        ensures place { result ≡ position (bytes_eq name.now) self.now }
+        ensures within { IfSome result (λ i. i < length self.now) }
+    {
+        self.table.get_index_of(name)
+    }
+
+    /// Whether a name is in the table.
+    pub fn contains(&self, name: &[u8]) -> bool
+        ensures { result ≡ list_any (bytes_eq name.now) self.now }
+    {
+        self.table.contains(name)
+    }
+}
