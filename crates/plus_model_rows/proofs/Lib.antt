@@ -9,3 +9,4 @@ pub mod TankRow
 pub mod DoorRow
 pub mod MixedRow
 pub mod AfterRow
+pub mod TokenRow

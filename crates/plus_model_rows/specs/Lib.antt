@@ -5,3 +5,4 @@ pub mod Rises
 pub mod Tank
 pub mod Door
 pub mod Mixed
+pub mod Token

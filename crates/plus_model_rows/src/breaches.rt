@@ -10,6 +10,7 @@ ghost use Rattle.plus_model_rows.specs.Door.{locked_plan, locked_history};
 ghost use Rattle.plus_model_rows.specs.Door.{closed_plan, closed_history};
 ghost use Rattle.plus_model_rows.specs.Door.{unknown_plan, wrong_plan, lines_to_one};
 ghost use Rattle.plus_model_rows.specs.Door.{ended_at_one, ended_history};
+ghost use Rattle.plus_model_rows.specs.Token.{loop_world, loop_plan, loop_history};
 ghost use Rattle.plus_model_rows.specs.Mixed.{missing, copy_plan, missing_history};
 ghost use Rattle.plus_model_rows.specs.Rises.{to_eight, values, enter, over_world, over_history};
 ghost use Rattle.plus_model_rows.specs.Rises.{again_world, again_history, clash_world, clash_history};
@@ -94,4 +95,9 @@ pub fn at_once_row()
 /// A process that starts just after the moment has a rate on a fluent without value.
 pub fn starting_row()
     ensures { Breaks starting_world to_eight (enter 0 starting_world.initial ∷ []) (NoValue 1) }
+{}
+
+/// Two events make each other hold: after two rounds the first would fire again.
+pub fn loop_row()
+    ensures { Breaks loop_world loop_plan loop_history (Repeats 0) }
 {}

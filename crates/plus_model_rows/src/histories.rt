@@ -3,6 +3,8 @@ ghost use Rattle.plus_model.specs.Trajectory.{Trajectory};
 ghost use Rattle.plus_model_rows.specs.Door.{door, door_plan, door_history};
 ghost use Rattle.plus_model_rows.specs.Mixed.{mixed, mixed_plan, mixed_history};
 ghost use Rattle.plus_model_rows.specs.Mixed.{missing, missing_plan, missing_history};
+ghost use Rattle.plus_model_rows.specs.Token.{set_world, set_plan, set_history};
+ghost use Rattle.plus_model_rows.specs.Token.{timed_world, token_plan, token_history};
 ghost use Rattle.plus_model_rows.specs.Tank.{tank, tank_plan, tank_history};
 ghost use Rattle.plus_model_rows.specs.Tank.{timed_tank, timed_plan, timed_history};
 ghost use Rattle.plus_model_rows.specs.Rises.{to_eight, side_world, side_history};
@@ -46,4 +48,14 @@ pub fn mixed_row()
 /// The empty plan, where the goal negates a comparison whose side has no value.
 pub fn missing_row()
     ensures { Trajectory missing missing_plan missing_history }
+{}
+
+/// An event fires again at one moment, after an action.
+pub fn set_row()
+    ensures { Trajectory set_world set_plan set_history }
+{}
+
+/// An event fires at two moments, each time after a literal that sets what it waits for.
+pub fn token_row()
+    ensures { Trajectory timed_world token_plan token_history }
 {}
