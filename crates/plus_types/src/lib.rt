@@ -8,3 +8,4 @@ mod walk;
 
 pub use faults::{File, TypeFault, Wrong};
 pub use names::Names;
+pub use typed::{Typed, check};
