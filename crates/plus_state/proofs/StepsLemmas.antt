@@ -1,14 +1,16 @@
 -- What the steps of a write come to.
 use Rattle.std.proofs.Common.{◌≡◌, ℕ, Bool, true, false, List, [], ◌∷◌, ◌++◌, map, refl, ap, subst, ◌∙◌, inl, inr}
-use Rattle.std.specs.Prelude.{Option, Some, None, Result, Ok, Err, if◌then◌else◌}
-use Rattle.plus_fraction.specs.Fraction.{Fraction, ◌/ℚ◌}
+use Rattle.std.specs.Prelude.{Option, Some, None, if◌then◌else◌}
+use Rattle.plus_fraction.specs.Fraction.{Fraction}
 use Rattle.plus_model.specs.Terms.{Expression, State, Effect}
 use Rattle.plus_model.specs.Value.{value, is_zero, holds}
-use Rattle.plus_model.specs.Joint.{Fault, NoValue, Change, Becomes, given, change_of}
+use Rattle.plus_model.specs.Joint.{NoValue}
+use Rattle.plus_state.specs.declared.term.AssignOp.{AssignOp}
+use Rattle.plus_state.specs.Due.{Due, updates, due_update, due_write, due_effect}
 use Rattle.plus_state.specs.Node.{Node}
 use Rattle.plus_state.specs.Asked.{nodes, AllFit, FirstUnfit}
 use Rattle.plus_state.specs.Tests.{tests_of}
-use Rattle.plus_state.specs.Steps.{guarded, effect_steps, effect_change, as_some, write_steps, Step, asks, fault, AllPass, FirstStop, need, need_divisor, amount_steps}
+use Rattle.plus_state.specs.Steps.{guarded, effect_steps, write_steps, Step, asks, fault, AllPass, FirstStop, need, need_divisor, amount_steps}
 
 pub pass_none : (fits : Fraction → Type 0) → AllPass fits []
 unfolding AllPass
@@ -71,13 +73,11 @@ module _ (fits : Fraction → Type 0) (f : ℕ) (e : Expression) (s : State) whe
   unfolding amount_steps
   amount_unfit m h = stop_left fits _ _ _ (stop_nodes fits _ m h)
 
-pub given_some : {A : Type 0} (f : ℕ) (o : Option Fraction) (g : Fraction → Result A Fault) (x : Fraction) (r : Result A Fault) → Some x ≡ o → r ≡ g x → r ≡ given f o g
-given_some f o g x r e h = h ∙ ap (λ w. given f w g) e
+-- the write that is due by an amount
+pub due_some : (d : Due) (f : ℕ) (op : AssignOp) (o : Option Fraction) (x : Fraction) → d ≡ updates f (record { op = op; amount = x }) → Some x ≡ o → d ∷ [] ≡ due_update f op o
+due_some d f op o x k e = ap (λ w. w ∷ []) k ∙ ap (due_update f op) e
 
-pub shrink_is : (f : ℕ) (x v : Fraction) → false ≡ is_zero x → Ok (Becomes f (v /ℚ x)) ≡ (if is_zero x then Err (NoValue f) else Ok (Becomes f (v /ℚ x)))
-shrink_is f x v z = ap (λ (b : Bool). if b then Err (NoValue f) else Ok (Becomes f (v /ℚ x))) z
-
-pub ruleset stepping = (pass_none, pass_append, stop_left, stop_right, need_pass, need_stop, divisor_pass, divisor_stop, amount_pass, amount_missing, amount_unfit, given_some, shrink_is)
+pub ruleset stepping = (pass_none, pass_append, stop_left, stop_right, need_pass, need_stop, divisor_pass, divisor_stop, amount_pass, amount_missing, amount_unfit, due_some)
 
 module _ (fits : Fraction → Type 0) (e : Effect) (s : State) where
   pub guard_unfit : (m : Node) → FirstUnfit fits (tests_of e.guard s) m → FirstStop fits (effect_steps e s) (asks m)
@@ -96,10 +96,10 @@ module _ (fits : Fraction → Type 0) (e : Effect) (s : State) where
   unfolding effect_steps
   guard_stop m a h w = stop_right fits _ _ _ (pass_nodes fits _ a) (subst (λ (b : Bool). FirstStop fits (guarded b (write_steps e.write s)) m) h w)
 
-pub change_false : (e : Effect) (s : State) → false ≡ holds e.guard s → Ok None ≡ effect_change e s
-change_false e s h = ap (λ (b : Bool). if b then as_some (change_of e.write s) else Ok None) h
+pub due_false : (e : Effect) (s : State) → false ≡ holds e.guard s → [] ≡ due_effect e s
+due_false e s h = ap (λ (b : Bool). if b then due_write e.write s else []) h
 
-pub change_true : (e : Effect) (s : State) (c : Change) → true ≡ holds e.guard s → Ok c ≡ change_of e.write s → Ok (Some c) ≡ effect_change e s
-change_true e s c h k = ap as_some k ∙ ap (λ (b : Bool). if b then as_some (change_of e.write s) else Ok None) h
+pub due_true : (e : Effect) (s : State) (ds : List Due) → true ≡ holds e.guard s → ds ≡ due_write e.write s → ds ≡ due_effect e s
+due_true e s ds h k = k ∙ ap (λ (b : Bool). if b then due_write e.write s else []) h
 
-pub ruleset guarding = (guard_unfit, guard_false, guard_true, guard_stop, change_false, change_true)
+pub ruleset guarding = (guard_unfit, guard_false, guard_true, guard_stop, due_false, due_true)

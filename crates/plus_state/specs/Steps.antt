@@ -1,31 +1,34 @@
--- What a joint effect asks: nodes, and faults, which always stop.
-use Rattle.std.specs.Prelude.{◌≡◌, ◌⊎◌, ℕ, List, [], ◌∷◌, ◌++◌, map, Option, Some, None, Bool, true, false, Result, Ok, Err, if◌then◌else◌}
-use Rattle.plus_fraction.specs.Fraction.{Fraction, ◌*ℚ◌, ◌/ℚ◌, neg_ℚ}
+-- What a joint effect asks, in the order of evaluation (this project's profile): nodes, and faults, which always stop.
+-- First each effect in the order added: its guard, and where that holds the amount of its write and then the present
+-- value of the fluent, where the write needs it. Then the fluents in ground order for writes that clash. Then the fluents
+-- in ground order once more: each write on a fluent, in the order added, is a node on the value that the writes before it made.
+use Rattle.std.specs.Prelude.{◌≡◌, ◌⊎◌, ℕ, suc, List, [], ◌∷◌, ◌++◌, map, Option, Some, None, Bool, true, false, if◌then◌else◌}
+use Rattle.plus_fraction.specs.Fraction.{Fraction}
 use Rattle.plus_model.specs.Terms as model
-use Rattle.plus_model.specs.Terms.{State, Expression}
+use Rattle.plus_model.specs.Terms.{State, Expression, Effect}
 use Rattle.plus_model.specs.Value.{value, is_zero, fluent_of, holds}
-use Rattle.plus_model.specs.Joint as joint
-use Rattle.plus_model.specs.Joint.{Fault, NoValue, Gains, Loses, Becomes, Moves}
-use Rattle.plus_state.specs.declared.joint_effect.Change.{Change}
-use Rattle.plus_state.specs.declared.joint_effect.Change.TheVariants.{Gain, Lose, Become, Raise, Lower, Grow, Shrink}
-use Rattle.plus_state.specs.declared.joint_effect.Halt.{Halt}
-use Rattle.plus_state.specs.declared.joint_effect.Halt.TheVariants.{Missing, Number}
-use Rattle.plus_state.specs.declared.joint_effect.AddStop.{AddStop}
-use Rattle.plus_state.specs.declared.joint_effect.AddStop.TheVariants.{Halted, OutOfMemory}
-use Rattle.plus_state.specs.View.{overflow_of}
+use Rattle.plus_model.specs.Joint.{Fault, NoValue, Conflict}
+use Rattle.plus_state.specs.declared.term.AssignOp.{AssignOp}
+use Rattle.plus_state.specs.declared.term.AssignOp.TheVariants.{Assign, Increase, Decrease, ScaleUp, ScaleDown}
+use Rattle.plus_state.specs.declared.term.Sign.{Sign}
+use Rattle.plus_state.specs.declared.term.Sign.TheVariants.{Plus, Minus, Times, Divide}
 use Rattle.plus_state.specs.Node.{Node}
-use Rattle.plus_state.specs.Asked.{nodes, result_of}
+use Rattle.plus_state.specs.Asked.{nodes, node_of, result_of}
 use Rattle.plus_state.specs.Tests.{tests_of}
+use Rattle.plus_state.specs.Due.{Update, Due, dues, by_fluent, clash, updated}
 
+-- a step of the evaluation: a node, which stops where its exact result is no value, or a fault
 pub data Step : Type 0 where
   asks : Node → Step
   fault : Fault → Step
 
+-- no step stops
 unfoldable pub AllPass : (Fraction → Type 0) → List Step → Type 0
 AllPass fits [] = Unit {0}
 AllPass fits (asks n ∷ ns) = fits (result_of n.sign n.left n.right) × AllPass fits ns
 AllPass fits (fault f ∷ ns) = ⊥
 
+-- the first step that stops
 unfoldable pub FirstStop : (Fraction → Type 0) → List Step → Step → Type 0
 FirstStop fits [] m = ⊥
 FirstStop fits (asks n ∷ ns) m = ((fits (result_of n.sign n.left n.right) → ⊥) × (m ≡ asks n)) ⊎ (fits (result_of n.sign n.left n.right) × FirstStop fits ns m)
@@ -36,6 +39,7 @@ unfoldable pub need : ℕ → Option Fraction → List Step
 need f None = fault (NoValue f) ∷ []
 need f (Some x) = []
 
+-- an amount that is not to be zero
 unfoldable pub need_divisor : ℕ → Option Fraction → List Step
 need_divisor f None = []
 need_divisor f (Some x) = if is_zero x then fault (NoValue f) ∷ [] else []
@@ -53,50 +57,54 @@ write_steps (model.Decrease f e) s = amount_steps f e s ++ need f (fluent_of s f
 write_steps (model.ScaleUp f e) s = amount_steps f e s ++ need f (fluent_of s f)
 write_steps (model.ScaleDown f e) s = amount_steps f e s ++ (need f (fluent_of s f) ++ need_divisor f (value e s))
 
--- what effects ask in the order added: each its guard, and where that holds its write
 abbrev pub guarded : Bool → List Step → List Step
 guarded true ns = ns
 guarded false ns = []
 
-unfoldable pub effect_steps : model.Effect → State → List Step
+-- what an effect asks: its guard, and where that holds its write
+unfoldable pub effect_steps : Effect → State → List Step
 effect_steps e s = map asks (tests_of e.guard s) ++ guarded (holds e.guard s) (write_steps e.write s)
 
-abbrev pub add_steps : List model.Effect → State → List Step
+-- what effects ask in the order added
+abbrev pub add_steps : List Effect → State → List Step
 add_steps [] s = []
 add_steps (e ∷ es) s = effect_steps e s ++ add_steps es s
 
--- the change of one effect, if its guard holds
-abbrev pub as_some : Result joint.Change Fault → Result (Option joint.Change) Fault
-as_some (Ok c) = Ok (Some c)
-as_some (Err e) = Err e
+-- writes that clash
+abbrev pub clash_steps : ℕ → List (List Update) → List Step
+clash_steps f [] = []
+clash_steps f (us ∷ rest) = (if clash us then fault (Conflict f) ∷ [] else []) ++ clash_steps (suc f) rest
 
-abbrev pub effect_change : model.Effect → State → Result (Option joint.Change) Fault
-effect_change e s = if holds e.guard s then as_some (joint.change_of e.write s) else Ok None
+-- the node of a write on a fluent with this value
+abbrev pub combined_nodes : Sign → Option Fraction → Fraction → List Node
+combined_nodes sign None x = []
+combined_nodes sign (Some w) x = node_of sign w x
 
--- the node of a scaling is asked only when the joint effect ends
-abbrev pub change_view : {Q : Type 0} → (Q → Fraction) → Change Q → joint.Change
-change_view v (Gain a) = Gains a.0
-change_view v (Lose a) = Loses a.0
-change_view v (Become f x) = Becomes f.0 (v x)
-change_view v (Raise f x) = Moves f.0 (v x)
-change_view v (Lower f x) = Moves f.0 (neg_ℚ (v x))
-change_view v (Grow f w x) = Becomes f.0 (v w *ℚ v x)
-change_view v (Shrink f w x) = Becomes f.0 (v w /ℚ v x)
+abbrev pub updated_nodes : AssignOp → Fraction → Option Fraction → List Node
+updated_nodes Assign x v = []
+updated_nodes Increase x v = combined_nodes Plus v x
+updated_nodes Decrease x v = combined_nodes Minus v x
+updated_nodes ScaleUp x v = combined_nodes Times v x
+updated_nodes ScaleDown x v = combined_nodes Divide v x
 
-abbrev pub halt_of : {Q : Type 0} → (Q → Fraction) → Halt Q → Step
-halt_of v (Missing f) = fault (NoValue f.0)
-halt_of v (Number o) = asks (overflow_of v o)
+-- write by write
+abbrev pub all_updated_nodes : List Update → Option Fraction → List Node
+all_updated_nodes [] v = []
+all_updated_nodes (u ∷ us) v = updated_nodes u.op u.amount v ++ all_updated_nodes us (updated u.op u.amount v)
 
-abbrev pub as_list : {A : Type 0} → Option A → List A
-as_list None = []
-as_list (Some x) = x ∷ []
+-- fluent by fluent
+abbrev pub fluents_nodes : List (List Update) → List (Option Fraction) → List Node
+fluents_nodes [] vs = []
+fluents_nodes (us ∷ rest) [] = []
+fluents_nodes (us ∷ rest) (v ∷ vs) = all_updated_nodes us v ++ fluents_nodes rest vs
 
--- changes behind those that are there
-abbrev pub after : List joint.Change → Result (List joint.Change) Fault → Result (List joint.Change) Fault
-after done (Err e) = Err e
-after done (Ok cs) = Ok (done ++ cs)
+-- what the end of a joint effect asks
+abbrev pub fluents_steps : List (List Update) → List (Option Fraction) → List Step
+fluents_steps all vs = clash_steps 0 all ++ map asks (fluents_nodes all vs)
 
--- what stopped: a step, or want of memory
-abbrev pub StopIs : {Q : Type 0} → (Q → Fraction) → (Fraction → Type 0) → List Step → AddStop Q → Type 0
-StopIs v fits ns (Halted h) = FirstStop fits ns (halt_of v h)
-StopIs v fits ns OutOfMemory = Unit {0}
+unfoldable pub end_steps : List Due → State → List Step
+end_steps ds s = fluents_steps (by_fluent 0 ds s.fluents) s.fluents
+
+-- what a joint effect asks as a whole
+unfoldable pub joint_steps : List Effect → State → List Step
+joint_steps es s = add_steps es s ++ end_steps (dues es s) s

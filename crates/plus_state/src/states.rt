@@ -1,5 +1,5 @@
 // A state over a type of exact fractions, whose contracts see the model's state.
-ghost use Rattle.std.specs.Prelude.{◌≡◌, ◌<◌, Bool, false, Option, None, length, map, option_map, replicate, slice_set, IfOk};
+ghost use Rattle.std.specs.Prelude.{◌≡◌, ◌<◌, ◌^◌, Bool, false, Option, None, length, map, option_map, replicate, slice_set, IfOk};
 ghost use Rattle.plus_fraction.specs.Fraction.{Fraction};
 ghost use Rattle.plus_model.specs.Terms.{State as Meant};
 ghost use Rattle.plus_model.specs.Value.{fluent_of, atom_of};
@@ -22,6 +22,8 @@ impl<Q: Exact> Model for State<Q> {
     ghost coded = { coded_state };
 
     ghost view = { λ s. record { atoms = s.truths.items; fluents = map (option_map Q.value) s.values.items } };
+
+    ghost invariant = { λ s. (length s.truths.items < 2 ^ 32) × (length s.values.items < 2 ^ 32) };
 }
 
 impl<Q: Exact> State<Q> {
@@ -65,6 +67,13 @@ impl<Q: Exact> State<Q> {
         ensures { option_map Q.value result ≡ fluent_of self.now fluent.0 }
     {
         self.values[fluent.0 as usize]
+    }
+
+    /// The number of fluents.
+    pub fn fluents(&self) -> u32
+        ensures { result ≡ length self.now.fluents }
+    {
+        self.values.len() as u32
     }
 
     // An equal state.
