@@ -1,0 +1,1 @@
+// What a caller of a timeline may rely on, over the definitions alone.

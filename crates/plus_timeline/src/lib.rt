@@ -1,0 +1,11 @@
+//! Plays a plan over a ground problem, one part of its history at a time.
+#![tactic(auto)]
+
+pub mod laws;
+pub mod next;
+pub mod stop;
+pub mod timeline;
+
+pub use next::Next;
+pub use stop::Stop;
+pub use timeline::Timeline;

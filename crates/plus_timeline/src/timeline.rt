@@ -1,0 +1,340 @@
+// A timeline: a history that is played one part at a time, and of which only the view is kept.
+ghost use Rattle.std.specs.Prelude.{◌≡◌, ◌≤◌, ◌<◌, ℕ, suc, Bool, true, false, Option, Some, None, List, [], length, map, option_map, unwrap_or, IfOk, OnOk, OnErr};
+ghost use Rattle.plus_fraction.specs.Fraction.{◌<ℚ◌};
+ghost use Rattle.plus_model.specs.History.{view_after, Enter, Run as Runs};
+ghost use Rattle.plus_model.specs.Trajectory.{is_below};
+ghost use Rattle.plus_state.specs.View.{problem_of};
+ghost use Rattle.plus_state.specs.Fits.{StateFits, ProblemFits};
+ghost use Rattle.plus_timeline.specs.Still.{IsStill, Serves};
+ghost use Rattle.plus_timeline.specs.Timeline.{TimelineView, begun, next_of, event_numbers, process_numbers};
+ghost use Rattle.plus_timeline.specs.Stops.{IsGoing, BreachExactly, LimitExactly, EndedExactly};
+ghost use Rattle.plus_timeline.specs.Finish.{IsPaused, GoalIs, BreaksFinish, LimitsFinish, TakesNoMemory};
+ghost use Rattle.plus_timeline.specs.Advance.{IsAhead, Advances, BreaksAdvance, LimitsAdvance, RunsBy, FullBy};
+
+use crate::next::Next;
+use crate::stop::Stop;
+use plus_number::consts::zero;
+use plus_number::exact::Exact;
+use plus_state::outcome::{Breach, Limit};
+use plus_state::problem::Ground;
+use plus_state::states::State;
+use plus_state::term::{EventId, Overflow, ProcessId, Sign};
+use plus_state::truth::holds;
+use std::alloc::{AllocError, Global};
+use std::cmp::Ordering;
+use std::marker::Model;
+
+/// A history that is played one part at a time. It keeps no parts, but what the next one depends on,
+/// and what the last one was.
+#[derive(Drop)]
+pub struct Timeline<Q: Exact> {
+    alloc: Global,
+    time: Q,
+    state: State<Q>,
+    // where there is none, it is `state`
+    before: Option<State<Q>>,
+    // where there is none, it is the one before
+    arrival: Option<State<Q>>,
+    events: Vec<EventId>,
+    running: Vec<ProcessId>,
+    lines: u64,
+    entries: u64,
+    most: u64,
+    answer: Option<Next<Q>>,
+    acted: bool,
+    ended: bool,
+}
+
+impl<Q: Exact> Model for Timeline<Q> {
+    ghost use Rattle.std.specs.Prelude.{◌≡◌, [], false, length, option_map, unwrap_or};
+    ghost use Rattle.plus_timeline.specs.Timeline.{TimelineView};
+    ghost use Rattle.plus_timeline.specs.TimelineCode.{coded_timeline};
+
+    ghost Value = { TimelineView };
+
+    ghost coded = { coded_timeline };
+
+    ghost use Rattle.plus_timeline.specs.Timeline.{next_of, event_numbers, process_numbers, running_by, Keeps};
+
+    ghost view = { λ t. record {
+      now = record {
+        time = Q.value t.time;
+        state = t.state;
+        fired = [];
+        running = running_by (option_map (next_of Q.value) t.answer) (process_numbers t.running.items);
+        acted = t.lines;
+      };
+      before = unwrap_or t.before t.state;
+      arrival = unwrap_or t.arrival (unwrap_or t.before t.state);
+      literal = false;
+      events = event_numbers t.events.items;
+      running = process_numbers t.running.items;
+      entries = t.entries;
+      most = t.most;
+      answer = option_map (next_of Q.value) t.answer;
+      acted = t.acted;
+      ended = t.ended;
+      atoms = length (t.state.atoms);
+      fluents = length (t.state.fluents);
+    } };
+
+    ghost invariant = { λ t. Keeps t.state (unwrap_or t.before t.state)
+        (unwrap_or t.arrival (unwrap_or t.before t.state))
+        (length (t.state.atoms)) (length (t.state.fluents)) (process_numbers t.running.items)
+        (option_map (next_of Q.value) t.answer) t.entries t.most };
+}
+
+fn is_earlier<Q: Exact>(time: Q, other: Q) -> bool
+    ensures { result ≡ is_below (Q.value time) (Q.value other) }
+{
+    match time.order(other) {
+        Ordering::Less => true,
+        Ordering::Equal => false,
+        Ordering::Greater => false,
+    }
+}
+
+impl<Q: Exact> Timeline<Q> {
+    /// A timeline for this problem: the first entry, at time 0. `happenings` entries are allowed.
+    pub fn begin(
+        alloc: Global,
+        ground: &Ground<Q>,
+        happenings: u64,
+    ) -> Result<Timeline<Q>, AllocError>
+        requires some { 1 ≤ happenings }
+        requires fits { ProblemFits (problem_of Q.value ground.now) }
+        requires still { IsStill (problem_of Q.value ground.now) }
+        ensures { IfOk result (λ t. t ≡ begun (problem_of Q.value ground.now) happenings) }
+    {
+        Ok(Timeline {
+            alloc,
+            time: zero(),
+            state: ground.initial.copy(alloc)?,
+            before: None,
+            arrival: None,
+            events: Vec::new(alloc),
+            running: Vec::new(alloc),
+            lines: 0,
+            entries: 1,
+            most: happenings,
+            answer: None,
+            acted: false,
+            ended: false,
+        })
+    }
+
+    /// Does one thing, and says which: a round fires, the entry is closed with a running set, the next
+    /// entry is begun, or the time asked for is reached.
+    pub fn advance(&mut self, ground: &Ground<Q>, until: Q) -> Result<Next<Q>, Stop<Q>>
+        requires serves { IsGoing self.old → Serves (problem_of Q.value ground.now) self.old }
+        requires ahead { IsGoing self.old →
+            IsAhead (self.old.now.running) (self.old.now.time) (Q.value until) }
+        ensures ok { IfOk result
+            (Advances Q.value (problem_of Q.value ground.now) (Q.value until) self.old self.new) }
+        ensures breach { BreachExactly
+            (BreaksAdvance Q.value (problem_of Q.value ground.now) (Q.value until) self.old) result }
+        ensures limit { LimitExactly
+            (LimitsAdvance Q.value Q.fits (problem_of Q.value ground.now) (Q.value until) self.old)
+            result }
+        ensures ended { EndedExactly self.old result }
+        ensures refused { OnErr result (self.new ≡ record (self.old) { ended = true }) }
+    {
+        if self.has_ended() {
+            return Err(Stop::Ended);
+        }
+        let time = self.time();
+        if self.is_running() {
+            return match until.sub(time) {
+                Ok(_) => {
+                    self.begin_entry(until);
+                    Ok(Next::Entry { time: until })
+                }
+                Err(_) => {
+                    self.end();
+                    Err(Stop::Limit(Limit::Number(Overflow {
+                        sign: Sign::Minus,
+                        left: until,
+                        right: time,
+                    })))
+                }
+            };
+        }
+        if !is_earlier(time, until) {
+            self.arrive();
+            return Ok(Next::There);
+        }
+        if self.is_full() {
+            let most = self.most();
+            self.end();
+            return Err(Stop::Limit(Limit::Happenings(most)));
+        }
+        self.close_entry();
+        Ok(Next::Run)
+    }
+
+    /// Whether the goal holds. Afterwards the timeline has ended.
+    pub fn finish(&mut self, ground: &Ground<Q>) -> Result<(), Stop<Q>>
+        requires serves { IsGoing self.old → Serves (problem_of Q.value ground.now) self.old }
+        requires paused { IsGoing self.old → IsPaused self.old }
+        ensures ok { OnOk result (GoalIs Q.fits (problem_of Q.value ground.now) self.old true) }
+        ensures breach { BreachExactly
+            (BreaksFinish Q.fits (problem_of Q.value ground.now) self.old) result }
+        ensures limit { LimitExactly
+            (LimitsFinish Q.value Q.fits (problem_of Q.value ground.now) self.old) result }
+        ensures ended { EndedExactly self.old result }
+        ensures memory { TakesNoMemory result }
+        ensures after { self.new ≡ record (self.old) { ended = true } }
+    {
+        if self.has_ended() {
+            return Err(Stop::Ended);
+        }
+        let truth = holds(&ground.goal, self.state());
+        self.end();
+        match truth {
+            Ok(true) => Ok(()),
+            Ok(false) => Err(Stop::Breach(Breach::Goal)),
+            Err(overflow) => Err(Stop::Limit(Limit::Number(overflow))),
+        }
+    }
+
+    /// The present time.
+    pub fn time(&self) -> Q
+        ensures { Q.value result ≡ self.now.now.time }
+    {
+        self.time
+    }
+
+    /// The present state.
+    pub fn state(&self) -> &State<Q>
+        ensures state { result.now ≡ self.now.now.state }
+        ensures fits { StateFits (self.now.atoms) (self.now.fluents) result.now }
+    {
+        &self.state
+    }
+
+    /// The state on arrival in the present entry, before its timed literals.
+    pub fn arrival(&self) -> &State<Q>
+        ensures state { result.now ≡ self.now.arrival }
+        ensures fits { StateFits (self.now.atoms) (self.now.fluents) result.now }
+    {
+        match &self.arrival {
+            Some(state) => state,
+            None => match &self.before {
+                Some(state) => state,
+                None => &self.state,
+            },
+        }
+    }
+
+    /// The state before the last round, action or stretch, and the initial state where there was none.
+    pub fn before(&self) -> &State<Q>
+        ensures state { result.now ≡ self.now.before }
+        ensures fits { StateFits (self.now.atoms) (self.now.fluents) result.now }
+    {
+        match &self.before {
+            Some(state) => state,
+            None => &self.state,
+        }
+    }
+
+    /// The events of the last round.
+    pub fn events(&self) -> &[EventId]
+        ensures { event_numbers result.now ≡ self.now.events }
+    {
+        &self.events
+    }
+
+    /// The last running set.
+    pub fn running(&self) -> &[ProcessId]
+        ensures { process_numbers result.now ≡ self.now.running }
+    {
+        &self.running
+    }
+
+    /// Whether the present entry has a timed literal.
+    pub fn has_literals(&self) -> bool
+        ensures { result ≡ self.now.literal }
+    {
+        let _ = &self.most;
+        false
+    }
+
+    fn has_ended(&self) -> bool
+        ensures { result ≡ self.now.ended }
+    {
+        self.ended
+    }
+
+    // Whether the last part is a running set; it is empty then, and a further entry is allowed.
+    fn is_running(&self) -> bool
+        ensures { RunsBy result self.now }
+    {
+        matches!(self.answer, Some(Next::Run))
+    }
+
+    // Whether all entries that are allowed are done.
+    fn is_full(&self) -> bool
+        ensures { FullBy result self.now }
+    {
+        self.entries == self.most
+    }
+
+    fn most(&self) -> u64
+        ensures { result ≡ self.now.most }
+    {
+        self.most
+    }
+
+    fn end(&mut self)
+        ensures { self.new ≡ record (self.old) { ended = true } }
+    {
+        self.ended = true;
+    }
+
+    fn arrive(&mut self)
+        ensures { self.new ≡ record (self.old) {
+          now = record (self.old.now) { running = None };
+          answer = Some Next.There;
+          acted = false;
+        } }
+    {
+        self.answer = Some(Next::There);
+        self.acted = false;
+    }
+
+    // Closes the entry with the empty running set.
+    fn close_entry(&mut self)
+        requires { self.old.entries < self.old.most }
+        ensures { self.new ≡ record (self.old) {
+          now = view_after (self.old.now) (Runs []);
+          running = [];
+          answer = Some Next.Run;
+          acted = false;
+        } }
+    {
+        self.running.clear();
+        self.answer = Some(Next::Run);
+        self.acted = false;
+    }
+
+    // Begins the next entry in the same state.
+    fn begin_entry(&mut self, time: Q)
+        requires { self.old.entries < self.old.most }
+        ensures { self.new ≡ record (self.old) {
+          now = view_after (self.old.now) (Enter (Q.value time) (self.old.now.state) (self.old.now.state));
+          before = self.old.now.state;
+          arrival = self.old.now.state;
+          literal = false;
+          entries = suc (self.old.entries);
+          answer = Some (Next.Entry (Q.value time));
+          acted = false;
+        } }
+    {
+        self.time = time;
+        self.before = None;
+        self.arrival = None;
+        self.entries += 1;
+        self.answer = Some(Next::Entry { time });
+        self.acted = false;
+    }
+}
