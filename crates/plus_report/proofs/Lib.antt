@@ -1,2 +1,6 @@
 pub mod ReportLemmas
 pub mod RowsHold
+pub mod PutsLemmas
+pub mod TextLemmas
+pub mod LineLemmas
+pub mod WroteLemmas

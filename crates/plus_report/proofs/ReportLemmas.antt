@@ -5,7 +5,7 @@ use Rattle.plus_model.specs.Terms.{State, Problem}
 use Rattle.plus_model.specs.Plan.{Instance, Line, ActLine, Plan}
 use Rattle.plus_model.specs.History.{Part, Enter, Round, Act, Run, View, view_after, view_from}
 use Rattle.plus_model.specs.Trajectory.{NextBy, Follow, Prefix, first_part, first_view, view_of}
-use Rattle.plus_report.specs.Labels.{Labels}
+use Rattle.plus_state.specs.View.{Labels}
 use Rattle.plus_report.specs.Text.{act_text}
 use Rattle.plus_report.specs.Report.{called_label, part_text, state_after, report_from, report_of}
 

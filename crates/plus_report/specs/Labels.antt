@@ -2,11 +2,6 @@
 use Rattle.std.specs.Prelude.{ℕ, List, [], option_map, slice_get, unwrap_or}
 use Rattle.plus_model.specs.Terms.{Event, Process, Problem}
 
--- those of the ground atoms and of the ground fluents. Events and processes have theirs in the problem
-pub record Labels : Type 0 where
-  pub atoms : List (List ℕ)
-  pub fluents : List (List ℕ)
-
 -- the label of this number
 abbrev pub label_at : List (List ℕ) → ℕ → List ℕ
 label_at labels i = unwrap_or (slice_get labels i) []

@@ -5,7 +5,7 @@ use Rattle.plus_model.specs.Terms.{Same, Timed, State, Problem}
 use Rattle.plus_model.specs.Value.{passes}
 use Rattle.plus_model.specs.Plan.{Instance, UnknownAction, WrongArguments, Line, ActLine, EndLine, Plan}
 use Rattle.plus_model.specs.History.{Part, Enter, Round, Act, Run}
-use Rattle.plus_report.specs.Labels.{Labels}
+use Rattle.plus_state.specs.View.{Labels}
 use Rattle.plus_report.specs.Text.{entry_text, literals_text, round_text, act_text, run_text}
 
 -- a timed initial literal has this time

@@ -4,7 +4,7 @@ use Rattle.plus_model.specs.Terms.{Problem}
 use Rattle.plus_model.specs.Plan.{Line, Plan}
 use Rattle.plus_model.specs.History.{Part}
 use Rattle.plus_model.specs.Trajectory.{Prefix, view_of}
-use Rattle.plus_report.specs.Labels.{Labels}
+use Rattle.plus_state.specs.View.{Labels}
 use Rattle.plus_report.specs.Report.{part_text, report_of}
 
 -- one more part adds its text, after the state of the view

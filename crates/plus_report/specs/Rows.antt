@@ -4,7 +4,7 @@ use Rattle.plus_fraction.specs.Fraction.{Fraction, over, whole}
 use Rattle.plus_model.specs.Terms.{Always, Timed, State, Problem}
 use Rattle.plus_model.specs.Plan.{Instance, Line, ActLine, EndLine, Plan}
 use Rattle.plus_model.specs.History.{Part, Enter, Round, Act, Run}
-use Rattle.plus_report.specs.Labels.{Labels}
+use Rattle.plus_state.specs.View.{Labels}
 use Rattle.plus_report.specs.Report.{report_of}
 
 -- what a report reads of a problem: labels of processes and of events, times of literals, and the initial state

@@ -1,11 +1,12 @@
 -- The lines of a report: what stands for each part of a history. Each line ends in LF; indents are spaces (this project's profile).
-use Rattle.std.specs.Prelude.{ℕ, zero, suc, ◌&&◌, not, ◌==◌, List, [], ◌∷◌, ◌++◌, Option, Some, None, length, codes, decimal, if◌then◌else◌}
+use Rattle.std.specs.Prelude.{ℕ, zero, suc, Bool, ◌&&◌, not, ◌==◌, List, [], ◌∷◌, ◌++◌, Option, Some, None, length, codes, decimal, if◌then◌else◌}
 use Rattle.std.specs.Fmt.{signed_decimal}
 use Rattle.std.specs.List.{flat_map}
 use Rattle.plus_fraction.specs.Fraction.{Fraction, compared}
 use Rattle.plus_model.specs.Terms.{Same, State, Problem}
 use Rattle.plus_model.specs.Value.{passes, atom_of, fluent_of}
-use Rattle.plus_report.specs.Labels.{Labels, label_at, event_label, process_label}
+use Rattle.plus_state.specs.View.{Labels}
+use Rattle.plus_report.specs.Labels.{label_at, event_label, process_label}
 
 abbrev pub newline : List ℕ
 newline = 10 ∷ []
@@ -23,13 +24,16 @@ unfoldable pub lines_below : (ℕ → List ℕ) → ℕ → List ℕ
 lines_below line zero = []
 lines_below line (suc n) = lines_below line n ++ line n
 
--- the label behind a mark, where the atom is in the first state and not in the second
-unfoldable pub lost_line : List ℕ → List (List ℕ) → State → State → ℕ → List ℕ
-lost_line mark labels s s' a = if atom_of s a && not (atom_of s' a) then mark ++ label_at labels a ++ newline else []
+-- the label behind a mark, where the first is so and the second is not
+unfoldable pub mark_line : List ℕ → List ℕ → Bool → Bool → List ℕ
+mark_line mark label was is = if was && not is then mark ++ label ++ newline else []
 
--- `(f a) = v`
+abbrev pub lost_line : List ℕ → List (List ℕ) → State → State → ℕ → List ℕ
+lost_line mark labels s s' a = mark_line mark (label_at labels a) (atom_of s a) (atom_of s' a)
+
+-- `(f a) = v` behind an indent
 unfoldable pub value_line : List ℕ → List ℕ → Fraction → List ℕ
-value_line indent label v = indent ++ label ++ codes " = " ++ fraction_text v ++ newline
+value_line indent label v = indent ++ label ++ codes " = " ++ (fraction_text v ++ newline)
 
 -- the new value, where there is one and it is not the old one
 unfoldable pub new_value_line : List ℕ → List ℕ → Option Fraction → Option Fraction → List ℕ
@@ -58,7 +62,7 @@ labels_text label ids = flat_map (λ i. codes " " ++ label i) ids
 
 -- a moment: its time, and each fluent whose value on arrival is not the one before the stretch
 unfoldable pub entry_text : Labels → Fraction → State → State → List ℕ
-entry_text N t before arrival = codes "at " ++ fraction_text t ++ newline ++ fluents_text (codes "  ") N before arrival
+entry_text N t before arrival = codes "at " ++ (fraction_text t ++ newline) ++ fluents_text (codes "  ") N before arrival
 
 -- what the timed initial literals of a moment change
 unfoldable pub literals_text : Labels → State → State → List ℕ

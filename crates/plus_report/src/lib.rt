@@ -1,4 +1,10 @@
-// The exact bytes of reports and verdict lines.
+//! The exact bytes of reports and verdict lines.
 #![tactic(auto)]
 
+mod changes;
+mod labels;
 pub mod laws;
+mod parts;
+mod put;
+
+pub use parts::{write_act, write_entry, write_literals, write_round, write_run};

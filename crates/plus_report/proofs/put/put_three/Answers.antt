@@ -1,0 +1,11 @@
+use Rattle.plus_report.proofs.PutsLemmas.{both, stop, early}
+use Rattle.plus_report.proofs.put.put_three.Goals as goal
+
+pub returns-in_err-put : goal.returns-in_err-put
+returns-in_err-put g c = let h = c.from_residual.ensures.0 in early _ (early _ (stop c.in_err-put.ensures h) h) h
+
+pub returns-in_err-put-2 : goal.returns-in_err-put-2
+returns-in_err-put-2 g c = let h = c.from_residual-in_err-put-2.ensures.0 in early _ (both c.in_ok-put.ensures (stop c.in_err-put-2.ensures h)) h
+
+pub returns : goal.returns
+returns g c = both (both c.in_ok-put.ensures c.in_ok-put-2.ensures) c.put-3.ensures

@@ -1,0 +1,230 @@
+//! Writers of the parts of a history.
+ghost use Rattle.std.specs.Prelude.{◌≡◌, ◌++◌, codes, length, All, ◌<◌};
+ghost use Rattle.plus_state.specs.View.{labels_of, problem_of};
+ghost use Rattle.plus_state.specs.Fits.{ProblemFits};
+ghost use Rattle.plus_report.specs.Labels.{event_label, process_label};
+ghost use Rattle.plus_report.specs.Puts.{Puts};
+ghost use Rattle.plus_report.specs.Wrote.{Wrote};
+ghost use Rattle.plus_report.specs.Shown.{AreOver, FitsIn, AreEvents, AreProcesses, event_numbers, process_numbers};
+ghost use Rattle.plus_report.specs.Text.{newline, labels_text, entry_text, literals_text, round_text, act_text, run_text};
+
+use crate::changes::{put_changes, put_fluents};
+use crate::labels::{event_label_of, process_label_of};
+use crate::put::{Waiting, flush, put, put_fraction_end, put_three};
+use plus_io::{Failed, Sink};
+use plus_number::exact::Exact;
+use plus_state::{EventId, Ground, Label, ProcessId, State};
+
+fn put_spaced<O: Sink>(out: &mut O, waiting: &mut Waiting, label: &[u8]) -> Result<(), Failed>
+    ensures { Puts O.taken O.faults out.old out.new waiting.old.items waiting.new.items
+        (codes " " ++ label.now) result }
+{
+    put(out, waiting, b" ")?;
+    put(out, waiting, label)
+}
+
+fn put_events<Q: Exact, O: Sink>(
+    out: &mut O,
+    waiting: &mut Waiting,
+    ground: &Ground<Q>,
+    events: &[EventId],
+) -> Result<(), Failed>
+    requires { AreEvents (problem_of Q.value ground.now) events.now }
+    ensures { Puts O.taken O.faults out.old out.new waiting.old.items waiting.new.items
+        (labels_text (event_label (problem_of Q.value ground.now)) (event_numbers events.now)) result }
+{
+    for &event in events {
+        put_spaced(out, waiting, event_label_of(ground, event))?;
+    }
+    Ok(())
+}
+
+fn put_processes<Q: Exact, O: Sink>(
+    out: &mut O,
+    waiting: &mut Waiting,
+    ground: &Ground<Q>,
+    members: &[ProcessId],
+) -> Result<(), Failed>
+    requires { AreProcesses (problem_of Q.value ground.now) members.now }
+    ensures { Puts O.taken O.faults out.old out.new waiting.old.items waiting.new.items
+        (labels_text (process_label (problem_of Q.value ground.now)) (process_numbers members.now)) result }
+{
+    for &process in members {
+        put_spaced(out, waiting, process_label_of(ground, process))?;
+    }
+    Ok(())
+}
+
+fn put_entry<Q: Exact, O: Sink>(
+    out: &mut O,
+    waiting: &mut Waiting,
+    ground: &Ground<Q>,
+    time: Q,
+    before: &State<Q>,
+    arrival: &State<Q>,
+) -> Result<(), Failed>
+    requires { AreOver (labels_of ground.now) before.now arrival.now }
+    ensures { Puts O.taken O.faults out.old out.new waiting.old.items waiting.new.items
+        (entry_text (labels_of ground.now) (Q.value time) before.now arrival.now) result }
+{
+    put(out, waiting, b"at ")?;
+    put_fraction_end(out, waiting, time)?;
+    put_fluents(out, waiting, b"  ", ground, before, arrival)
+}
+
+fn put_literals<Q: Exact, O: Sink>(
+    out: &mut O,
+    waiting: &mut Waiting,
+    ground: &Ground<Q>,
+    arrival: &State<Q>,
+    after: &State<Q>,
+) -> Result<(), Failed>
+    requires { AreOver (labels_of ground.now) arrival.now after.now }
+    ensures { Puts O.taken O.faults out.old out.new waiting.old.items waiting.new.items
+        (literals_text (labels_of ground.now) arrival.now after.now) result }
+{
+    put(out, waiting, b"  literals\n")?;
+    put_changes(out, waiting, ground, arrival, after)
+}
+
+fn put_round<Q: Exact, O: Sink>(
+    out: &mut O,
+    waiting: &mut Waiting,
+    ground: &Ground<Q>,
+    events: &[EventId],
+    before: &State<Q>,
+    after: &State<Q>,
+) -> Result<(), Failed>
+    requires events { AreEvents (problem_of Q.value ground.now) events.now }
+    requires states { AreOver (labels_of ground.now) before.now after.now }
+    ensures { Puts O.taken O.faults out.old out.new waiting.old.items waiting.new.items
+        (round_text (labels_of ground.now) (problem_of Q.value ground.now) (event_numbers events.now) before.now after.now) result }
+{
+    put(out, waiting, b"  events")?;
+    put_events(out, waiting, ground, events)?;
+    put(out, waiting, b"\n")?;
+    put_changes(out, waiting, ground, before, after)
+}
+
+fn put_act<Q: Exact, O: Sink>(
+    out: &mut O,
+    waiting: &mut Waiting,
+    ground: &Ground<Q>,
+    label: &Label,
+    before: &State<Q>,
+    after: &State<Q>,
+) -> Result<(), Failed>
+    requires { AreOver (labels_of ground.now) before.now after.now }
+    ensures { Puts O.taken O.faults out.old out.new waiting.old.items waiting.new.items
+        (act_text (labels_of ground.now) label.now before.now after.now) result }
+{
+    put_three(out, waiting, b"  act ", label.bytes(), b"\n")?;
+    put_changes(out, waiting, ground, before, after)
+}
+
+fn put_run<Q: Exact, O: Sink>(
+    out: &mut O,
+    waiting: &mut Waiting,
+    ground: &Ground<Q>,
+    members: &[ProcessId],
+) -> Result<(), Failed>
+    requires { AreProcesses (problem_of Q.value ground.now) members.now }
+    ensures { Puts O.taken O.faults out.old out.new waiting.old.items waiting.new.items
+        (run_text (problem_of Q.value ground.now) (process_numbers members.now)) result }
+{
+    put(out, waiting, b"  run")?;
+    put_processes(out, waiting, ground, members)?;
+    put(out, waiting, b"\n")
+}
+
+/// Writes a moment: its time, and the fluents whose value on arrival is not the one before the stretch.
+/// For the first entry both states are the initial one.
+pub fn write_entry<Q: Exact, O: Sink>(
+    out: &mut O,
+    ground: &Ground<Q>,
+    time: Q,
+    before: &State<Q>,
+    arrival: &State<Q>,
+) -> Result<(), Failed>
+    requires fits { ProblemFits (problem_of Q.value ground.now) }
+    requires before_fits { FitsIn (problem_of Q.value ground.now) before.now }
+    requires arrival_fits { FitsIn (problem_of Q.value ground.now) arrival.now }
+    ensures { Wrote O.taken O.faults out.old out.new
+        (entry_text (labels_of ground.now) (Q.value time) before.now arrival.now) result }
+{
+    let mut waiting = Waiting::new();
+    put_entry(out, &mut waiting, ground, time, before, arrival)?;
+    flush(out, &mut waiting)
+}
+
+/// Writes what the timed initial literals of a moment change. It follows the moment's entry.
+pub fn write_literals<Q: Exact, O: Sink>(
+    out: &mut O,
+    ground: &Ground<Q>,
+    arrival: &State<Q>,
+    after: &State<Q>,
+) -> Result<(), Failed>
+    requires fits { ProblemFits (problem_of Q.value ground.now) }
+    requires arrival_fits { FitsIn (problem_of Q.value ground.now) arrival.now }
+    requires after_fits { FitsIn (problem_of Q.value ground.now) after.now }
+    ensures { Wrote O.taken O.faults out.old out.new
+        (literals_text (labels_of ground.now) arrival.now after.now) result }
+{
+    let mut waiting = Waiting::new();
+    put_literals(out, &mut waiting, ground, arrival, after)?;
+    flush(out, &mut waiting)
+}
+
+/// Writes events that fire together, and what they change.
+pub fn write_round<Q: Exact, O: Sink>(
+    out: &mut O,
+    ground: &Ground<Q>,
+    events: &[EventId],
+    before: &State<Q>,
+    after: &State<Q>,
+) -> Result<(), Failed>
+    requires fits { ProblemFits (problem_of Q.value ground.now) }
+    requires events { AreEvents (problem_of Q.value ground.now) events.now }
+    requires before_fits { FitsIn (problem_of Q.value ground.now) before.now }
+    requires after_fits { FitsIn (problem_of Q.value ground.now) after.now }
+    ensures { Wrote O.taken O.faults out.old out.new
+        (round_text (labels_of ground.now) (problem_of Q.value ground.now) (event_numbers events.now) before.now after.now) result }
+{
+    let mut waiting = Waiting::new();
+    put_round(out, &mut waiting, ground, events, before, after)?;
+    flush(out, &mut waiting)
+}
+
+/// Writes an action, by its label, and what it changes.
+pub fn write_act<Q: Exact, O: Sink>(
+    out: &mut O,
+    ground: &Ground<Q>,
+    label: &Label,
+    before: &State<Q>,
+    after: &State<Q>,
+) -> Result<(), Failed>
+    requires fits { ProblemFits (problem_of Q.value ground.now) }
+    requires before_fits { FitsIn (problem_of Q.value ground.now) before.now }
+    requires after_fits { FitsIn (problem_of Q.value ground.now) after.now }
+    ensures { Wrote O.taken O.faults out.old out.new
+        (act_text (labels_of ground.now) label.now before.now after.now) result }
+{
+    let mut waiting = Waiting::new();
+    put_act(out, &mut waiting, ground, label, before, after)?;
+    flush(out, &mut waiting)
+}
+
+/// Writes the processes that run from here on.
+pub fn write_run<Q: Exact, O: Sink>(
+    out: &mut O,
+    ground: &Ground<Q>,
+    members: &[ProcessId],
+) -> Result<(), Failed>
+    requires { AreProcesses (problem_of Q.value ground.now) members.now }
+    ensures { Wrote O.taken O.faults out.old out.new
+        (run_text (problem_of Q.value ground.now) (process_numbers members.now)) result }
+{
+    let mut waiting = Waiting::new();
+    put_run(out, &mut waiting, ground, members)?;
+    flush(out, &mut waiting)
+}
