@@ -1,11 +1,16 @@
-use Rattle.std.proofs.Common.{◌≤◌, div-le_self, ◌≡◌, ℕ, zero, suc, ◌/◌, ◌<◌, arith, sym, ◌∙◌, ap, ap₂, refl, ℤ, pos, negsuc, unsigned_abs, int_div, SFits, to_z, of_z, to_z-of_z}
-use mir.Syntax.{Width}
+use Rattle.std.proofs.Common.{int_cmp, ◌+ℤ◌, ◌-ℤ◌, subst, ◌*ℤ◌, ◌≤◌, div-le_self, ◌≡◌, ℕ, zero, suc, ◌/◌, ◌<◌, arith, sym, ◌∙◌, ap, ap₂, refl, ℤ, pos, negsuc, unsigned_abs, int_div, SFits, w64}
 use Rattle.plus_fraction.specs.Gcd.{gcd, with_sign}
 use Rattle.plus_number.specs.Frac.{IsFrac64}
-use Rattle.plus_fraction.specs.Fraction.{Fraction, over}
+use Rattle.plus_fraction.specs.Fraction.{Fraction, over, whole, ◌+ℚ◌, ◌-ℚ◌, compared}
+use Rattle.plus_fraction.specs.GcdLemmas.{gcd-one}
+use Rattle.plus_fraction.proofs.FractionRing.{Is-whole}
+use Rattle.std.proofs.lemmas.Int.{ints}
 use Rattle.plus_number.specs.Frac.{fraction_of}
 use Rattle.plus_number.specs.declared.frac.Frac64.{Frac64}
-use Rattle.plus_fraction.proofs.FractionBase.{same_parts}
+use Rattle.plus_fraction.proofs.FractionBase.{same_parts, Is, Is-parts, same}
+use Rattle.plus_fraction.proofs.FractionLaws.{Is-over, Is-add, Is-sub}
+use Rattle.plus_fraction.proofs.FractionSigns.{compared_by}
+use Rattle.plus_fraction.proofs.IntRing.{products, linear}
 
 pub unsigned_abs-with_sign : (n : ℤ) (k : ℕ) → unsigned_abs (with_sign n k) ≡ k
 unsigned_abs-with_sign (pos n) k = refl
@@ -42,22 +47,53 @@ reduced_by x t b p q = sym (ap₂ (λ (t : ℤ) (b : ℕ). gcd (unsigned_abs t) 
 pub same_as : (f : Frac64) (x : Fraction) → x.top ≡ f.n → x.bottom ≡ f.d → fraction_of f ≡ x
 same_as f x p q = same_parts (fraction_of f) x (sym p) (sym q)
 
+-- a whole number
+pub whole-bottom : (n : ℤ) → (whole n).bottom ≡ 1
+whole-bottom n = over-bottom n 1 (omega arith) ∙ ap (λ (k : ℕ). 1 / k) (gcd-one _)
+
+pub whole-top : (n : ℤ) → (whole n).top ≡ n
+whole-top n =
+    let k = subst (λ (b : ℕ). (whole n).top *ℤ pos 1 ≡ n *ℤ pos b) (whole-bottom n) (Is-whole n).cross in
+    omega (arith, ints)
+
+pub fits_small : (n : ℤ) → unsigned_abs n ≤ 9223372036854775807 → SFits w64 n
+fits_small (pos n) h = record { sfits = omega arith }
+fits_small (negsuc n) h = record { sfits = omega arith }
+
 -- what the code computes of n/d: the size of n, the divisor, and the sign put back
 pub record Divided (n : ℤ) (d size g : ℕ) : Type 0 where
   pub top_size : unsigned_abs ((over n d).top) ≡ size / g
   pub top : (over n d).top ≡ with_sign n (size / g)
   pub bottom : (over n d).bottom ≡ d / g
 
-pub divided : (w : Width) (n : ℤ) (d size g : ℕ) → SFits w n → 0 < d → size ≡ unsigned_abs (to_z w (of_z w n)) → g ≡ gcd size d → Divided n d size g
-divided w n d size g f h s e =
-    let s' : size ≡ unsigned_abs n = s ∙ ap unsigned_abs (to_z-of_z f) in
-    let e' : g ≡ gcd (unsigned_abs n) d = e ∙ ap (λ (k : ℕ). gcd k d) s' in
+pub divided : (n : ℤ) (d size g : ℕ) → 0 < d → size ≡ unsigned_abs n → g ≡ gcd size d → Divided n d size g
+divided n d size g h s e =
+    let e' : g ≡ gcd (unsigned_abs n) d = e ∙ ap (λ (k : ℕ). gcd k d) s in
     record {
-      top_size = over-top_size n d g h e' ∙ ap (λ (k : ℕ). k / g) (sym s');
-      top = over-top_by n d g h e' ∙ ap (λ (k : ℕ). with_sign n (k / g)) (sym s');
+      top_size = over-top_size n d g h e' ∙ ap (λ (k : ℕ). k / g) (sym s);
+      top = over-top_by n d g h e' ∙ ap (λ (k : ℕ). with_sign n (k / g)) (sym s);
       bottom = over-bottom_by n d g h e';
     }
 
 -- the parts are no greater than those that are given
 pub over-small : (n : ℤ) (d : ℕ) → 0 < d → unsigned_abs n ≤ 9223372036854775807 → d ≤ 9223372036854775807 → IsFrac64 (over n d)
 over-small n d h p q = (omega (arith, over-top_size n d _ h refl, div-le_self (unsigned_abs n) (gcd (unsigned_abs n) d)), omega (arith, over-bottom n d h, div-le_self d (gcd (unsigned_abs n) d)))
+
+-- ---- operands of one bottom
+same_bottom : (f g : Frac64) → f.d ≡ g.d → Is (fraction_of g) g.n (pos f.d)
+same_bottom f g e = subst (λ (d : ℕ). Is (fraction_of g) g.n (pos d)) (sym e) (Is-parts (fraction_of g))
+
+pub same_bottom-add : (f g : Frac64) (n : ℤ) → f.d ≡ g.d → n ≡ f.n +ℤ g.n → over n f.d ≡ fraction_of f +ℚ fraction_of g
+same_bottom-add f g n e k = same (Is-over n f.d f.positive) (Is-add (Is-parts (fraction_of f)) (same_bottom f g e)) (joined f.n g.n n (pos f.d) k)
+  where
+    joined : (a b n d : ℤ) → n ≡ a +ℤ b → n *ℤ (d *ℤ d) ≡ (a *ℤ d +ℤ b *ℤ d) *ℤ d
+    joined a b n d k = rw k (simp products (omega (arith, linear)))
+
+pub same_bottom-sub : (f g : Frac64) (n : ℤ) → f.d ≡ g.d → n ≡ f.n -ℤ g.n → over n f.d ≡ fraction_of f -ℚ fraction_of g
+same_bottom-sub f g n e k = same (Is-over n f.d f.positive) (Is-sub (Is-parts (fraction_of f)) (same_bottom f g e)) (joined f.n g.n n (pos f.d) k)
+  where
+    joined : (a b n d : ℤ) → n ≡ a -ℤ b → n *ℤ (d *ℤ d) ≡ (a *ℤ d -ℤ b *ℤ d) *ℤ d
+    joined a b n d k = rw k (simp products (omega (arith, linear)))
+
+pub same_bottom-compared : (f g : Frac64) → f.d ≡ g.d → compared (fraction_of f) (fraction_of g) ≡ int_cmp f.n g.n
+same_bottom-compared f g e = compared_by (pos f.d) (Is-parts (fraction_of f)) (same_bottom f g e)

@@ -1,7 +1,7 @@
-use Rattle.std.proofs.Common.{◌≡◌, ℕ, ◌%◌, arith, sym, ◌∙◌, ap, refl, ℤ, pos, negsuc, neg_ℤ, ◌*ℤ◌, ◌<ℤ◌, unsigned_abs, int_div, int_rem, SFits, of_z, Result, Ok, Err, MatchResult, subst, subst₂, ◌≢◌}
+use Rattle.std.proofs.Common.{◌≡◌, ℕ, ◌%◌, arith, sym, ◌∙◌, ap, refl, ℤ, pos, negsuc, neg_ℤ, ◌*ℤ◌, ◌<ℤ◌, unsigned_abs, int_div, int_rem, SFits, of_z, Result, MatchResult, subst, subst₂, ◌≢◌}
 use Rattle.std.proofs.lemmas.Int.{ints, quot-rem, unsigned_abs-mul}
 use Rattle.std.proofs.Math.Nat.{mul-mod_left}
-use mir.Syntax.{w128}
+use mir.Syntax.{w64, w128}
 use lib.Signed.{mag_rem}
 use Rattle.std.proofs.lemmas.Result.{MatchResult-weaker}
 use Rattle.plus_number.specs.declared.exact.Outside.{Outside}
@@ -19,10 +19,6 @@ use Rattle.plus_fraction.proofs.FractionLaws.{Is-over, Is-mul, Is-rebase}
 use Rattle.plus_fraction.proofs.IntRing.{neg-*ℤ, cancel_eq, *ℤ_left_comm, *ℤ_assoc, *ℤ-pos}
 use Rattle.std.proofs.Math.IntN.{*ℤ_comm}
 
-pub MatchResult-map : {A E : Type 0} (P P' : A → Type 0) (Q Q' : E → Type 0) (r : Result A E) → ((x : A) → P x → P' x) → ((e : E) → Q e → Q' e) → MatchResult r P Q → MatchResult r P' Q'
-MatchResult-map P P' Q Q' (Ok x) f g h = f x h
-MatchResult-map P P' Q Q' (Err e) f g h = g e h
-
 rem_of_abs : (n : ℤ) (d : ℕ) → unsigned_abs n % d ≡ 0 → int_rem n (pos d) ≡ pos 0
 rem_of_abs (pos a) d h = ap pos h
 rem_of_abs (negsuc a) d h = ap (λ (k : ℕ). neg_ℤ (pos k)) h
@@ -32,12 +28,19 @@ pub rem_none : (n d k : ℤ) → pos 0 <ℤ d → k *ℤ d ≡ n → int_rem n d
 rem_none n (pos d) k h e = rem_of_abs n d (ap (λ (m : ℕ). m % d) (sym (sym (unsigned_abs-mul k (pos d)) ∙ ap unsigned_abs e)) ∙ mul-mod_left (unsigned_abs k) d)
 rem_none n (negsuc d) k h e = absurd (omega (arith, ints))
 
-pub quotient_of : (n d : ℤ) → SFits w128 n → of_z w128 (int_rem n d) ≡ 0 → int_div n d *ℤ d ≡ n
-quotient_of n d f e =
+-- no remainder, so a multiple
+quotient_by : (n d : ℤ) → int_rem n d ≡ pos 0 → int_div n d *ℤ d ≡ n
+quotient_by n d z = let q = quot-rem n d in omega (arith, ints)
+
+pub wide_quotient_of : (n d : ℤ) → SFits w128 n → of_z w128 (int_rem n d) ≡ 0 → int_div n d *ℤ d ≡ n
+wide_quotient_of n d f e =
     let g : SFits w128 (int_rem n d) = record { sfits = omega (arith, mag_rem n d, f.sfits) } in
-    let z : int_rem n d ≡ pos 0 = omega (arith, ints) in
-    let q = quot-rem n d in
-    omega (arith, ints)
+    quotient_by n d (omega (arith, ints))
+
+pub narrow_quotient_of : (n d : ℤ) → SFits w64 n → of_z w64 (int_rem n d) ≡ 0 → int_div n d *ℤ d ≡ n
+narrow_quotient_of n d f e =
+    let g : SFits w64 (int_rem n d) = record { sfits = omega (arith, mag_rem n d, f.sfits) } in
+    quotient_by n d (omega (arith, ints))
 
 -- ---- what a call answers
 pub answers_checked : (q : Fraction) (n : ℤ) (r : Result Ticks Outside) → Is q n (pos 1000000) → MatchResult r (λ t. t.k ≡ n) (λ _. InRange n → ⊥) → Answers fraction_of IsTicks q r

@@ -1,3 +1,4 @@
+-- What a call on exact numbers answers.
 use Rattle.std.specs.Prelude.{◌≡◌, Result, MatchResult}
 use Rattle.plus_number.specs.declared.exact.Outside.{Outside}
 use Rattle.plus_fraction.specs.Fraction.{Fraction}

@@ -1,3 +1,4 @@
+-- What a `Frac64` means: its two parts are those of a fraction.
 use Rattle.std.specs.Prelude.{◌≤◌, unsigned_abs}
 use Rattle.plus_number.specs.declared.frac.Frac64.{Frac64}
 use Rattle.plus_fraction.specs.Fraction.{Fraction}

@@ -1,3 +1,4 @@
+-- Millionths as pairs.
 use Rattle.std.specs.Prelude.{◌≡◌}
 use Rattle.plus_number.specs.declared.frac.Frac64.{Frac64}
 use Rattle.plus_number.specs.Frac as frac

@@ -4,6 +4,7 @@ ghost use Rattle.plus_fraction.specs.Fraction.{Fraction, whole};
 
 use crate::exact::Exact;
 
+/// 0, which every type has.
 pub fn zero<Q: Exact>() -> Q
     ensures { Q.value result ≡ whole (pos 0) }
 {
@@ -13,6 +14,17 @@ pub fn zero<Q: Exact>() -> Q
     }
 }
 
+/// 1, which every type has.
+pub fn one<Q: Exact>() -> Q
+    ensures { Q.value result ≡ whole (pos 1) }
+{
+    match Q::ratio(1, 1) {
+        Ok(x) => x,
+        Err(_) => unreachable!(),
+    }
+}
+
+/// The test of 0, as `Exact::div` wants it.
 pub fn is_zero<Q: Exact>(x: Q) -> bool
     ensures { IsTrue result ↔ (Q.value x ≡ whole (pos 0)) }
 {

@@ -1,14 +1,18 @@
-// Fractions of two 63-bit parts.
+// Fractions of two parts of 63 bits.
 ghost use Rattle.std.specs.Prelude.{◌≡◌, ℕ, ◌+◌, ◌*◌, ◌/◌, ◌^◌, ◌<◌, ◌≤◌, ◌<ℤ◌, ◌*ℤ◌, pos, unsigned_abs, IfSome, IsNone, MatchOption};
-ghost use Rattle.plus_fraction.specs.Gcd.{gcd, with_sign};
+ghost use Rattle.plus_fraction.specs.Gcd.{gcd};
 
+use crate::divisor::{common_divisor, narrow_divisor, signed};
 use crate::exact::{Exact, Outside};
 use std::cmp::Ordering;
 
 // The greatest part of a `Frac64`.
-const LIMIT: u128 = 9223372036854775807;
+const LIMIT: u64 = 9223372036854775807;
 
-// A reduced pair of whole numbers of at most 63 bits.
+// The greatest number of 64 bits.
+const NARROW: u128 = 18446744073709551615;
+
+/// A reduced pair `n/d` with `|n|` and `d` at most 9223372036854775807, and `d` at least 1.
 #[derive(Clone, Copy)]
 pub struct Frac64 {
     n: i64,
@@ -19,40 +23,29 @@ pub struct Frac64 {
     ghost reduced: { gcd (unsigned_abs n) d ≡ 1 },
 }
 
-pub fn common_divisor(a: u128, b: u128) -> u128
-    ensures is_gcd { result ≡ gcd a b }
-    ensures above { 0 < b → 0 < result }
-{
-    let mut x = a;
-    let mut y = b;
-    while y != 0 {
-        let rest = x % y;
-        x = y;
-        y = rest;
-    }
-    x
-}
-
-// size under the sign of n
-pub fn signed(n: i128, size: u128) -> i64
-    requires { size ≤ 9223372036854775807 }
-    ensures { result ≡ with_sign n size }
-{
-    if n < 0 { -(size as i64) } else { size as i64 }
-}
-
 impl Frac64 {
     ghost use Rattle.plus_number.specs.Frac.{fraction_of, IsFrac64};
-    ghost use Rattle.plus_fraction.specs.Fraction.{over, compared, sign_of};
+    ghost use Rattle.plus_fraction.specs.Fraction.{over, whole, compared, sign_of};
     ghost use Rattle.plus_number.specs.Exact.{Answers};
 
-    // n/d, reduced
-    fn reduced(n: i128, d: u128) -> Result<Frac64, Outside>
-        requires { 0 < d }
+    // the whole number n
+    fn whole(n: i128) -> Result<Frac64, Outside>
+        ensures { Answers fraction_of IsFrac64 (whole n) result }
+    {
+        if n > 9223372036854775807 || n < -9223372036854775807 {
+            return Err(Outside);
+        }
+        let n = n as i64;
+        Ok(Frac64 { n, d: 1 })
+    }
+
+    // n/d reduced, on 64 bits
+    fn narrow(n: i128, size: u64, d: u64) -> Result<Frac64, Outside>
+        requires size { size ≡ unsigned_abs n }
+        requires above { 0 < d }
         ensures { Answers fraction_of IsFrac64 (over n d) result }
     {
-        let size = n.unsigned_abs();
-        let divisor = common_divisor(size, d);
+        let divisor = narrow_divisor(size, d);
         let top = size / divisor;
         let bottom = d / divisor;
         if top > LIMIT {
@@ -64,8 +57,58 @@ impl Frac64 {
         let signed_top = signed(n, top);
         Ok(Frac64 {
             n: signed_top,
+            d: bottom,
+        })
+    }
+
+    // n/d reduced, on 128 bits
+    fn wide(n: i128, size: u128, d: u128) -> Result<Frac64, Outside>
+        requires size { size ≡ unsigned_abs n }
+        requires above { 0 < d }
+        ensures { Answers fraction_of IsFrac64 (over n d) result }
+    {
+        let divisor = common_divisor(size, d);
+        let top = size / divisor;
+        let bottom = d / divisor;
+        if top > LIMIT as u128 {
+            return Err(Outside);
+        }
+        if bottom > LIMIT as u128 {
+            return Err(Outside);
+        }
+        let signed_top = signed(n, top as u64);
+        Ok(Frac64 {
+            n: signed_top,
             d: bottom as u64,
         })
+    }
+
+    // n/d reduced
+    fn reduced(n: i128, d: u128) -> Result<Frac64, Outside>
+        requires { 0 < d }
+        ensures { Answers fraction_of IsFrac64 (over n d) result }
+    {
+        if d == 1 {
+            return Frac64::whole(n);
+        }
+        let size = n.unsigned_abs();
+        if size <= NARROW && d <= NARROW {
+            Frac64::narrow(n, size as u64, d as u64)
+        } else {
+            Frac64::wide(n, size, d)
+        }
+    }
+
+    // this top over the bottom of self
+    fn over_bottom(self, top: i128) -> Result<Frac64, Outside>
+        requires { unsigned_abs top < 2 ^ 64 }
+        ensures { Answers fraction_of IsFrac64 (over top self.d) result }
+    {
+        if self.d == 1 {
+            Frac64::whole(top)
+        } else {
+            Frac64::narrow(top, top.unsigned_abs() as u64, self.d)
+        }
     }
 
     // the top over the product of the two bottoms
@@ -73,9 +116,10 @@ impl Frac64 {
         ensures value { result ≡ self.n *ℤ pos other.d }
         ensures small { unsigned_abs result < 2 ^ 126 }
     {
-        self.n as i128 * other.d as i128
+        self.n as i128 * (other.d as i64) as i128
     }
 
+    // the top of a product
     fn tops(self, other: Frac64) -> i128
         ensures { result ≡ self.n *ℤ other.n }
     {
@@ -99,6 +143,7 @@ impl Frac64 {
         self.d as u128 * other.n.unsigned_abs() as u128
     }
 
+    // the bottom of a sum, a difference or a product
     fn bottoms(self, other: Frac64) -> u128
         ensures value { result ≡ self.d * other.d }
         ensures above { 0 < result }
@@ -116,15 +161,24 @@ impl Exact for Frac64 {
     ghost fits = { IsFrac64 };
 
     fn ratio(n: i64, d: i64) -> Result<Frac64, Outside> {
-        Frac64::reduced(n as i128, d as u128)
+        let top = n as i128;
+        Frac64::narrow(top, n.unsigned_abs(), d as u64)
     }
 
     fn add(self, other: Frac64) -> Result<Frac64, Outside> {
-        Frac64::reduced(self.cross(other) + other.cross(self), self.bottoms(other))
+        if self.d == other.d {
+            self.over_bottom(self.n as i128 + other.n as i128)
+        } else {
+            Frac64::reduced(self.cross(other) + other.cross(self), self.bottoms(other))
+        }
     }
 
     fn sub(self, other: Frac64) -> Result<Frac64, Outside> {
-        Frac64::reduced(self.cross(other) - other.cross(self), self.bottoms(other))
+        if self.d == other.d {
+            self.over_bottom(self.n as i128 - other.n as i128)
+        } else {
+            Frac64::reduced(self.cross(other) - other.cross(self), self.bottoms(other))
+        }
     }
 
     fn mul(self, other: Frac64) -> Result<Frac64, Outside> {
@@ -136,7 +190,11 @@ impl Exact for Frac64 {
     }
 
     fn order(self, other: Frac64) -> Ordering {
-        self.cross(other).cmp(&other.cross(self))
+        if self.d == other.d {
+            self.n.cmp(&other.n)
+        } else {
+            self.cross(other).cmp(&other.cross(self))
+        }
     }
 
     fn parts(self) -> (i64, i64) {

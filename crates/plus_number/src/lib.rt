@@ -2,7 +2,16 @@
 #![tactic(auto)]
 
 pub mod consts;
+mod divisor;
 pub mod exact;
 pub mod frac;
 pub mod ticks;
-pub mod widen;
+pub mod widening;
+
+pub use exact::{Exact, Outside};
+pub use frac::Frac64;
+pub use ticks::Ticks;
+pub use widening::widen;
+
+#[cfg(test)]
+mod tests;

@@ -1,18 +1,19 @@
 // Fractions of millionths.
 ghost use Rattle.std.specs.Prelude.{◌≡◌, ℕ, ◌+◌, ◌*◌, ◌/◌, ◌^◌, ◌<◌, ◌≤◌, ◌<ℤ◌, ◌≤ℤ◌, ◌*ℤ◌, ◌+ℤ◌, pos, unsigned_abs, MatchResult};
 
+use crate::divisor::{narrow_divisor, signed};
 use crate::exact::{Exact, Outside};
-use crate::frac::{common_divisor, signed};
 use std::cmp::Ordering;
 
-// k millionths
+/// `k` millionths, with `|k|` at most 9223372036854775807.
 #[derive(Clone, Copy)]
 pub struct Ticks {
     k: i64,
     ghost in_range: { unsigned_abs k ≤ 9223372036854775807 },
 }
 
-fn million_over(divisor: u128) -> i64
+// the bottom of a reduced number of millionths
+fn million_over(divisor: u64) -> i64
     requires { 0 < divisor }
     ensures { result ≡ pos (1000000 / divisor) }
 {
@@ -20,10 +21,11 @@ fn million_over(divisor: u128) -> i64
 }
 
 impl Ticks {
-    ghost use Rattle.plus_number.specs.Ticks.{fraction_of, IsTicks, InRange};
+    ghost use Rattle.plus_number.specs.Ticks.{fraction_of, IsTicks, InRange, IsQuotient};
     ghost use Rattle.plus_fraction.specs.Fraction.{over};
     ghost use Rattle.plus_number.specs.Exact.{Answers};
 
+    /// How many millionths.
     pub fn count(self) -> i64
         ensures { result ≡ self.k }
     {
@@ -61,15 +63,38 @@ impl Ticks {
         Ok(Ticks { k })
     }
 
-    // n/d of a millionth, if that is a whole number of them
-    fn quotient(n: i128, d: i128) -> Result<Ticks, Outside>
+    // n/d millionths on 64 bits, if that is a whole number of them
+    fn narrow_quotient(n: i64, d: i64) -> Result<Ticks, Outside>
         requires above { pos 0 <ℤ d }
-        ensures { MatchResult result (λ t. t.k *ℤ d ≡ n) (λ _. (k : _) → k *ℤ d ≡ n → InRange k → ⊥) }
+        ensures { IsQuotient n d result }
+    {
+        if n % d != 0 {
+            return Err(Outside);
+        }
+        Ticks::checked((n / d) as i128)
+    }
+
+    // the same on 128 bits
+    fn wide_quotient(n: i128, d: i128) -> Result<Ticks, Outside>
+        requires above { pos 0 <ℤ d }
+        ensures { IsQuotient n d result }
     {
         if n % d != 0 {
             return Err(Outside);
         }
         Ticks::checked(n / d)
+    }
+
+    // the same on as many bits as serve
+    fn quotient(n: i128, d: i64) -> Result<Ticks, Outside>
+        requires above { pos 0 <ℤ d }
+        ensures { IsQuotient n d result }
+    {
+        if n <= 9223372036854775807 && n >= -9223372036854775807 {
+            Ticks::narrow_quotient(n as i64, d)
+        } else {
+            Ticks::wide_quotient(n, d as i128)
+        }
     }
 }
 
@@ -82,7 +107,7 @@ impl Exact for Ticks {
     ghost fits = { IsTicks };
 
     fn ratio(n: i64, d: i64) -> Result<Ticks, Outside> {
-        Ticks::quotient(n as i128 * 1000000, d as i128)
+        Ticks::quotient(n as i128 * 1000000, d)
     }
 
     fn add(self, other: Ticks) -> Result<Ticks, Outside> {
@@ -99,9 +124,9 @@ impl Exact for Ticks {
 
     fn div(self, other: Ticks) -> Result<Ticks, Outside> {
         if other.k < 0 {
-            Ticks::quotient(-self.millions(), -other.widened())
+            Ticks::quotient(-self.millions(), -other.k)
         } else {
-            Ticks::quotient(self.millions(), other.widened())
+            Ticks::quotient(self.millions(), other.k)
         }
     }
 
@@ -110,8 +135,8 @@ impl Exact for Ticks {
     }
 
     fn parts(self) -> (i64, i64) {
-        let size = self.k.unsigned_abs() as u128;
-        let divisor = common_divisor(size, 1000000);
+        let size = self.k.unsigned_abs();
+        let divisor = narrow_divisor(size, 1000000);
         (
             signed(self.widened(), size / divisor),
             million_over(divisor),

@@ -1,6 +1,6 @@
 use Rattle.std.proofs.Common.{arith, sym, ◌∙◌, subst, ℕ, ◌<◌}
 use Rattle.plus_fraction.specs.GcdLemmas.{gcd-mod, gcd-zero, gcd_pos}
-use Rattle.plus_number.proofs.frac.common_divisor.Goals as goal
+use Rattle.plus_number.proofs.divisor.narrow_divisor.Goals as goal
 
 pub loop-y-preserved : goal.loop-y-preserved
 loop-y-preserved c = gcd-mod c.loop-y.x c.loop-y.y ∙ c.loop-y.invariant

@@ -1,6 +1,6 @@
 use Rattle.std.proofs.Common.{◌≡◌}
 use Rattle.plus_fraction.specs.Gcd.{gcd}
-use Rattle.plus_number.proofs.frac.common_divisor.Given as goal
+use Rattle.plus_number.proofs.divisor.common_divisor.Given as goal
 
 abbrev pub invariant-loop-y : goal.invariant-loop-y
 invariant-loop-y l = gcd l.x l.y ≡ gcd l.fn.a l.fn.b

@@ -3,9 +3,9 @@ use mir.Syntax.{w128}
 use Rattle.std.proofs.lemmas.Int.{quot_fits}
 use Rattle.std.proofs.lemmas.Result.{MatchResult-weaker}
 use Rattle.plus_number.specs.Ticks.{InRange}
-use Rattle.plus_number.proofs.TicksLemmas.{rem_none, quotient_of}
+use Rattle.plus_number.proofs.TicksLemmas.{rem_none, wide_quotient_of}
 use Rattle.plus_fraction.proofs.IntRing.{cancel_eq}
-use Rattle.plus_number.proofs.ticks.Ticks.quotient.Goals as goal
+use Rattle.plus_number.proofs.ticks.Ticks.wide_quotient.Goals as goal
 
 pub returns-then-n-d-ne0 : goal.returns-then-n-d-ne0
 returns-then-n-d-ne0 c k e r =
@@ -15,7 +15,7 @@ pub returns : goal.returns
 returns c =
     let e = ap (of_z w128) (sym (ap₂ int_rem (to_z-of_z c.ranges.n) (to_z-of_z c.ranges.d))) ∙ c.if-n-d-ne0.false in
     let f : SFits w128 (int_div c.args.n c.args.d) = quot_fits w128 c.args.n c.args.d c.ranges.n c.requires.above in
-    let q = quotient_of c.args.n c.args.d c.ranges.n e in
+    let q = wide_quotient_of c.args.n c.args.d c.ranges.n e in
     let k = ap (λ (z : ℤ). to_z w128 (of_z w128 z)) (ap₂ int_div (to_z-of_z c.ranges.n) (to_z-of_z c.ranges.d)) ∙ to_z-of_z f in
     MatchResult-weaker c.checked.result c.checked.ensures
     (λ t h. ap (λ (z : ℤ). z *ℤ c.args.d) (h ∙ k) ∙ q)
