@@ -1,9 +1,9 @@
 -- How the pieces that are read or written make a whole.
-use Rattle.std.proofs.Common.{◌≡◌, ℕ, ◌+◌, ◌-◌, ◌<◌, ◌≤◌, List, [], ◌++◌, length, take, drop, Option, Some, None, Result, Ok, Err, IfSome, OnErr, Contains, refl, sym, ◌∙◌, ap, subst, append_assoc, length-append, arith}
+use Rattle.std.proofs.Common.{◌≡◌, ℕ, ◌+◌, ◌-◌, ◌<◌, ◌≤◌, List, [], ◌++◌, length, take, drop, Option, Some, None, Result, Ok, Err, IfSome, OnErr, refl, sym, ◌∙◌, ap, subst, append_assoc, length-append, arith}
 use Rattle.std.proofs.Math.Seq.{take-append-add, take-add}
 use Rattle.std.proofs.lemmas.List.{append-nil, take-append-le, take-take, length-take-le, take-append-drop, nil_from_length, take_rest}
 use Rattle.std.specs.Io.KnownBytes.{IsAtEnd, prepend_known, append_known}
-use Rattle.plus_io.specs.Files.{KeepsFiles, HasNoFile, Takes, TakesAtMost, IsPrefix}
+use Rattle.plus_io.specs.Files.{KeepsFiles, Takes, TakesAtMost, IsPrefix}
 use Rattle.plus_io.specs.Taken.{Took}
 
 pub OnErr-always : {T E P : Type 0} (r : Result T E) → P → OnErr r P
@@ -27,14 +27,6 @@ KeepsFiles-trans a b c p q = record {
   no_fall = omega arith;
 }
 
--- under a name outside the list there is nothing to read
-pub nothing_read : {E : Type 0} (names names' : List (List ℕ)) (picked : Option (List ℕ)) (name : List ℕ) (result : Result ℕ E) (count : ℕ)
-    → ¬ Contains names name → names' ≡ names → picked ≡ Some name → (HasNoFile names' picked → result ≡ Ok 0) → result ≡ Ok count → count ≡ 0
-nothing_read names names' picked name result count out same is_picked none is =
-    let no_file : HasNoFile names' picked = subst (HasNoFile names') (sym is_picked) (subst (λ ns. ¬ Contains ns name) (sym same) out) in
-    let e : result ≡ Ok 0 = none no_file in
-    cc
-
 -- nothing is taken yet
 pub Takes-nil : (text : Option (List ℕ)) → Takes text text []
 Takes-nil None = refl
@@ -48,6 +40,11 @@ Takes-append text rest left front more e f = e ∙ ap (prepend_known front) f �
 pub Takes-prefix : (text rest : Option (List ℕ)) (front : List ℕ) → Takes text rest front → IfSome text (IsPrefix front)
 Takes-prefix text None front e = subst (λ t. IfSome t (IsPrefix front)) (sym e) tt
 Takes-prefix text (Some left) front e = subst (λ t. IfSome t (IsPrefix front)) (sym e) (left, refl)
+
+-- and stays one where nothing was added to it
+pub kept_prefix : {T E : Type 0} (r : Result T E) (text rest : Option (List ℕ)) (front now : List ℕ) → Takes text rest front → now ≡ front → OnErr r (IfSome text (IsPrefix now))
+kept_prefix r text rest front now e same =
+    OnErr-always r (subst (λ read. IfSome text (IsPrefix read)) (sym same) (Takes-prefix text rest front e))
 
 -- no bytes are a prefix of any
 pub empty_prefix : (text : Option (List ℕ)) (front : List ℕ) → length front ≡ 0 → IfSome text (IsPrefix front)

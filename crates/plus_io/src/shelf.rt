@@ -3,7 +3,7 @@
 ghost use Rattle.std.specs.Prelude.{◌≡◌, ◌⊎◌, ℕ, ◌+◌, ◌<◌, ◌≤◌, List, [], take, length, vec_len, Contains, Option, None, Some, IsOk, IfSome, OnOk, IfOk, OnErr, IsErrOf};
 ghost use Rattle.plus_io.specs.Faults.{Rose};
 ghost use Rattle.std.specs.Io.KnownBytes.{IsAtEnd};
-ghost use Rattle.plus_io.specs.Files.{KeepsFiles, HasNoFile, IsPrefix, Takes, TakesAtMost};
+ghost use Rattle.plus_io.specs.Files.{IsUnpicked, KeepsFiles, IsPrefix, Takes, TakesAtMost};
 
 use crate::{Failed, ReadStop};
 
@@ -29,7 +29,7 @@ pub trait Shelf {
 
     /// Picks the text under a name, to be read from its first byte.
     fn pick(&mut self, name: &str) -> Result<(), Failed>
-        ensures picked { OnOk result (picked self.new ≡ Some name.now) }
+        ensures picked { OnOk result (Contains (names self.old) name.now → picked self.new ≡ Some name.now) }
         ensures rest { OnOk result (rest self.new ≡ bytes self.old name.now) }
 
         // After a fault nothing is picked.
@@ -37,8 +37,9 @@ pub trait Shelf {
         ensures nothing { OnErr result (picked self.new ≡ None) }
         ensures no_rest { OnErr result (IsAtEnd (rest self.new)) }
 
+        // Under a name outside the list there is nothing to pick.
         ensures outside { ¬ Contains (names self.old) name.now →
-            IsOk result × (faults self.new ≡ faults self.old) }
+            IsOk result × (picked self.new ≡ None) × (faults self.new ≡ faults self.old) }
         ensures keeps { KeepsFiles names bytes faults self.old self.new };
 
     /// Reads the next piece to the front of `into`, and answers how many bytes it has: 0 only at
@@ -54,7 +55,7 @@ pub trait Shelf {
         ensures stays { OnErr result (rest self.new ≡ rest self.old) }
 
         ensures picked { picked self.new ≡ picked self.old }
-        ensures outside { HasNoFile (names self.old) (picked self.old) →
+        ensures nothing { picked self.old ≡ None →
             (result ≡ Ok 0) × (faults self.new ≡ faults self.old) }
         ensures keeps { KeepsFiles names bytes faults self.old self.new };
 }
@@ -82,10 +83,10 @@ pub fn read_all<S: Shelf>(
     ensures cause { IsErrOf result ReadStop.Failed → Rose (S.faults shelf.old) (S.faults shelf.new) }
     ensures prefix { OnErr result (IfSome (S.bytes shelf.old name.now) (IsPrefix into.new.items)) }
 
-    // The pick failed, or the file is picked and at most one byte past the limit was taken of it.
-    ensures taken { (IsErrOf result ReadStop.Failed × (S.picked shelf.new ≡ None) × (into.new.items ≡ []))
-        ⊎ ((S.picked shelf.new ≡ Some name.now)
-        × TakesAtMost (limit + 1) (S.bytes shelf.old name.now) (S.rest shelf.new)) }
+    // Nothing was read, since the pick failed, or at most one byte past the limit was taken.
+    ensures taken { IsUnpicked result (S.picked shelf.new) into.new.items
+        ⊎ TakesAtMost (limit + 1) (S.bytes shelf.old name.now) (S.rest shelf.new) }
+    ensures picked { OnOk result (Contains (S.names shelf.old) name.now → S.picked shelf.new ≡ Some name.now) }
     ensures to_the_end { OnOk result (IsAtEnd (S.rest shelf.new)) }
 
     ensures outside { ¬ Contains (S.names shelf.old) name.now →

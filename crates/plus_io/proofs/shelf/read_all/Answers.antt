@@ -1,6 +1,6 @@
-use Rattle.std.proofs.Common.{arith, inr, refl, ◌≡◌, ◌≤◌, ◌++◌, length, take, ◌∙◌, ap, length-append}
+use Rattle.std.proofs.Common.{arith, inr, refl, ◌≡◌, ◌≤◌, ◌++◌, length, take, ◌∙◌, ap, length-append, Ok}
 use Rattle.std.proofs.lemmas.List.{length-take-le, length-take}
-use Rattle.plus_io.proofs.Pieces.{OnErr-always, empty_prefix, too_long, cut_prefix, at_most_one_over, Takes-append, KeepsFiles-trans, nothing_read}
+use Rattle.plus_io.proofs.Pieces.{OnErr-always, empty_prefix, too_long, cut_prefix, at_most_one_over, Takes-append, kept_prefix, KeepsFiles-trans}
 use Rattle.plus_io.proofs.shelf.read_all.Goals as goal
 
 pub returns-in_err-pick-clause-prefix : goal.returns-in_err-pick-clause-prefix
@@ -9,10 +9,15 @@ returns-in_err-pick-clause-prefix g c = OnErr-always _ (empty_prefix _ _ (omega 
 pub returns-in_err-extend_from_slice-clause-taken : goal.returns-in_err-extend_from_slice-clause-taken
 returns-in_err-extend_from_slice-clause-taken g c =
     let fits : c.in_ok-count.count ≤ length c.read.new.into = c.in_ok-count.ensures.fits in
-    inr (
-      c.read.ensures.picked ∙ c.loop-count.invariant.picked,
-      at_most_one_over _ _ _ _ _ _ _ c.loop-count.invariant.front c.in_ok-count.ensures.piece fits (omega (arith, simp length-take at c.read.auto.into, c.min.ensures)),
-    )
+    inr (at_most_one_over _ _ _ _ _ _ _ c.loop-count.invariant.front c.in_ok-count.ensures.piece fits (omega (arith, simp length-take at c.read.auto.into, c.min.ensures)))
+
+pub returns-in_err-extend_from_slice-clause-prefix : goal.returns-in_err-extend_from_slice-clause-prefix
+returns-in_err-extend_from_slice-clause-prefix g c =
+    kept_prefix _ _ _ _ _ c.loop-count.invariant.front c.in_err-extend_from_slice.ensures.items
+
+pub returns-in_err-extend_from_slice-2-clause-prefix : goal.returns-in_err-extend_from_slice-2-clause-prefix
+returns-in_err-extend_from_slice-2-clause-prefix g c =
+    kept_prefix _ _ _ _ _ c.loop-count.invariant.front c.in_err-extend_from_slice-2.ensures.items
 
 pub returns-then-count-room-clause-too_long : goal.returns-then-count-room-clause-too_long
 returns-then-count-room-clause-too_long g c _ =
@@ -26,18 +31,12 @@ returns-then-count-room-clause-prefix g c = cut_prefix _ _ _ (returns-then-count
 pub returns-then-count-room-clause-taken : goal.returns-then-count-room-clause-taken
 returns-then-count-room-clause-taken g c =
     let fits : c.in_ok-count.count ≤ length c.read.new.into = c.in_ok-count.ensures.fits in
-    inr (
-      c.read.ensures.picked ∙ c.loop-count.invariant.picked,
-      at_most_one_over _ _ _ _ _ _ _ c.loop-count.invariant.front c.in_ok-count.ensures.piece fits (omega (arith, simp length-take at c.read.auto.into, c.min.ensures)),
-    )
+    inr (at_most_one_over _ _ _ _ _ _ _ c.loop-count.invariant.front c.in_ok-count.ensures.piece fits (omega (arith, simp length-take at c.read.auto.into, c.min.ensures)))
 
 pub returns-in_err-extend_from_slice-2-clause-taken : goal.returns-in_err-extend_from_slice-2-clause-taken
 returns-in_err-extend_from_slice-2-clause-taken g c =
     let fits : c.in_ok-count.count ≤ length c.read.new.into = c.in_ok-count.ensures.fits in
-    inr (
-      c.read.ensures.picked ∙ c.loop-count.invariant.picked,
-      at_most_one_over _ _ _ _ _ _ _ c.loop-count.invariant.front c.in_ok-count.ensures.piece fits (omega (arith, simp length-take at c.read.auto.into, c.min.ensures)),
-    )
+    inr (at_most_one_over _ _ _ _ _ _ _ c.loop-count.invariant.front c.in_ok-count.ensures.piece fits (omega (arith, simp length-take at c.read.auto.into, c.min.ensures)))
 
 pub loop-count-preserved : goal.loop-count-preserved
 loop-count-preserved g c =
@@ -45,8 +44,8 @@ loop-count-preserved g c =
     let grown : c.extend_from_slice-in-loop-count.new.self.items ≡ c.loop-count.into.items ++ take c.in_ok-count.count c.read.new.into = c.in_ok-extend_from_slice-2.ensures.items in
     record {
       within = omega (arith, ap length grown, length-append c.loop-count.into.items (take c.in_ok-count.count c.read.new.into), length-take-le c.in_ok-count.count c.read.new.into fits);
-      picked = c.read.ensures.picked ∙ c.loop-count.invariant.picked;
+      picked = λ listed. c.read.ensures.picked ∙ c.loop-count.invariant.picked listed;
       front = rw grown (Takes-append _ _ _ _ _ c.loop-count.invariant.front c.in_ok-count.ensures.piece);
-      outside = λ out. absurd (c.if-count-eq0.false (nothing_read _ _ _ _ _ _ out c.loop-count.invariant.keeps.same_names c.loop-count.invariant.picked (λ h. (c.read.ensures.outside h).0) c.in_ok-count.was));
+      outside = λ out. absurd (c.if-count-eq0.false (let e : c.read.result ≡ Ok 0 = (c.read.ensures.nothing (c.loop-count.invariant.outside out).1).0 in let f : c.read.result ≡ Ok c.in_ok-count.count = c.in_ok-count.was in cc));
       keeps = KeepsFiles-trans _ _ _ c.loop-count.invariant.keeps c.read.ensures.keeps;
     }
