@@ -3,9 +3,16 @@
 #![tactic(auto)]
 
 mod fault;
+mod mem_shelf;
+mod mem_sink;
+mod quiet;
 mod shelf;
 mod sink;
+mod stored;
 
 pub use fault::{Failed, ReadStop};
+pub use mem_shelf::MemShelf;
+pub use mem_sink::MemSink;
+pub use quiet::{QuietShelf, QuietSink};
 pub use shelf::{Shelf, read_all};
 pub use sink::{Sink, write_all};
