@@ -9,6 +9,8 @@ mod quiet;
 mod shelf;
 mod sink;
 mod stored;
+#[cfg(test)]
+mod tests;
 
 pub use fault::{Failed, ReadStop};
 pub use mem_shelf::MemShelf;
