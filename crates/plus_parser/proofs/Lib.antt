@@ -1,0 +1,16 @@
+pub mod Stream
+pub mod Until
+pub mod Nest
+pub mod Tokens
+pub mod Names
+pub mod Level
+pub mod Flat
+pub mod UntilTakes
+pub mod UntilAgain
+pub mod Forms
+pub mod ConditionLaws
+pub mod EffectLaws
+pub mod Sections
+pub mod DomainLaws
+pub mod ProblemLaws
+pub mod Wholes

@@ -1,0 +1,23 @@
+use Rattle.std.proofs.Common.{◌+◌, ◌*◌, length, []}
+use Rattle.plus_parser.specs.Grammar.{until_close, form_step, cond_at}
+use Rattle.plus_parser.proofs.Until.{Stays}
+use Rattle.plus_parser.proofs.conditions.+cond.Given as goal
+
+abbrev pub invariant-conds-found : goal.invariant-conds-found
+invariant-conds-found l =
+    Stays (form_step (cond_at l.room)) l.room l.found.items l.reader (until_close (form_step (cond_at l.room)) l.room (length l.initial.reader) [] l.initial.reader) (length l.initial.reader)
+
+abbrev pub decreases-conds-found : goal.decreases-conds-found
+decreases-conds-found l = length l.reader
+
+abbrev pub decreases-inside : goal.decreases-inside
+decreases-inside l = 4 * l.room
+
+abbrev pub decreases-member : goal.decreases-member
+decreases-member l = 4 * l.room + 1
+
+abbrev pub decreases-conds : goal.decreases-conds
+decreases-conds l = 4 * l.room + 2
+
+abbrev pub decreases-cond : goal.decreases-cond
+decreases-cond l = 4 * l.room + 3

@@ -1,0 +1,10 @@
+pub mod Items
+pub mod Reading
+pub mod Seen
+pub mod Words
+pub mod Grammar
+pub mod ReadingDomain
+pub mod ReadingProblem
+pub mod Spells
+pub mod SpellsDomain
+pub mod SpellsProblem

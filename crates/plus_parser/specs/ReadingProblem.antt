@@ -1,0 +1,95 @@
+-- Reading a problem from tokens.
+use Rattle.std.specs.Prelude.{ℕ, suc, ◌-◌, Bool, true, false, ◌&&◌, List, [], length, Option, Some, None, is_some, unwrap_or, option_and_then, Result, Ok, Err, if◌then◌else◌, codes}
+use Rattle.plus_tree.specs.declared.names.Span.{Span}
+use Rattle.plus_tree.specs.declared.names.Spelled.{Spelled}
+use Rattle.plus_tree.specs.declared.trees.Init.{Init}
+use Rattle.plus_tree.specs.declared.trees.Init.TheVariants.{Holds}
+use Rattle.plus_tree.specs.declared.trees.Problem.{Problem}
+use Rattle.plus_tree.specs.declared.faults.TextFault.{TextFault}
+use Rattle.plus_tree.specs.declared.faults.TextFault.TheVariants as faults
+use Rattle.plus_parser.specs.declared.parts.ProblemParts.{ProblemParts}
+use Rattle.plus_parser.specs.declared.words.ProblemWord.{ProblemWord}
+use Rattle.plus_parser.specs.declared.words.ProblemWord.TheVariants as problems
+use Rattle.plus_parser.specs.declared.words.Later.TheVariants as laters
+use Rattle.plus_parser.specs.Items.{Piece, Item}
+use Rattle.plus_parser.specs.Reading.{◌>>=◌, Read, next_of}
+use Rattle.plus_parser.specs.Words.{is_plain, is_init_word, after_head, problem_part_of}
+use Rattle.plus_parser.specs.Grammar.{around, spelled_of, refusal, open_of, close_of, name_of, Step, until_close, Former, form_step, use_end, cond_at}
+use Rattle.plus_parser.specs.ReadingDomain.{requirement_step, Sectioner, section_step, front_of, end_of}
+
+-- ---- the first state
+
+abbrev pub init_with : ℕ → Span → Piece → List Item → Bool → Read Init
+init_with room front p rest true = do
+  u ← use_end (after_head p) room front p rest
+  Ok (Holds u.0, u.1)
+init_with room front p rest false = Err (refusal (is_init_word p) p.span)
+
+-- a member of `:init` whose opening parenthesis takes one of so many places
+unfoldable pub init_at : ℕ → Former Init
+init_at room front items = do
+  p ← next_of (room - 1) items
+  init_with (room - 1) front p.0 p.1 (is_plain p.0)
+
+-- ---- sections
+
+abbrev pub no_problem_parts : ProblemParts
+no_problem_parts = record { domain = None; requirements = None; init = None; goal = None }
+
+abbrev pub problem_part_with : ProblemWord → Sectioner ProblemParts
+problem_part_with problems.Domain room parts front q rest =
+    if is_some parts.domain then Err (faults.Form q.span)
+    else (name_of room rest >>= λ n. close_of laters.Nothing room n.1 >>= λ e. Ok (record parts { domain = Some (spelled_of n.0) }, e.1))
+problem_part_with problems.Requirements room parts front q rest =
+    if is_some parts.requirements then Err (faults.Form q.span)
+    else (until_close requirement_step room (length rest) [] rest >>= λ xs. Ok (record parts { requirements = Some xs.0.0 }, xs.1))
+problem_part_with problems.Init room parts front q rest =
+    if is_some parts.init then Err (faults.Form q.span)
+    else (until_close (form_step (init_at room)) room (length rest) [] rest >>= λ xs. Ok (record parts { init = Some xs.0.0 }, xs.1))
+problem_part_with problems.Goal room parts front q rest =
+    if is_some parts.goal then Err (faults.Form q.span)
+    else (open_of room rest >>= λ o. cond_at room o.0.span o.1 >>= λ c. close_of laters.Nothing room c.1 >>= λ e. Ok (record parts { goal = Some c.0 }, e.1))
+problem_part_with problems.Later room parts front q rest = Err (faults.NotBuilt q.span)
+problem_part_with problems.Other room parts front q rest = Err (faults.Form q.span)
+
+unfoldable pub problem_part : Sectioner ProblemParts
+problem_part room parts front q rest = problem_part_with (problem_part_of q) room parts front q rest
+
+-- each section that is read may stand once
+abbrev pub all_found : ProblemParts → Bool
+all_found parts = ((is_some parts.domain && is_some parts.requirements) && is_some parts.init) && is_some parts.goal
+
+abbrev pub problem_step : ℕ → Step ProblemParts
+problem_step = section_step all_found problem_part
+
+-- ---- the whole
+
+-- the problem of these parts; none where `:domain`, `:init` or `:goal` is missing
+abbrev pub problem_made : Spelled → ProblemParts → Span → Option Problem
+problem_made n parts s =
+    option_and_then (λ d. option_and_then (λ i. option_and_then (λ g. Some (record {
+      name = n;
+      domain = d;
+      requirements = unwrap_or parts.requirements [];
+      init = i;
+      goal = g;
+      span = s;
+    })) parts.goal) parts.init) parts.domain
+
+-- a closing parenthesis that comes too early
+abbrev pub or_early : {A : Type 0} → Span → Option A → Result A TextFault
+or_early last (Some x) = Ok x
+or_early last None = Err (faults.Form last)
+
+-- a problem, with room for so many more parentheses inside a section
+unfoldable pub problem_in : ℕ → List Item → Result Problem TextFault
+problem_in room items = do
+  f ← front_of (codes "problem") room items
+  ps ← until_close (problem_step (suc room)) (suc room) (length f.1) no_problem_parts f.1
+  x ← or_early ps.0.1 (problem_made f.0.0 ps.0.0 (around f.0.1 ps.0.1))
+  e ← end_of ps.1
+  Ok x
+
+-- the problem that tokens spell with at most so many parentheses open at once, two or more; or why they spell none
+abbrev pub problem_of : ℕ → List Item → Result Problem TextFault
+problem_of depth items = problem_in (depth - 2) items

@@ -1,0 +1,244 @@
+//! Reads a problem.
+
+ghost use Rattle.std.specs.Prelude.{◌≡◌, true, ◌<◌, ◌≤◌, ◌-◌, ◌+◌, [], length, OnOk, Ok, MatchResult, codes};
+ghost use Rattle.plus_parser.specs.Reading.{Gives, Fails, is_open};
+ghost use Rattle.plus_parser.specs.Grammar.{around, until_close, form_step, refusal};
+ghost use Rattle.plus_parser.specs.ReadingDomain.{section_step};
+ghost use Rattle.plus_parser.specs.ReadingProblem.{init_at, problem_part, all_found, problem_step, no_problem_parts, problem_made, or_early, problem_of, problem_in};
+ghost use Rattle.plus_parser.specs.Words.{is_init_word};
+ghost use Rattle.plus_parser.specs.Seen.{seen};
+
+use crate::conditions::{self, around, use_end};
+use crate::domains::{end, front, or_none, requirements};
+use crate::parts::ProblemParts;
+use crate::reader::{Reader, Seen};
+use crate::words::{
+    HeadWord, Later, ProblemWord, after_head, head_of, is_close, is_init_word, is_open,
+    problem_part_of,
+};
+use plus_tree::{CondTree, Init, Members, Problem, Span, Spelled, TextFault};
+use std::alloc::Global;
+
+// The member of `:init` whose opening parenthesis took one of so many places.
+#[tactic(auto, unfolding(crate::specs::ReadingProblem::init_at))]
+fn init(alloc: Global, reader: &mut Reader<'_>, room: u8, front: Span) -> Result<Init, TextFault>
+    requires { 0 < room }
+    ensures gives { Gives (λ i. i) reader.new result (init_at room front reader.old) }
+    ensures shorter { OnOk result (length reader.new < length reader.old) }
+{
+    let token = reader.next(room - 1)?;
+    match head_of(&token) {
+        HeadWord::Plain => {
+            let later = after_head(&token);
+            let atom = use_end(alloc, reader, later, room - 1, front, &token)?;
+            Ok(Init::Holds(atom))
+        }
+        _ => Err(no_init(&token)),
+    }
+}
+
+// Why a token begins no member of `:init`.
+fn no_init(token: &Seen<'_>) -> TextFault
+    ensures { result ≡ refusal (is_init_word (seen token.now)) token.now.span }
+{
+    if is_init_word(token) {
+        TextFault::NotBuilt { span: token.span }
+    } else {
+        TextFault::Form { span: token.span }
+    }
+}
+
+// One more member of `:init`, which begins with a token.
+#[tactic(auto, unfolding(crate::specs::Grammar::form_step))]
+fn next_init(
+    alloc: Global,
+    reader: &mut Reader<'_>,
+    room: u8,
+    found: &mut Members<Init>,
+    token: &Seen<'_>,
+) -> Result<(), TextFault>
+    requires { is_open token.now.kind ≡ true → 0 < room }
+    ensures gives { Gives (λ _. found.new) reader.new result
+        (form_step (init_at room) found.old (seen token.now) reader.old) }
+    ensures shorter { OnOk result (length reader.new < length reader.old) }
+{
+    if !is_open(token.kind) {
+        return Err(TextFault::Form { span: token.span });
+    }
+    let one = init(alloc, reader, room, token.span)?;
+    found.push(one)?;
+    Ok(())
+}
+
+// The members of `:init` up to the closing parenthesis.
+fn inits(
+    alloc: Global,
+    reader: &mut Reader<'_>,
+    room: u8,
+) -> Result<(Members<Init>, Span), TextFault>
+    ensures gives { Gives (λ x. x) reader.new result
+        (until_close (form_step (init_at room)) room (length reader.old) [] reader.old) }
+    ensures shorter { OnOk result (length reader.new < length reader.old) }
+{
+    let mut found = Members::new(alloc);
+    'found: loop {
+        let token = reader.next(room)?;
+        if is_close(token.kind) {
+            return Ok((found, token.span));
+        }
+        next_init(alloc, reader, room, &mut found, &token)?;
+    }
+}
+
+// The section behind its keyword.
+#[tactic(auto, unfolding(crate::specs::ReadingProblem::problem_part))]
+fn part(
+    alloc: Global,
+    reader: &mut Reader<'_>,
+    room: u8,
+    found: &mut ProblemParts,
+    front: Span,
+    keyword: &Seen<'_>,
+) -> Result<(), TextFault>
+    ensures gives { Gives (λ _. found.new) reader.new result
+        (problem_part room found.old front (seen keyword.now) reader.old) }
+    ensures shorter { OnOk result (length reader.new < length reader.old) }
+{
+    match problem_part_of(keyword) {
+        ProblemWord::Domain if found.domain.is_none() => {
+            let name = reader.name(room)?;
+            reader.close(Later::Nothing, room)?;
+            found.domain = Some(name.spelled(alloc)?);
+            Ok(())
+        }
+        ProblemWord::Requirements if found.requirements.is_none() => {
+            let (members, _) = requirements(alloc, reader, room)?;
+            found.requirements = Some(members);
+            Ok(())
+        }
+        ProblemWord::Init if found.init.is_none() => {
+            let (members, _) = inits(alloc, reader, room)?;
+            found.init = Some(members);
+            Ok(())
+        }
+        ProblemWord::Goal if found.goal.is_none() => {
+            let start = reader.open(room)?;
+            let goal = conditions::inside(alloc, reader, room, start.span)?;
+            reader.close(Later::Nothing, room)?;
+            found.goal = Some(goal);
+            Ok(())
+        }
+        ProblemWord::Later => Err(TextFault::NotBuilt { span: keyword.span }),
+        _ => Err(TextFault::Form { span: keyword.span }),
+    }
+}
+
+impl ProblemParts {
+    // Whether each section that is read was found.
+    fn all_found(&self) -> bool
+        ensures { result ≡ all_found self.now }
+    {
+        self.domain.is_some()
+            && self.requirements.is_some()
+            && self.init.is_some()
+            && self.goal.is_some()
+    }
+}
+
+// The section that begins with a token.
+#[tactic(auto, unfolding(crate::specs::ReadingDomain::section_step))]
+fn section(
+    alloc: Global,
+    reader: &mut Reader<'_>,
+    room: u8,
+    found: &mut ProblemParts,
+    token: &Seen<'_>,
+) -> Result<(), TextFault>
+    requires { is_open token.now.kind ≡ true → 0 < room }
+    ensures gives { Gives (λ _. found.new) reader.new result
+        (problem_step room found.old (seen token.now) reader.old) }
+    ensures shorter { OnOk result (length reader.new < length reader.old) }
+{
+    if !is_open(token.kind) {
+        return Err(TextFault::Form { span: token.span });
+    }
+    if found.all_found() {
+        return Err(TextFault::NotBuilt { span: token.span });
+    }
+    let keyword = reader.next(room - 1)?;
+    part(alloc, reader, room - 1, found, token.span, &keyword)
+}
+
+// The sections of a problem, up to its closing parenthesis.
+fn sections(
+    alloc: Global,
+    reader: &mut Reader<'_>,
+    room: u8,
+) -> Result<(ProblemParts, Span), TextFault>
+    ensures gives { Gives (λ x. x) reader.new result
+        (until_close (problem_step room) room (length reader.old) no_problem_parts reader.old) }
+    ensures shorter { OnOk result (length reader.new < length reader.old) }
+{
+    let mut found = ProblemParts {
+        domain: None,
+        requirements: None,
+        init: None,
+        goal: None,
+    };
+    'found: loop {
+        let token = reader.next(room)?;
+        if is_close(token.kind) {
+            return Ok((found, token.span));
+        }
+        section(alloc, reader, room, &mut found, &token)?;
+    }
+}
+
+// The problem of these parts, whose last parenthesis comes too early where one is missing.
+fn made(
+    alloc: Global,
+    name: Spelled,
+    parts: ProblemParts,
+    span: Span,
+    last: Span,
+) -> Result<Problem, TextFault>
+    ensures { result ≡ or_early last (problem_made name parts span) }
+{
+    let early = TextFault::Form { span: last };
+    let ProblemParts {
+        domain,
+        requirements,
+        init,
+        goal,
+    } = parts;
+    let Some(domain) = domain else {
+        return Err(early);
+    };
+    let Some(init) = init else {
+        return Err(early);
+    };
+    let Some(goal) = goal else {
+        return Err(early);
+    };
+    Ok(Problem {
+        name,
+        domain,
+        requirements: or_none(alloc, requirements),
+        init,
+        goal,
+        span,
+    })
+}
+
+/// The problem that a reader gives.
+#[tactic(auto, unfolding(crate::specs::ReadingProblem::problem_in))]
+pub fn problem(alloc: Global, reader: &mut Reader<'_>) -> Result<Problem, TextFault>
+    ensures gives { MatchResult result
+        (λ p. problem_of 64 reader.old ≡ Ok p) (λ e. Fails e (problem_of 64 reader.old)) }
+{
+    let (name, start) = front(alloc, reader, b"problem")?;
+    let (parts, last) = sections(alloc, reader, 63)?;
+    let problem = made(alloc, name, parts, around(start, last), last)?;
+    end(reader)?;
+    Ok(problem)
+}
