@@ -96,10 +96,10 @@ at_most_one_over text rest left front piece count limit so_far next within over 
 )
 
 -- what was written and one more piece, off the front of what was left
-pub Took-more : (start before now : Option (List ℕ)) (bytes : List ℕ) (done count : ℕ)
+pub took_more : (start before now : Option (List ℕ)) (bytes : List ℕ) (done count : ℕ)
     → Took start before (take done bytes) → Took before now (take count (take (length bytes - done) (drop done bytes)))
     → Took start now (take (done + count) bytes)
-Took-more start before now bytes done count e f =
+took_more start before now bytes done count e f =
     f ∙ ap (λ l. append_known before (take count l)) (take_rest bytes done)
     ∙ ap (λ b. append_known b (take count (drop done bytes))) e
     ∙ append_known-append start (take done bytes) (take count (drop done bytes))

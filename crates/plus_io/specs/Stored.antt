@@ -1,5 +1,5 @@
 -- Files in memory, of which one may be picked and read.
-use Rattle.std.specs.Prelude.{ℕ, List, [], ◌∷◌, ◌++◌, Option, Some, None, slice_set, slice_get, unwrap_or, drop}
+use Rattle.std.specs.Prelude.{ℕ, ◌-◌, ◌^◌, List, [], ◌∷◌, ◌++◌, Option, Some, None, slice_set, slice_get, unwrap_or, drop}
 use Rattle.std.specs.List.{position}
 use Rattle.std.specs.Str.{bytes_eq}
 
@@ -14,6 +14,10 @@ pub record Texts : Type 0 where
   pub picked : Option ℕ
   pub rest : List ℕ
 
+-- no files yet, and reads as long as they are asked for
+abbrev pub no_files : Texts
+no_files = record { names = []; texts = []; most = 2 ^ 64 - 1; picked = None; rest = [] }
+
 -- the place of a name in the list, if it is there
 abbrev pub place_of : List (List ℕ) → List ℕ → Option ℕ
 place_of names name = position (λ n. bytes_eq n name) names
@@ -22,6 +26,10 @@ place_of names name = position (λ n. bytes_eq n name) names
 abbrev pub name_at : List (List ℕ) → Option ℕ → Option (List ℕ)
 name_at names None = None
 name_at names (Some place) = slice_get names place
+
+-- the name that is picked, if any
+abbrev pub picked_name : Texts → Option (List ℕ)
+picked_name t = name_at t.names t.picked
 
 -- the bytes at a place
 abbrev pub text_at : List (List ℕ) → Option ℕ → List ℕ

@@ -3,7 +3,7 @@
 ghost use Rattle.std.specs.Prelude.{◌≡◌, ℕ, ◌+◌, ◌<◌, ◌≤◌, [], Some, None, Ok, Contains, true, take, min, length, IsOk, IsErr, OnOk, OnErr, IfOk, ◌↔◌};
 ghost use Rattle.plus_io.specs.Faults.{one_more};
 ghost use Rattle.plus_io.specs.MemShelf.{state_of, is_listed, has_failure, with_failure, after_pick, after_fault};
-ghost use Rattle.plus_io.specs.Stored.{place_of, text_under, name_at, with_file, reading};
+ghost use Rattle.plus_io.specs.Stored.{place_of, no_files, text_under, picked_name, with_file, reading};
 
 use crate::stored::Stored;
 use crate::{Failed, Shelf};
@@ -17,7 +17,8 @@ pub struct Listed {
     call: u64,
 }
 
-/// A shelf in memory that tells all its bytes. It fails where a failure is listed, and nowhere else.
+/// A shelf in memory that tells all its bytes. It fails where a failure is listed, and nowhere
+/// else. A missing file is played by a listed failure of its pick.
 #[derive(Drop)]
 pub struct MemShelf {
     stored: Stored,
@@ -29,10 +30,7 @@ pub struct MemShelf {
 impl MemShelf {
     /// A shelf with no files, made for no name, that reads as much at once as it is asked for.
     pub fn new(alloc: Global) -> MemShelf
-        ensures files { ((state_of result).stored.names ≡ []) × ((state_of result).stored.texts ≡ []) }
-        ensures picked { ((state_of result).stored.picked ≡ None) × ((state_of result).stored.rest ≡ []) }
-        ensures listed { (state_of result).listed ≡ [] }
-        ensures faults { (state_of result).faults ≡ 0 }
+        ensures { state_of result ≡ record { stored = no_files; listed = []; reads = 0; faults = 0 } }
     {
         MemShelf {
             stored: Stored::new(alloc),
@@ -62,10 +60,11 @@ impl MemShelf {
         self.stored.set_most(most);
     }
 
-    /// Lists a failure: of the pick of a name, which is call 0, or of the read of that number since.
-    /// From then on the shelf is made for that name.
+    /// Lists a failure: of the pick of a name, which is call 0, or of the read of that number
+    /// since. From then on the shelf is made for that name.
     pub fn fail(&mut self, name: &str, call: u64) -> Result<(), AllocError>
-        ensures ok { OnOk result (state_of self.new ≡ with_failure (state_of self.old) name.now call) }
+        ensures ok { OnOk result (
+            state_of self.new ≡ with_failure (state_of self.old) name.now call) }
         ensures err { OnErr result (state_of self.new ≡ state_of self.old) }
     {
         self.listed.reserve(1)?;
@@ -80,10 +79,11 @@ impl MemShelf {
             (place_of (state_of self.old).stored.names name.now) 0 ≡ true) }
         ensures ok { OnOk result (state_of self.new ≡ after_pick (state_of self.old)
             (place_of (state_of self.old).stored.names name.now)) }
-        ensures err { OnErr result (state_of self.new ≡ after_fault (after_pick (state_of self.old) None)) }
+        ensures err { OnErr result (
+            state_of self.new ≡ after_fault (after_pick (state_of self.old) None)) }
         ensures no_fall { (state_of self.old).faults ≤ (state_of self.new).faults }
-        ensures found { Contains (state_of self.old).stored.names name.now → OnOk result (
-            name_at (state_of self.new).stored.names (state_of self.new).stored.picked ≡ Some name.now) }
+        ensures found { Contains (state_of self.old).stored.names name.now →
+            OnOk result (picked_name (state_of self.new).stored ≡ Some name.now) }
         ensures absent { ¬ Contains (state_of self.old).stored.names name.now →
             IsOk result × ((state_of self.new).stored.picked ≡ None) }
     {
@@ -111,11 +111,12 @@ impl MemShelf {
         })) }
         ensures count { IfOk result (λ count. count ≡ min (length (state_of self.old).stored.rest)
             (min (state_of self.old).stored.most (length into.old))) }
-        ensures piece { IfOk result (λ count. take count into.new ≡ take count (state_of self.old).stored.rest) }
+        ensures piece { IfOk result (λ count.
+            take count into.new ≡ take count (state_of self.old).stored.rest) }
         ensures no_fall { (state_of self.old).faults ≤ (state_of self.new).faults }
-        ensures at_end { 0 < length into.old → IfOk result (λ count. count ≡ 0 → (state_of self.old).stored.rest ≡ []) }
-        ensures unpicked { name_at (state_of self.old).stored.names (state_of self.old).stored.picked ≡ None →
-            result ≡ Ok 0 }
+        ensures at_end { 0 < length into.old →
+            IfOk result (λ count. count ≡ 0 → (state_of self.old).stored.rest ≡ []) }
+        ensures unpicked { picked_name (state_of self.old).stored ≡ None → result ≡ Ok 0 }
     {
         self.reads = self.reads.saturating_add(1);
         if is_listed(&self.listed, self.stored.picked(), self.reads) {
@@ -149,7 +150,7 @@ impl Shelf for MemShelf {
 
     ghost bytes = { λ s name. Some (text_under s.stored name) };
 
-    ghost picked = { λ s. name_at s.stored.names s.stored.picked };
+    ghost picked = { λ s. picked_name s.stored };
 
     ghost rest = { λ s. Some s.stored.rest };
 

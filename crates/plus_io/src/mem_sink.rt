@@ -6,8 +6,8 @@ ghost use Rattle.std.specs.Prelude.{◌≡◌, ℕ, ◌<◌, ◌≤◌, [], ◌�
 use crate::{Failed, Sink};
 use std::alloc::{AllocError, Global};
 
-/// A sink in memory that tells its bytes. It stands for a device: where memory is refused, that is a
-/// fault of its own. Otherwise it fails where a failure is listed, and nowhere else.
+/// A sink in memory that tells its bytes. It stands for a device: where memory is refused, that is
+/// a fault of its own. Otherwise it fails where a failure is listed, and nowhere else.
 #[derive(Drop)]
 pub struct MemSink {
     bytes: Vec<u8>,
@@ -24,7 +24,13 @@ impl MemSink {
     /// A sink that takes at most `most` bytes at once.
     pub fn new(alloc: Global, most: usize) -> MemSink
         requires { 0 < most }
-        ensures { sink_state result ≡ record { bytes = []; most = most; listed = []; writes = 0; faults = 0 } }
+        ensures { sink_state result ≡ record {
+          bytes = [];
+          most = most;
+          listed = [];
+          writes = 0;
+          faults = 0;
+        } }
     {
         MemSink {
             bytes: Vec::new(alloc),
@@ -57,10 +63,13 @@ impl MemSink {
     fn write_listed(&mut self, from: &[u8]) -> Result<usize, Failed>
         ensures ok { IfOk result (λ count.
             sink_state self.new ≡ after_write (sink_state self.old) (take count from.now)) }
-        ensures count { IfOk result (λ count. count ≡ min (sink_state self.old).most (length from.now)) }
-        ensures err { OnErr result (sink_state self.new ≡ after_failed_write (sink_state self.old)) }
+        ensures count { IfOk result (λ count.
+            count ≡ min (sink_state self.old).most (length from.now)) }
+        ensures err { OnErr result (
+            sink_state self.new ≡ after_failed_write (sink_state self.old)) }
         ensures no_fall { (sink_state self.old).faults ≤ (sink_state self.new).faults }
-        ensures listed { Contains (sink_state self.old).listed (one_more (sink_state self.old).writes) → IsErr result }
+        ensures listed { Contains (sink_state self.old).listed (one_more (sink_state self.old).writes) →
+            IsErr result }
     {
         self.writes = self.writes.saturating_add(1);
         let count = self.most.min(from.len());

@@ -1,7 +1,7 @@
 //! A shelf and a sink that never fail.
 
 ghost use Rattle.std.specs.Prelude.{◌≡◌, ℕ, ◌+◌, ◌-◌, ◌^◌, ◌<◌, ◌≤◌, min, [], Some, None, take, length, OnOk, OnErr, IfOk, IsOk};
-ghost use Rattle.plus_io.specs.Stored.{Texts, text_under, name_at, with_file};
+ghost use Rattle.plus_io.specs.Stored.{no_files, text_under, picked_name, with_file};
 
 use crate::stored::Stored;
 use crate::{Failed, Shelf, Sink};
@@ -19,8 +19,7 @@ impl QuietShelf {
 
     /// A shelf with no files, made for no name, that reads as much at once as it is asked for.
     pub fn new(alloc: Global) -> QuietShelf
-        ensures files { ((files_of result).names ≡ []) × ((files_of result).texts ≡ []) }
-        ensures picked { ((files_of result).picked ≡ None) × ((files_of result).rest ≡ []) }
+        ensures { files_of result ≡ no_files }
     {
         QuietShelf {
             stored: Stored::new(alloc),
@@ -29,7 +28,8 @@ impl QuietShelf {
 
     /// Puts a file under a name, in the place of the one that is there. Nothing is picked then.
     pub fn put(&mut self, name: &str, bytes: &[u8]) -> Result<(), AllocError>
-        ensures ok { OnOk result (files_of self.new ≡ with_file (files_of self.old) name.now bytes.now) }
+        ensures ok { OnOk result (
+            files_of self.new ≡ with_file (files_of self.old) name.now bytes.now) }
         ensures err { OnErr result (files_of self.new ≡ files_of self.old) }
     {
         self.stored.put(name.as_bytes(), bytes)
@@ -49,7 +49,7 @@ impl Shelf for QuietShelf {
 
     ghost bytes = { λ s name. Some (text_under s.stored name) };
 
-    ghost picked = { λ s. name_at s.stored.names s.stored.picked };
+    ghost picked = { λ s. picked_name s.stored };
 
     ghost rest = { λ s. Some s.stored.rest };
 

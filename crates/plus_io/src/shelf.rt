@@ -29,7 +29,8 @@ pub trait Shelf {
 
     /// Picks the text under a name, to be read from its first byte.
     fn pick(&mut self, name: &str) -> Result<(), Failed>
-        ensures picked { OnOk result (Contains (names self.old) name.now → picked self.new ≡ Some name.now) }
+        ensures picked { OnOk result (
+            Contains (names self.old) name.now → picked self.new ≡ Some name.now) }
         ensures rest { OnOk result (rest self.new ≡ bytes self.old name.now) }
 
         // After a fault nothing is picked.
@@ -75,18 +76,22 @@ pub fn read_all<S: Shelf>(
 ) -> Result<(), ReadStop>
     requires { vec_len into.old ≡ 0 }
 
-    ensures whole { OnOk result (IfSome (S.bytes shelf.old name.now) (λ bytes. into.new.items ≡ bytes)) }
+    ensures whole { OnOk result (
+        IfSome (S.bytes shelf.old name.now) (λ bytes. into.new.items ≡ bytes)) }
     ensures within { vec_len into.new ≤ limit }
-    ensures too_long { IsErrOf result ReadStop.TooLong → IfSome (S.bytes shelf.old name.now) (λ bytes.
+    ensures too_long { IsErrOf result ReadStop.TooLong →
+        IfSome (S.bytes shelf.old name.now) (λ bytes.
         (limit < length bytes) × (into.new.items ≡ take limit bytes)) }
     ensures full { IsErrOf result ReadStop.TooLong → vec_len into.new ≡ limit }
-    ensures cause { IsErrOf result ReadStop.Failed → Rose (S.faults shelf.old) (S.faults shelf.new) }
+    ensures cause { IsErrOf result ReadStop.Failed →
+        Rose (S.faults shelf.old) (S.faults shelf.new) }
     ensures prefix { OnErr result (IfSome (S.bytes shelf.old name.now) (IsPrefix into.new.items)) }
 
     // Nothing was read, since the pick failed, or at most one byte past the limit was taken.
     ensures taken { IsUnpicked result (S.picked shelf.new) into.new.items
         ⊎ TakesAtMost (limit + 1) (S.bytes shelf.old name.now) (S.rest shelf.new) }
-    ensures picked { OnOk result (Contains (S.names shelf.old) name.now → S.picked shelf.new ≡ Some name.now) }
+    ensures picked { OnOk result (
+        Contains (S.names shelf.old) name.now → S.picked shelf.new ≡ Some name.now) }
     ensures to_the_end { OnOk result (IsAtEnd (S.rest shelf.new)) }
 
     ensures outside { ¬ Contains (S.names shelf.old) name.now →

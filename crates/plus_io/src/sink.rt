@@ -19,7 +19,8 @@ pub trait Sink {
         requires { 0 < length from.now }
         ensures some { IfOk result (λ count. 0 < count) }
         ensures within { IfOk result (λ count. count ≤ length from.now) }
-        ensures took { IfOk result (λ count. Took (taken self.old) (taken self.new) (take count from.now)) }
+        ensures took { IfOk result (λ count.
+            Took (taken self.old) (taken self.new) (take count from.now)) }
 
         ensures cause { OnErr result (Rose (faults self.old) (faults self.new)) }
         ensures stays { OnErr result (taken self.new ≡ taken self.old) }
@@ -27,6 +28,7 @@ pub trait Sink {
 }
 
 /// Writes all the bytes, or, after a fault, some first bytes and not all of them.
+#[tactic(auto, using(crate::proofs::Pieces::took_more))]
 pub fn write_all<O: Sink>(sink: &mut O, bytes: &[u8]) -> Result<(), Failed>
     ensures took { OnOk result (Took (O.taken sink.old) (O.taken sink.new) bytes.now) }
     ensures cause { OnErr result (Rose (O.faults sink.old) (O.faults sink.new)) }

@@ -5,7 +5,7 @@ ghost use Rattle.std.specs.Option.{ForSome};
 ghost use Rattle.std.specs.List.{position};
 ghost use Rattle.std.specs.Str.{bytes_eq};
 ghost use Rattle.plus_io.specs.Named.{names_of, texts_of};
-ghost use Rattle.plus_io.specs.Stored.{place_of, name_at, with_name, with_text, with_file, with_named, picking, reading};
+ghost use Rattle.plus_io.specs.Stored.{place_of, name_at, no_files, picked_name, with_name, with_text, with_file, with_named, picking, reading};
 
 use std::alloc::{AllocError, Global};
 use std::marker::Model;
@@ -64,8 +64,10 @@ fn put_at(
     bytes: &[u8],
 ) -> Result<(), AllocError>
     requires { ForSome place (λ place. place < length files.old.items) }
-    ensures names { OnOk result (names_of files.new.items ≡ with_name place (names_of files.old.items) name.now) }
-    ensures texts { OnOk result (texts_of files.new.items ≡ with_text place (texts_of files.old.items) bytes.now) }
+    ensures names { OnOk result (
+        names_of files.new.items ≡ with_name place (names_of files.old.items) name.now) }
+    ensures texts { OnOk result (
+        texts_of files.new.items ≡ with_text place (texts_of files.old.items) bytes.now) }
     ensures err { OnErr result (files.new.items ≡ files.old.items) }
 {
     let bytes = Vec::from_slice(alloc, bytes)?;
@@ -81,7 +83,7 @@ fn put_at(
 
 impl Stored {
     pub fn new(alloc: Global) -> Stored
-        ensures { result ≡ record { names = []; texts = []; most = usize.MAX; picked = None; rest = [] } }
+        ensures { result ≡ no_files }
     {
         Stored {
             alloc,
@@ -102,7 +104,8 @@ impl Stored {
     pub fn place_of(&self, name: &[u8]) -> Option<usize>
         ensures place { result ≡ place_of self.now.names name.now }
         ensures within { ForSome result (λ place. place < length self.now.names) }
-        ensures found { Contains self.now.names name.now → name_at self.now.names result ≡ Some name.now }
+        ensures found { Contains self.now.names name.now →
+            name_at self.now.names result ≡ Some name.now }
         ensures absent { ¬ Contains self.now.names name.now → result ≡ None }
     {
         first_named(&self.files, name)
@@ -130,7 +133,8 @@ impl Stored {
     pub fn add(&mut self, name: &[u8]) -> Result<usize, AllocError>
         ensures place { IfOk result (λ place.
             place ≡ unwrap_or (place_of self.old.names name.now) (length self.old.names)) }
-        ensures ok { OnOk result (self.new ≡ with_named (place_of self.old.names name.now) self.old name.now) }
+        ensures ok { OnOk result (
+            self.new ≡ with_named (place_of self.old.names name.now) self.old name.now) }
         ensures err { OnErr result (self.new ≡ self.old) }
     {
         if let Some(place) = self.place_of(name) {
@@ -152,7 +156,7 @@ impl Stored {
     pub fn read(&mut self, into: &mut [u8]) -> usize
         ensures count { result ≡ min (length self.old.rest) (min self.old.most (length into.old)) }
         ensures at_end { 0 < length into.old → result ≡ 0 → self.old.rest ≡ [] }
-        ensures unpicked { name_at self.old.names self.old.picked ≡ None → result ≡ 0 }
+        ensures unpicked { picked_name self.old ≡ None → result ≡ 0 }
         ensures piece { take result into.new ≡ take result self.old.rest }
         ensures rest { self.new ≡ reading self.old result }
     {
