@@ -59,8 +59,8 @@ pub bits_of-zero : (count n : ℕ) → bits_of count (replicate n 0) ≡ replica
 bits_of-zero count n =
     let size : length (bits_of count (replicate n 0)) ≡ count = length-bits_of count (replicate n 0) in
     ext_get_or false _ _ (size ∙ sym (length-replicate count false)) (λ i h.
-      let below : i < count = rw size at h in
-      get_or-bits_of count (replicate n 0) i below ∙ ap (λ (x : ℕ). bit_of x (i % 64)) (zero_in n (i / 64)) ∙ ap (λ (x : ℕ). nat_eq x 1) (bit_at-zero (i % 64)) ∙ sym (get_or-replicate count i false false below))
+    let below : i < count = rw size at h in
+    get_or-bits_of count (replicate n 0) i below ∙ ap (λ (x : ℕ). bit_of x (i % 64)) (zero_in n (i / 64)) ∙ ap (λ (x : ℕ). nat_eq x 1) (bit_at-zero (i % 64)) ∙ sym (get_or-replicate count i false false below))
 
 pub bits_read : (count : ℕ) (words : List ℕ) (i word : ℕ) → i < count → count ≤ 64 * length words → word ≡ get_or words (i / 64) word → bit_of word (i % 64) ≡ unwrap_or (slice_get (bits_of count words) i) false
 bits_read count words i word h k e =
@@ -95,8 +95,8 @@ module _ (count : ℕ) (words : List ℕ) (i new : ℕ) (b : Bool) (below : i < 
   bits_written =
       let size : length (bits_of count (set words (i / 64) new)) ≡ count = length-bits_of count (set words (i / 64) new) in
       ext_get_or false _ _ (size ∙ sym (length-set (bits_of count words) i b ∙ length-bits_of count words)) (λ j h.
-        let inside : j < count = rw size at h in
-        get_or-bits_of count (set words (i / 64) new) j inside ∙ at_bit j (nat_eq (j / 64) (i / 64)) inside refl)
+      let inside : j < count = rw size at h in
+      get_or-bits_of count (set words (i / 64) new) j inside ∙ at_bit j (nat_eq (j / 64) (i / 64)) inside refl)
 
 pub ruleset making = (bits_of-zero)
 

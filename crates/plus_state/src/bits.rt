@@ -27,9 +27,7 @@ impl Model for Bits {
 #[tactic(auto, using(crate::proofs::BitsLemmas::one_word))]
 fn with_bit(word: u64, bit: u32, present: bool) -> u64
     requires { bit < 64 }
-    ensures {
-        (k : ℕ) → k < 64 → bit_of result k ≡ (if nat_eq k bit then present else bit_of word k)
-    }
+    ensures { (k : ℕ) → k < 64 → bit_of result k ≡ (if nat_eq k bit then present else bit_of word k) }
 {
     if present {
         word | 1 << bit
