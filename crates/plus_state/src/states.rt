@@ -1,18 +1,21 @@
-// A state over a type of exact fractions, whose contracts see the model's state.
+// States: the truth of each ground atom and the value of each ground fluent.
 ghost use Rattle.std.specs.Prelude.{◌≡◌, ◌<◌, ◌^◌, Bool, false, Option, None, length, map, option_map, replicate, slice_set, IfOk};
 ghost use Rattle.plus_fraction.specs.Fraction.{Fraction};
 ghost use Rattle.plus_model.specs.Terms.{State as Meant};
 ghost use Rattle.plus_model.specs.Value.{fluent_of, atom_of};
 ghost use Rattle.plus_model.specs.Codes.{coded_state};
 
+use crate::bits::Bits;
 use crate::term::{AtomId, FluentId};
 use plus_number::exact::Exact;
 use std::alloc::{AllocError, Global};
 use std::marker::Model;
 
+/// A state for a number of atoms and a number of fluents. Contracts see the state of the model: a list
+/// of truths and a list of values, by the numbers of atoms and fluents.
 #[derive(Drop)]
 pub struct State<Q: Exact> {
-    truths: Vec<bool>,
+    truths: Bits,
     values: Vec<Option<Q>>,
 }
 
@@ -21,17 +24,17 @@ impl<Q: Exact> Model for State<Q> {
 
     ghost coded = { coded_state };
 
-    ghost view = { λ s. record { atoms = s.truths.items; fluents = map (option_map Q.value) s.values.items } };
+    ghost view = { λ s. record { atoms = s.truths; fluents = map (option_map Q.value) s.values.items } };
 
-    ghost invariant = { λ s. (length s.truths.items < 2 ^ 32) × (length s.values.items < 2 ^ 32) };
+    ghost invariant = { λ s. length s.values.items < 2 ^ 32 };
 }
 
 impl<Q: Exact> State<Q> {
-    // The state without any atom and any value.
+    /// The state for so many atoms and fluents in which no atom holds and no fluent has a value.
     pub fn new(alloc: Global, atoms: u32, fluents: u32) -> Result<State<Q>, AllocError>
         ensures { IfOk result (λ s. s ≡ record { atoms = replicate atoms false; fluents = replicate fluents None }) }
     {
-        let truths = vec![in alloc; false; atoms as usize]?;
+        let truths = Bits::new(alloc, atoms)?;
         let mut values = Vec::new(alloc);
         for _i in 0..fluents {
             values.push(None)?;
@@ -39,13 +42,15 @@ impl<Q: Exact> State<Q> {
         Ok(State { truths, values })
     }
 
+    /// Makes an atom true or false, and changes nothing else.
     pub fn put(&mut self, atom: AtomId, present: bool)
         requires { atom.0 < length (self.old.atoms) }
         ensures { self.new ≡ record (self.old) { atoms = slice_set (self.old.atoms) atom.0 present } }
     {
-        self.truths[atom.0 as usize] = present;
+        self.truths.set(atom.0, present);
     }
 
+    /// Gives a fluent a value or none, and changes nothing else.
     pub fn give(&mut self, fluent: FluentId, value: Option<Q>)
         requires { fluent.0 < length (self.old.fluents) }
         ensures { self.new ≡ record (self.old) { fluents = slice_set (self.old.fluents) fluent.0 (option_map Q.value value) } }
@@ -53,20 +58,27 @@ impl<Q: Exact> State<Q> {
         self.values[fluent.0 as usize] = value;
     }
 
-    // Whether an atom is there.
+    /// Whether an atom holds.
     pub fn atom(&self, atom: AtomId) -> bool
         requires { atom.0 < length (self.now.atoms) }
         ensures { result ≡ atom_of self.now atom.0 }
     {
-        self.truths[atom.0 as usize]
+        self.truths.get(atom.0)
     }
 
-    // The value of a fluent, if it has one.
+    /// The value of a fluent, if it has one.
     pub fn fluent(&self, fluent: FluentId) -> Option<Q>
         requires { fluent.0 < length (self.now.fluents) }
         ensures { option_map Q.value result ≡ fluent_of self.now fluent.0 }
     {
         self.values[fluent.0 as usize]
+    }
+
+    /// The number of atoms.
+    pub fn atoms(&self) -> u32
+        ensures { result ≡ length self.now.atoms }
+    {
+        self.truths.len()
     }
 
     /// The number of fluents.
@@ -76,12 +88,11 @@ impl<Q: Exact> State<Q> {
         self.values.len() as u32
     }
 
-    // An equal state.
+    /// An equal state.
     pub fn copy(&self, alloc: Global) -> Result<State<Q>, AllocError>
         ensures { IfOk result (λ s. s ≡ self.now) }
     {
-        let mut truths = Vec::new(alloc);
-        truths.extend_from_slice(&self.truths)?;
+        let truths = self.truths.copy(alloc)?;
         let mut values = Vec::new(alloc);
         values.extend_from_slice(&self.values)?;
         Ok(State { truths, values })

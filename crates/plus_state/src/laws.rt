@@ -1,0 +1,30 @@
+// Laws over the definitions alone.
+ghost use Rattle.plus_state.specs.Laws.{JointPasses, JointStops, AddingMore};
+ghost use Rattle.plus_state.specs.Rows.{ConditionRows, JointRows};
+
+use plus_number::exact::Exact;
+
+/// Where all steps of a joint effect pass, it is the state after the writes that are due.
+pub fn joint_passes<Q: Exact>()
+    ensures { JointPasses Q.fits }
+{}
+
+/// Where the first step that stops is a fault, there is no joint effect, because of it.
+pub fn joint_stops<Q: Exact>()
+    ensures { JointStops Q.fits }
+{}
+
+/// Effects that are added after others ask, and make due, what they ask and make due alone.
+pub fn adding_more()
+    ensures { AddingMore }
+{}
+
+/// Worked rows of what conditions ask.
+pub fn condition_rows()
+    ensures { ConditionRows }
+{}
+
+/// Worked rows of what joint effects ask.
+pub fn joint_rows()
+    ensures { JointRows }
+{}
