@@ -1,4 +1,4 @@
--- The labels that a report shows: `(name arg arg)` for each ground thing, by its number in ground order.
+-- The labels that a report shows: `(name arg arg)` for each ground thing, by its number.
 use Rattle.std.specs.Prelude.{ℕ, List, [], option_map, slice_get, unwrap_or}
 use Rattle.plus_model.specs.Terms.{Event, Process, Problem}
 

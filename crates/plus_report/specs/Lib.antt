@@ -6,3 +6,5 @@ pub mod Rows
 pub mod Shown
 pub mod Puts
 pub mod Wrote
+pub mod Refusals
+pub mod Verdicts

@@ -20,4 +20,7 @@ pub record Stops (taken taken' : Option (List ℕ)) (waiting text : List ℕ) : 
 -- the text is put behind the bytes that wait; a fault, which the sink counts, stops before its end
 pub record Puts {O T E : Type 0} (taken : O → Option (List ℕ)) (faults : O → ℕ) (old new : O) (waiting waiting' text : List ℕ) (r : Result T E) : Type 0 where
   pub no_fall : faults old ≤ faults new
-  pub outcome : MatchResult r (λ _. Moves (taken old) (taken new) waiting waiting' text) (λ _. Rose (faults old) (faults new) × Stops (taken old) (taken new) waiting text)
+  pub outcome :
+      MatchResult r
+      (λ _. Moves (taken old) (taken new) waiting waiting' text)
+      (λ _. Rose (faults old) (faults new) × Stops (taken old) (taken new) waiting text)

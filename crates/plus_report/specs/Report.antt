@@ -43,6 +43,6 @@ unfoldable pub report_from : Labels → Problem → Plan → State → List Part
 report_from N P L s [] = []
 report_from N P L s (part ∷ parts) = part_text N P L s part ++ report_from N P L (state_after s part) parts
 
--- the report of a history. At the first entry the state before it and the state on arrival are both the initial state
+-- the report of a history. At the first entry the state before it and on arrival are the initial one
 unfoldable pub report_of : Labels → Problem → Plan → List Part → List ℕ
 report_of N P L h = report_from N P L P.initial h

@@ -14,7 +14,7 @@ ReportGrows =
     → Prefix P L h
     → report_of N P L (h ++ part ∷ []) ≡ report_of N P L h ++ part_text N P L (view_of P h).state part
 
--- lines that come later in the plan, and its end, change nothing in the report of what was done before
+-- lines that come later in the plan, and its end, change nothing in the report of what was done
 abbrev pub ReportStays : Type 0
 ReportStays =
     (N : Labels) (P : Problem) (L : Plan) (more : List Line) (closed : Bool) (h : List Part)

@@ -7,7 +7,8 @@ use Rattle.plus_model.specs.History.{Part, Enter, Round, Act, Run}
 use Rattle.plus_state.specs.View.{Labels}
 use Rattle.plus_report.specs.Report.{report_of}
 
--- what a report reads of a problem: labels of processes and of events, times of literals, and the initial state
+-- what a report reads of a problem: labels of processes and of events, times of literals, and the
+-- initial state
 abbrev pub problem_with : List (List ℕ) → List (List ℕ) → List Timed → State → Problem
 problem_with processes events timed initial = record {
   atoms = 0;

@@ -1,4 +1,5 @@
--- The lines of a report: what stands for each part of a history. Each line ends in LF; indents are spaces (this project's profile).
+-- The lines of a report: what stands for each part of a history. Each line ends in LF, and indents
+-- are spaces (this project's profile).
 use Rattle.std.specs.Prelude.{ℕ, zero, suc, Bool, ◌&&◌, not, ◌==◌, List, [], ◌∷◌, ◌++◌, Option, Some, None, length, codes, decimal, if◌then◌else◌}
 use Rattle.std.specs.Fmt.{signed_decimal}
 use Rattle.std.specs.List.{flat_map}
@@ -39,10 +40,12 @@ value_line indent label v = indent ++ label ++ codes " = " ++ (fraction_text v +
 unfoldable pub new_value_line : List ℕ → List ℕ → Option Fraction → Option Fraction → List ℕ
 new_value_line indent label old None = []
 new_value_line indent label None (Some new) = value_line indent label new
-new_value_line indent label (Some old) (Some new) = if passes Same (compared old new) then [] else value_line indent label new
+new_value_line indent label (Some old) (Some new) =
+    if passes Same (compared old new) then [] else value_line indent label new
 
 abbrev pub fluent_line : List ℕ → List (List ℕ) → State → State → ℕ → List ℕ
-fluent_line indent labels s s' f = new_value_line indent (label_at labels f) (fluent_of s f) (fluent_of s' f)
+fluent_line indent labels s s' f =
+    new_value_line indent (label_at labels f) (fluent_of s f) (fluent_of s' f)
 
 -- the fluents whose value is another one in the second state
 unfoldable pub fluents_text : List ℕ → Labels → State → State → List ℕ
@@ -52,9 +55,11 @@ fluents_text indent N s s' = lines_below (fluent_line indent N.fluents s s') (le
 unfoldable pub lost_text : List ℕ → Labels → State → State → List ℕ
 lost_text mark N s s' = lines_below (lost_line mark N.atoms s s') (length N.atoms)
 
--- from one state to the next: atoms lost, atoms gained, fluents with another value, each in ground order
+-- from one state to the next: atoms lost, atoms gained, fluents with another value, in ground order
 unfoldable pub changes_text : Labels → State → State → List ℕ
-changes_text N s s' = lost_text (codes "    - ") N s s' ++ lost_text (codes "    + ") N s' s ++ fluents_text (codes "    ") N s s'
+changes_text N s s' =
+    lost_text (codes "    - ") N s s' ++ lost_text (codes "    + ") N s' s
+    ++ fluents_text (codes "    ") N s s'
 
 -- the labels of these numbers, each after one space
 unfoldable pub labels_text : (ℕ → List ℕ) → List ℕ → List ℕ
@@ -62,7 +67,8 @@ labels_text label ids = flat_map (λ i. codes " " ++ label i) ids
 
 -- a moment: its time, and each fluent whose value on arrival is not the one before the stretch
 unfoldable pub entry_text : Labels → Fraction → State → State → List ℕ
-entry_text N t before arrival = codes "at " ++ (fraction_text t ++ newline) ++ fluents_text (codes "  ") N before arrival
+entry_text N t before arrival =
+    codes "at " ++ (fraction_text t ++ newline) ++ fluents_text (codes "  ") N before arrival
 
 -- what the timed initial literals of a moment change
 unfoldable pub literals_text : Labels → State → State → List ℕ
@@ -70,7 +76,8 @@ literals_text N arrival after = codes "  literals\n" ++ changes_text N arrival a
 
 -- the events that fire, and what they change
 unfoldable pub round_text : Labels → Problem → List ℕ → State → State → List ℕ
-round_text N P events before after = codes "  events" ++ labels_text (event_label P) events ++ newline ++ changes_text N before after
+round_text N P events before after =
+    codes "  events" ++ labels_text (event_label P) events ++ newline ++ changes_text N before after
 
 -- an action, by its label, and what it changes
 unfoldable pub act_text : Labels → List ℕ → State → State → List ℕ

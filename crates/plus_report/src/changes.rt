@@ -48,7 +48,8 @@ fn put_new_value<Q: Exact, O: Sink>(
     new: Option<Q>,
 ) -> Result<(), Failed>
     ensures { Puts O.taken O.faults out.old out.new waiting.old.items waiting.new.items
-        (new_value_line indent.now label.now (option_map Q.value old) (option_map Q.value new)) result }
+        (new_value_line indent.now label.now (option_map Q.value old) (option_map Q.value new))
+        result }
 {
     let Some(value) = new else {
         return Ok(());

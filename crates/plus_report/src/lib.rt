@@ -6,5 +6,9 @@ mod labels;
 pub mod laws;
 mod parts;
 mod put;
+mod refusals;
+mod verdicts;
 
 pub use parts::{write_act, write_entry, write_literals, write_round, write_run};
+pub use refusals::{Early, Kinds, Text, Word, write_early};
+pub use verdicts::{Verdict, write_verdict};

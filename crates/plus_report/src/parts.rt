@@ -31,7 +31,8 @@ fn put_events<Q: Exact, O: Sink>(
 ) -> Result<(), Failed>
     requires { AreEvents (problem_of Q.value ground.now) events.now }
     ensures { Puts O.taken O.faults out.old out.new waiting.old.items waiting.new.items
-        (labels_text (event_label (problem_of Q.value ground.now)) (event_numbers events.now)) result }
+        (labels_text (event_label (problem_of Q.value ground.now)) (event_numbers events.now))
+        result }
 {
     for &event in events {
         put_spaced(out, waiting, event_label_of(ground, event))?;
@@ -47,7 +48,8 @@ fn put_processes<Q: Exact, O: Sink>(
 ) -> Result<(), Failed>
     requires { AreProcesses (problem_of Q.value ground.now) members.now }
     ensures { Puts O.taken O.faults out.old out.new waiting.old.items waiting.new.items
-        (labels_text (process_label (problem_of Q.value ground.now)) (process_numbers members.now)) result }
+        (labels_text (process_label (problem_of Q.value ground.now)) (process_numbers members.now))
+        result }
 {
     for &process in members {
         put_spaced(out, waiting, process_label_of(ground, process))?;
@@ -98,7 +100,8 @@ fn put_round<Q: Exact, O: Sink>(
     requires events { AreEvents (problem_of Q.value ground.now) events.now }
     requires states { AreOver (labels_of ground.now) before.now after.now }
     ensures { Puts O.taken O.faults out.old out.new waiting.old.items waiting.new.items
-        (round_text (labels_of ground.now) (problem_of Q.value ground.now) (event_numbers events.now) before.now after.now) result }
+        (round_text (labels_of ground.now) (problem_of Q.value ground.now)
+        (event_numbers events.now) before.now after.now) result }
 {
     put(out, waiting, b"  events")?;
     put_events(out, waiting, ground, events)?;
@@ -137,8 +140,8 @@ fn put_run<Q: Exact, O: Sink>(
     put(out, waiting, b"\n")
 }
 
-/// Writes a moment: its time, and the fluents whose value on arrival is not the one before the stretch.
-/// For the first entry both states are the initial one.
+/// Writes a moment: its time, and the fluents whose value on arrival is not the one before the
+/// stretch. /// For the first entry both states are the initial one.
 pub fn write_entry<Q: Exact, O: Sink>(
     out: &mut O,
     ground: &Ground<Q>,
@@ -188,7 +191,8 @@ pub fn write_round<Q: Exact, O: Sink>(
     requires before_fits { FitsIn (problem_of Q.value ground.now) before.now }
     requires after_fits { FitsIn (problem_of Q.value ground.now) after.now }
     ensures { Wrote O.taken O.faults out.old out.new
-        (round_text (labels_of ground.now) (problem_of Q.value ground.now) (event_numbers events.now) before.now after.now) result }
+        (round_text (labels_of ground.now) (problem_of Q.value ground.now)
+        (event_numbers events.now) before.now after.now) result }
 {
     let mut waiting = Waiting::new();
     put_round(out, &mut waiting, ground, events, before, after)?;

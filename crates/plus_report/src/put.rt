@@ -1,4 +1,5 @@
-//! Bytes that wait before a sink, so that it is handed few and long pieces. Each call here puts one text behind them.
+//! Bytes that wait before a sink, so that it is handed few and long pieces.
+//! Each call here puts one text behind them.
 ghost use Rattle.std.specs.Prelude.{◌≡◌, ◌<◌, ℕ, [], ◌++◌, decimal, OnOk, pos};
 ghost use Rattle.std.specs.Fmt.{signed_decimal};
 ghost use Rattle.plus_report.specs.Puts.{Puts};
@@ -14,7 +15,8 @@ pub type Waiting = ArrayVec<u8, 512>;
 
 /// Hands all that waits to the sink.
 pub fn flush<O: Sink>(out: &mut O, waiting: &mut Waiting) -> Result<(), Failed>
-    ensures puts { Puts O.taken O.faults out.old out.new waiting.old.items waiting.new.items [] result }
+    ensures puts { Puts O.taken O.faults out.old out.new waiting.old.items waiting.new.items
+        [] result }
     ensures empty { OnOk result (waiting.new.items ≡ []) }
 {
     write_all(out, waiting.as_slice())?;
@@ -23,7 +25,8 @@ pub fn flush<O: Sink>(out: &mut O, waiting: &mut Waiting) -> Result<(), Failed>
 }
 
 pub fn put<O: Sink>(out: &mut O, waiting: &mut Waiting, text: &[u8]) -> Result<(), Failed>
-    ensures { Puts O.taken O.faults out.old out.new waiting.old.items waiting.new.items text.now result }
+    ensures { Puts O.taken O.faults out.old out.new waiting.old.items waiting.new.items
+        text.now result }
 {
     if let Err(_) = waiting.try_extend_from_slice(text) {
         flush(out, waiting)?;
@@ -33,14 +36,16 @@ pub fn put<O: Sink>(out: &mut O, waiting: &mut Waiting, text: &[u8]) -> Result<(
 }
 
 pub fn put_natural<O: Sink>(out: &mut O, waiting: &mut Waiting, n: u64) -> Result<(), Failed>
-    ensures { Puts O.taken O.faults out.old out.new waiting.old.items waiting.new.items (decimal n) result }
+    ensures { Puts O.taken O.faults out.old out.new waiting.old.items waiting.new.items
+        (decimal n) result }
 {
     let mut buffer = Buffer::new();
     put(out, waiting, buffer.format(n).as_bytes())
 }
 
 pub fn put_integer<O: Sink>(out: &mut O, waiting: &mut Waiting, n: i64) -> Result<(), Failed>
-    ensures { Puts O.taken O.faults out.old out.new waiting.old.items waiting.new.items (signed_decimal n) result }
+    ensures { Puts O.taken O.faults out.old out.new waiting.old.items waiting.new.items
+        (signed_decimal n) result }
 {
     let mut buffer = Buffer::new();
     put(out, waiting, buffer.format(n).as_bytes())
@@ -48,7 +53,8 @@ pub fn put_integer<O: Sink>(out: &mut O, waiting: &mut Waiting, n: i64) -> Resul
 
 /// Puts a text and the end of its line.
 pub fn put_end<O: Sink>(out: &mut O, waiting: &mut Waiting, text: &[u8]) -> Result<(), Failed>
-    ensures { Puts O.taken O.faults out.old out.new waiting.old.items waiting.new.items (text.now ++ newline) result }
+    ensures { Puts O.taken O.faults out.old out.new waiting.old.items waiting.new.items
+        (text.now ++ newline) result }
 {
     put(out, waiting, text)?;
     put(out, waiting, b"\n")
@@ -87,7 +93,8 @@ pub fn put_numbered<O: Sink>(
 }
 
 fn put_bottom<O: Sink>(out: &mut O, waiting: &mut Waiting, bottom: u64) -> Result<(), Failed>
-    ensures { Puts O.taken O.faults out.old out.new waiting.old.items waiting.new.items (bottom_text bottom) result }
+    ensures { Puts O.taken O.faults out.old out.new waiting.old.items waiting.new.items
+        (bottom_text bottom) result }
 {
     if bottom == 1 {
         return Ok(());

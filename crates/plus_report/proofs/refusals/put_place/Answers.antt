@@ -1,0 +1,11 @@
+use Rattle.plus_report.specs.Refusals.{place_text}
+use Rattle.plus_report.proofs.PutsLemmas.{both, stop, early}
+use Rattle.plus_report.proofs.refusals.put_place.Goals as goal
+
+pub returns-in_err-put_numbered : goal.returns-in_err-put_numbered
+unfolding place_text
+returns-in_err-put_numbered g c = let h = c.from_residual.ensures.0 in early _ (stop c.in_err-put_numbered.ensures h) h
+
+pub returns : goal.returns
+unfolding place_text
+returns g c = both c.in_ok-put_numbered.ensures c.put_natural.ensures
