@@ -1,6 +1,7 @@
 -- What is spelled is read.
-use Rattle.std.proofs.Common.{◌≡◌, ℕ, ◌<◌, Bool, false, List, [], ◌∷◌, ◌++◌, Ok, refl, sym, ap, ◌∙◌, ⊎_elim}
+use Rattle.std.proofs.Common.{arith, ◌^◌, ◌≤◌, ◌≡◌, ℕ, ◌<◌, Bool, false, List, [], ◌∷◌, ◌++◌, Ok, refl, sym, ap, ◌∙◌, ⊎_elim}
 use Rattle.std.specs.Prelude.{nat_lt, All}
+use Rattle.std.proofs.Math.Nat.{pow-le-pow_right}
 use Rattle.std.proofs.lemmas.Bool.{cond-true, lt-ltb}
 use Rattle.std.proofs.lemmas.List.Elements.{All-head, All-tail}
 use Rattle.plus_tokens.specs.declared.token.Kind.{Kind}
@@ -59,13 +60,26 @@ quotient_time_again t ts colon rest h c = (
 time_again : (t : Time) (ts : List Piece) (colon : Piece) (rest : List Item) → SpellsTime t ts → colon.kind ≡ kinds.Colon → (p : Piece) × (inner : List Piece) × (ts ≡ p ∷ inner) × (time_of p (toks inner (tok colon ∷ rest)) ≡ Ok (t, rest))
 time_again t ts colon rest h c = ⊎_elim (λ d. decimal_again t ts colon rest d c) (λ q. quotient_time_again t ts colon rest q c) h
 
+decimal_above : (t : Time) (ts : List Piece) → SpellsDecimal t ts → 0 < t.bottom
+decimal_above t ts h =
+    let one : 10 ^ 0 ≤ 10 ^ h.2 = pow-le-pow_right {n = 10} (omega arith) {i = 0} {j = h.2} (omega arith) in
+    let e : t.bottom ≡ 10 ^ h.2 = ap (λ (x : Time). x.bottom) h.4 in
+    omega (arith, one, e)
+
+quotient_above : (t : Time) (ts : List Piece) → SpellsQuotient t ts → 0 < t.bottom
+quotient_above t ts h = let e : t.bottom ≡ h.4 = ap (λ (x : Time). x.bottom) h.9 in omega (arith, h.8, e)
+
+-- the bottom of a time is above 0
+pub time_above : (t : Time) (ts : List Piece) → SpellsTime t ts → 0 < t.bottom
+time_above t ts h = ⊎_elim (decimal_above t ts) (quotient_above t ts) h
+
 -- ---- the call
 
 name_again : (p : Piece) (rest : List Item) → IsName p → name_of (tok p ∷ rest) ≡ Ok (p.word, rest)
 unfolding name_of
 name_again p rest e = ap (as_name p rest) e
 
-args_again : (args : List Piece) (last : Piece) (rest : List Item) → All IsName args → last.kind ≡ kinds.Close → args_of (toks args (tok last ∷ rest)) ≡ Ok (words_of args, rest)
+pub args_again : (args : List Piece) (last : Piece) (rest : List Item) → All IsName args → last.kind ≡ kinds.Close → args_of (toks args (tok last ∷ rest)) ≡ Ok (words_of args, rest)
 unfolding args_of
 args_again [] last rest names c = ap (args_with last rest (args_of rest)) c
 args_again (p ∷ args) last rest names c =

@@ -181,15 +181,15 @@ abbrev pub words_of : List Piece → List (List ℕ)
 words_of ps = map (λ (p : Piece). p.word) ps
 
 -- names up to the token that closes
-record TookArgs (ws : List (List ℕ)) (items rest : List Item) : Type 0 where
-  args : List Piece
-  last : Piece
-  names : All IsName args
-  closes : last.kind ≡ kinds.Close
-  words : ws ≡ words_of args
-  whole : items ≡ toks args (tok last ∷ rest)
+pub record TookArgs (ws : List (List ℕ)) (items rest : List Item) : Type 0 where
+  pub args : List Piece
+  pub last : Piece
+  pub names : All IsName args
+  pub closes : last.kind ≡ kinds.Close
+  pub words : ws ≡ words_of args
+  pub whole : items ≡ toks args (tok last ∷ rest)
 
-args_ok : (items rest : List Item) (ws : List (List ℕ)) → args_of items ≡ Ok (ws, rest) → TookArgs ws items rest
+pub args_ok : (items rest : List Item) (ws : List (List ℕ)) → args_of items ≡ Ok (ws, rest) → TookArgs ws items rest
 unfolding args_of
 args_ok [] rest ws e = absurd cc
 args_ok (bad s ∷ is) rest ws e = absurd cc

@@ -5,3 +5,7 @@ pub mod Found
 pub mod Again
 pub mod Cutting
 pub mod OneLine
+pub mod OnePlace
+pub mod Reduced
+pub mod Stops
+pub mod Places

@@ -1,20 +1,23 @@
 -- What is read of a line is what its bytes spell.
-use Rattle.std.proofs.Common.{◌≡◌, ℕ, ◌+◌, ◌<◌, Bool, true, false, cond, List, ◌∷◌, length, drop, Result, Ok, Err, refl, sym, ap, ◌∙◌, arith}
+use Rattle.std.proofs.Common.{◌≡◌, ℕ, ◌+◌, ◌<◌, Bool, true, false, cond, List, ◌∷◌, length, drop, Result, Ok, Err, refl, sym, ap, ◌∙◌, subst, arith}
 use Rattle.std.specs.Prelude.{nat_lt, min, slice_range}
 use Rattle.std.proofs.lemmas.Bool.{cond-false, ltb-false, le-ltb}
 use Rattle.plus_plan.specs.declared.forms.Line.{Line}
+use Rattle.plus_plan.specs.declared.forms.Line.TheVariants as lines
 use Rattle.plus_plan.specs.declared.forms.PlanForm.{PlanForm}
+use Rattle.plus_plan.specs.declared.forms.PlanForm.TheVariants.{Timed, Untimed}
 use Rattle.plus_plan.specs.declared.faults.PlanFault.{PlanFault}
 use Rattle.plus_plan.specs.declared.faults.PlanFault.TheVariants as faults
 use Rattle.plus_plan.specs.declared.reader.Refusal.{Refusal}
-use Rattle.plus_plan.specs.Items.{Item, items_of}
+use Rattle.plus_plan.specs.Items.{Piece, Item, items_of}
 use Rattle.plus_plan.specs.Grammar.{line_of}
 use Rattle.plus_plan.specs.Cut.{lines_of, line_end, line_from, next_line}
 use Rattle.plus_plan.specs.Lines.{placed, read_line, numbered}
-use Rattle.plus_plan.specs.Spells.{line_limit, Spells}
-use Rattle.plus_plan.specs.Answers.{RefusedAs, IsLineAt}
+use Rattle.plus_plan.specs.Spells.{line_limit, Spells, SpellsTokens}
+use Rattle.plus_plan.specs.Answers.{HasBottom, RefusedAs, IsLineAt, IsRefusedAt}
 use Rattle.plus_plan.proofs.Found.{toks-all, line_ok}
-use Rattle.plus_plan.proofs.Again.{line_again}
+use Rattle.plus_plan.proofs.Again.{line_again, time_above}
+use Rattle.plus_plan.proofs.Places.{fault_is}
 use Rattle.plus_plan.proofs.Cutting.{line_end-le, cut_at}
 
 placed_ok : (n size : ℕ) (r : Result Line Refusal) (l : Line) → placed n size r ≡ Ok l → r ≡ Ok l
@@ -64,19 +67,42 @@ same_line form n text from last next l m end_is next_is e s =
     let read : read_line form n (line_from text from) ≡ Ok l = ap (λ k. read_line form n (slice_range text from k)) (sym end_is) ∙ e in
     (said_is l m (sym read ∙ spelled_read form n (line_from text from) m s), next_is ∙ ap (λ k. min (k + 1) (length text)) end_is)
 
+-- the time of a line has a bottom above 0
+has_bottom : (form : PlanForm) (n : ℕ) (l : Line) (ts : List Piece) → SpellsTokens form n l ts → HasBottom l
+has_bottom Timed n lines.Blank ts s = tt
+has_bottom Timed n (lines.Act m t c) ts s = time_above t s.0 s.5
+has_bottom Timed n (lines.End m t) ts s = time_above t s.0 s.4
+has_bottom Timed n (lines.Step m c) ts s = tt
+has_bottom Untimed n lines.Blank ts s = tt
+has_bottom Untimed n (lines.Act m t c) ts s = absurd s
+has_bottom Untimed n (lines.End m t) ts s = absurd s
+has_bottom Untimed n (lines.Step m c) ts s = tt
+
 -- the line at an offset, with this end
 pub is_line_at : (form : PlanForm) (n : ℕ) (text : List ℕ) (from last next : ℕ) (l : Line) → from < length text → last ≡ line_end text from → next ≡ min (last + 1) (length text) → read_line form n (slice_range text from last) ≡ Ok l → IsLineAt form n text from (l, next)
 is_line_at form n text from last next l lt end_is next_is e =
     let read : read_line form n (line_from text from) ≡ Ok l = ap (λ k. read_line form n (slice_range text from k)) (sym end_is) ∙ e in
     let next_line_is : next ≡ next_line text from = next_is ∙ ap (λ k. min (k + 1) (length text)) end_is in
     let cut = cut_at text from lt ∙ ap (λ k. line_from text from ∷ lines_of (drop k text)) (sym next_line_is) in
+    let spelled = read_spelled form n (line_from text from) l read in
     let within = line_end-le text from (omega arith) in
     record {
       read = read;
-      spelled = read_spelled form n (line_from text from) l read;
+      spelled = spelled;
+      bottom = has_bottom form n l spelled.0 spelled.2;
       next = next_line_is;
       rises = omega (arith, next_is, end_is, within);
       inside = omega (arith, next_is);
       cut = cut;
       said = ap (numbered form n) cut ∙ ap (λ r. r ∷ numbered form (n + 1) (lines_of (drop next text))) read;
+    }
+
+-- the line at an offset, with this end, is refused
+pub is_refused_at : (form : PlanForm) (n : ℕ) (text : List ℕ) (from last : ℕ) (e : PlanFault) → from < length text → last ≡ line_end text from → RefusedAs e (read_line form n (slice_range text from last)) → IsRefusedAt form n text from e
+is_refused_at form n text from last e lt end_is r =
+    let read : RefusedAs e (read_line form n (line_from text from)) = subst (λ (k : ℕ). RefusedAs e (read_line form n (slice_range text from k))) end_is r in
+    record {
+      read = read;
+      why = fault_is form n (line_from text from) e read;
+      said = ap (numbered form n) (cut_at text from lt);
     }

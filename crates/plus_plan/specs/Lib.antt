@@ -4,5 +4,7 @@ pub mod Seen
 pub mod Reading
 pub mod Grammar
 pub mod Spells
+pub mod Place
 pub mod Lines
 pub mod Answers
+pub mod TimeValue

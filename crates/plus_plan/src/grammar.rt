@@ -2,7 +2,10 @@
 
 ghost use Rattle.std.specs.Prelude.{◌≡◌, ◌≤◌, ◌^◌, MatchResult};
 ghost use Rattle.plus_plan.specs.Reading.{Gives, Fails};
-ghost use Rattle.plus_plan.specs.Grammar.{colon_of, divisor_of, quotient_of, time_of, name_of, args_of, call_of, end_of, number_of, close_square_of, duration_of, timed_line, untimed_line, around};
+ghost use Rattle.plus_plan.specs.Grammar.{around, colon_of, divisor_of, quotient_of, time_of};
+ghost use Rattle.plus_plan.specs.Grammar.{args_of, call_of, name_of};
+ghost use Rattle.plus_plan.specs.Grammar.{close_square_of, duration_of, end_of, number_of};
+ghost use Rattle.plus_plan.specs.Grammar.{timed_line, untimed_line};
 ghost use Rattle.plus_plan.specs.Seen.{seen, HasFewPlaces};
 
 use crate::forms::{Line, Time};

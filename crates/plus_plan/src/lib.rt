@@ -4,9 +4,14 @@
 pub mod faults;
 pub mod forms;
 mod grammar;
+pub mod laws;
 pub mod lines;
 mod reader;
+#[cfg(test)]
+mod tests;
+pub mod values;
 
 pub use faults::PlanFault;
 pub use forms::{Line, PlanForm, Time};
 pub use lines::line_at;
+pub use values::time_value;

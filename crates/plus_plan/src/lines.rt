@@ -1,14 +1,13 @@
 //! Reads a text line by line.
 
-ghost use Rattle.std.specs.Prelude.{◌≡◌, ◌<◌, ◌≤◌, ◌↔◌, length, IfOk, IfSome, IfErr, MatchResult};
-ghost use Rattle.plus_plan.specs.Cut.{line_end, line_from, next_line};
+ghost use Rattle.std.specs.Prelude.{◌≡◌, ◌<◌, ◌≤◌, ◌↔◌, length, IfErr, IfOk, IfSome, MatchResult};
+ghost use Rattle.plus_plan.specs.Cut.{line_end};
 ghost use Rattle.plus_plan.specs.Grammar.{line_of};
 ghost use Rattle.plus_plan.specs.Items.{items_of};
 ghost use Rattle.plus_plan.specs.Lines.{fault_of, read_line};
 ghost use Rattle.plus_plan.specs.Reading.{Fails};
-ghost use Rattle.plus_plan.specs.Spells.{Spells, line_limit};
-ghost use Rattle.plus_plan.specs.Answers.{RefusedAs, IsLineAt};
-ghost use Rattle.plus_plan.specs.declared.forms.Line.{Line as LineValue};
+ghost use Rattle.plus_plan.specs.Spells.{line_limit};
+ghost use Rattle.plus_plan.specs.Answers.{GivesSpelled, IsLineAt, IsRefusedAt, IsTooLong, RefusedAs};
 
 use crate::faults::PlanFault;
 use crate::forms::{Line, PlanForm};
@@ -79,8 +78,8 @@ fn read_line(alloc: Global, bytes: &[u8], line: u32, form: PlanForm) -> Result<L
     }
 }
 
-/// The line of a text that begins at `from`, with this number, and where the next one begins: behind
-/// its LF or at the end of the text.
+/// The line of a text that begins at `from`, with this number, and the offset at which the next one
+/// begins: behind its LF, or at the end of the text.
 pub fn line_at(
     alloc: Global,
     text: &[u8],
@@ -91,13 +90,13 @@ pub fn line_at(
     requires { from ≤ length text.now }
     // There is none exactly at the end of the text.
     ensures none { (result ≡ Ok None) ↔ (from ≡ length text.now) }
+    // What is given is the line that begins there: what it says, and where the next begins.
     ensures line { IfOk result (λ o. IfSome o (IsLineAt form line text.now from)) }
-    // Each refusal but want of memory is that of the line.
-    ensures refused { IfErr result (λ e. RefusedAs e (read_line form line (line_from text.now from))) }
+    // A line is refused at the one place of its fault, or since it is too long.
+    ensures refused { IfErr result (IsRefusedAt form line text.now from) }
     // What is spelled is read, unless memory runs out.
-    ensures only { (l : LineValue) → from < length text.now → Spells form line l (line_from text.now from)
-        → MatchResult result (λ o. o ≡ Some (l, next_line text.now from)) (λ e. e ≡ PlanFault.Memory) }
-    ensures too_long { (result ≡ Err (PlanFault.LineTooLong line)) ↔ (line_limit < length (line_from text.now from)) }
+    ensures only { from < length text.now → GivesSpelled form line text.now from result }
+    ensures too_long { (result ≡ Err (PlanFault.LineTooLong line)) ↔ IsTooLong text.now from }
 {
     if from == text.len() {
         return Ok(None);
