@@ -4,3 +4,6 @@ pub mod Begun
 pub mod StillBreaches
 pub mod Advanced
 pub mod Finished
+pub mod Acted
+pub mod Follows
+pub mod Serving

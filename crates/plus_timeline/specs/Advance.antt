@@ -1,5 +1,5 @@
--- What `advance` does, and why it is refused. The moment u up to which time may go is the least of the time asked for and of
--- the later times of literals.
+-- What `advance` does, and why it is refused. The moment u up to which time may go is the least of the
+-- time asked for and of the later times of literals.
 use Rattle.std.specs.Prelude.{◌≡◌, ◌⊎◌, ℕ, suc, ◌<◌, Bool, true, false, List, [], ◌∷◌, Option, Some, None, Err}
 use Rattle.plus_fraction.specs.Fraction.{Fraction, ◌<ℚ◌, ◌≤ℚ◌}
 use Rattle.plus_model.specs.Terms.{Effect, State, Problem}

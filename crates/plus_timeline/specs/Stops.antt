@@ -1,4 +1,5 @@
--- When a call is refused. A breach or a limit is named exactly where it stands, and want of memory is the one free answer.
+-- When a call is refused. A breach or a limit is named exactly where it stands, and want of memory is
+-- the one free answer.
 use Rattle.std.specs.Prelude.{◌≡◌, Result, Ok, Err, true, false}
 use Rattle.plus_state.specs.declared.outcome.Breach.{Breach as Broken}
 use Rattle.plus_state.specs.declared.outcome.Limit.{Limit as Limited}
@@ -33,3 +34,8 @@ EndedExactly v (Err (Breach b)) = IsGoing v
 EndedExactly v (Err (Limit l)) = IsGoing v
 EndedExactly v (Err Ended) = v.ended ≡ true
 EndedExactly v (Err Memory) = IsGoing v
+
+-- a helper of the calls never answers `Ended`
+abbrev pub NeverEnded : {Q A : Type 0} → Result A (Stop Q) → Type 0
+NeverEnded (Err Ended) = ⊥
+NeverEnded _ = Unit {0}

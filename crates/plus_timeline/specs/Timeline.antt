@@ -1,5 +1,5 @@
--- What contracts see of a timeline: the view of the history played so far, on which the next part depends, and what the
--- accessors answer.
+-- What contracts see of a timeline: the view of the history played so far, on which the next part
+-- depends, and what the accessors answer.
 use Rattle.std.specs.Prelude.{◌≡◌, ℕ, ◌<◌, ◌≤◌, Bool, false, List, [], map, Option, Some, None, pos}
 use Rattle.std.specs.List.{list_any}
 use Rattle.plus_fraction.specs.Fraction.{Fraction, whole, compared}
@@ -73,8 +73,8 @@ running_by (Some Run) running = Some running
 running_by (Some (Entry t)) running = None
 running_by (Some There) running = None
 
--- what each timeline keeps: all its states are for the same atoms and fluents, no process runs, and no more entries are begun
--- than are allowed
+-- what each timeline keeps: all its states are for the same atoms and fluents, no process runs, and no
+-- more entries are begun than are allowed
 pub record Keeps (state before arrival : State) (atoms fluents : ℕ) (running : List ℕ) (answer : Option (Next Fraction)) (entries most : ℕ) : Type 0 where
   pub state_fits : StateFits atoms fluents state
   pub before_fits : StateFits atoms fluents before

@@ -1,6 +1,7 @@
 //! Plays a plan over a ground problem, one part of its history at a time.
 #![tactic(auto)]
 
+mod effect;
 pub mod laws;
 pub mod next;
 pub mod stop;

@@ -1,28 +1,31 @@
 // A timeline: a history that is played one part at a time, and of which only the view is kept.
-ghost use Rattle.std.specs.Prelude.{◌≡◌, ◌≤◌, ◌<◌, ℕ, suc, Bool, true, false, Option, Some, None, List, [], length, map, option_map, unwrap_or, IfOk, OnOk, OnErr};
+ghost use Rattle.std.specs.Prelude.{◌≡◌, ◌≤◌, ◌<◌, ◌↔◌, IsTrue, ℕ, suc, Bool, true, false, Option, Some, None, List, [], length, map, option_map, unwrap_or, IfOk, OnOk, OnErr};
 ghost use Rattle.plus_fraction.specs.Fraction.{◌<ℚ◌};
-ghost use Rattle.plus_model.specs.History.{view_after, Enter, Run as Runs};
+ghost use Rattle.plus_model.specs.History.{view_after, Enter, Act, Run as Runs};
 ghost use Rattle.plus_model.specs.Trajectory.{is_below};
-ghost use Rattle.plus_state.specs.View.{problem_of};
-ghost use Rattle.plus_state.specs.Fits.{StateFits, ProblemFits};
+ghost use Rattle.plus_state.specs.View.{problem_of, action_of};
+ghost use Rattle.plus_state.specs.Fits.{StateFits, ProblemFits, ActionFits};
 ghost use Rattle.plus_timeline.specs.Still.{IsStill, Serves};
 ghost use Rattle.plus_timeline.specs.Timeline.{TimelineView, begun, next_of, event_numbers, process_numbers};
 ghost use Rattle.plus_timeline.specs.Stops.{IsGoing, BreachExactly, LimitExactly, EndedExactly};
+ghost use Rattle.plus_timeline.specs.Act.{DoesAct, BreaksAct, LimitsAct};
 ghost use Rattle.plus_timeline.specs.Finish.{IsPaused, GoalIs, BreaksFinish, LimitsFinish, TakesNoMemory};
 ghost use Rattle.plus_timeline.specs.Advance.{IsAhead, Advances, BreaksAdvance, LimitsAdvance, RunsBy, FullBy};
 
+use crate::effect::action_after;
 use crate::next::Next;
 use crate::stop::Stop;
 use plus_number::consts::zero;
 use plus_number::exact::Exact;
 use plus_state::outcome::{Breach, Limit};
-use plus_state::problem::Ground;
+use plus_state::problem::{Action, Ground};
 use plus_state::states::State;
 use plus_state::term::{EventId, Overflow, ProcessId, Sign};
 use plus_state::truth::holds;
 use std::alloc::{AllocError, Global};
 use std::cmp::Ordering;
 use std::marker::Model;
+use std::mem;
 
 /// A history that is played one part at a time. It keeps no parts, but what the next one depends on,
 /// and what the last one was.
@@ -61,7 +64,8 @@ impl<Q: Exact> Model for Timeline<Q> {
         time = Q.value t.time;
         state = t.state;
         fired = [];
-        running = running_by (option_map (next_of Q.value) t.answer) (process_numbers t.running.items);
+        running = running_by (option_map (next_of Q.value) t.answer)
+            (process_numbers t.running.items);
         acted = t.lines;
       };
       before = unwrap_or t.before t.state;
@@ -91,6 +95,18 @@ fn is_earlier<Q: Exact>(time: Q, other: Q) -> bool
         Ordering::Less => true,
         Ordering::Equal => false,
         Ordering::Greater => false,
+    }
+}
+
+fn copy_of<Q: Exact>(
+    alloc: Global,
+    state: &Option<State<Q>>,
+) -> Result<Option<State<Q>>, AllocError>
+    ensures { IfOk result (λ copy. copy ≡ state.now) }
+{
+    match state {
+        None => Ok(None),
+        Some(state) => Ok(Some(state.copy(alloc)?)),
     }
 }
 
@@ -132,7 +148,8 @@ impl<Q: Exact> Timeline<Q> {
         ensures ok { IfOk result
             (Advances Q.value (problem_of Q.value ground.now) (Q.value until) self.old self.new) }
         ensures breach { BreachExactly
-            (BreaksAdvance Q.value (problem_of Q.value ground.now) (Q.value until) self.old) result }
+            (BreaksAdvance Q.value (problem_of Q.value ground.now) (Q.value until) self.old)
+            result }
         ensures limit { LimitExactly
             (LimitsAdvance Q.value Q.fits (problem_of Q.value ground.now) (Q.value until) self.old)
             result }
@@ -170,6 +187,42 @@ impl<Q: Exact> Timeline<Q> {
         }
         self.close_entry();
         Ok(Next::Run)
+    }
+
+    /// Does an action that is due at the present time: its condition holds, and its joint effect is done.
+    /// `line` is the number of its line in the plan's text, which a breach names.
+    pub fn act(&mut self, ground: &Ground<Q>, action: &Action<Q>, line: u32) -> Result<(), Stop<Q>>
+        requires serves { IsGoing self.old → Serves (problem_of Q.value ground.now) self.old }
+        requires paused { IsGoing self.old → IsPaused self.old }
+        requires action { IsGoing self.old →
+            ActionFits (self.old.atoms) (self.old.fluents) (action_of Q.value action.now) }
+        ensures ok { OnOk result
+            (DoesAct Q.fits (problem_of Q.value ground.now) (action_of Q.value action.now)
+            self.old self.new) }
+        ensures breach { BreachExactly
+            (BreaksAct Q.fits (action_of Q.value action.now) line self.old) result }
+        ensures limit { LimitExactly
+            (LimitsAct Q.value Q.fits (action_of Q.value action.now) self.old) result }
+        ensures ended { EndedExactly self.old result }
+        ensures refused { OnErr result (self.new ≡ record (self.old) { ended = true }) }
+    {
+        if self.has_ended() {
+            return Err(Stop::Ended);
+        }
+        if !self.can_count() {
+            self.end();
+            return Err(Stop::Memory);
+        }
+        match action_after(self.alloc(), self.state(), action, line) {
+            Ok(after) => {
+                self.put_state(after);
+                Ok(())
+            }
+            Err(stop) => {
+                self.end();
+                Err(stop)
+            }
+        }
     }
 
     /// Whether the goal holds. Afterwards the timeline has ended.
@@ -259,6 +312,27 @@ impl<Q: Exact> Timeline<Q> {
         false
     }
 
+    /// A timeline that goes on in the same way.
+    pub fn copy(&self, alloc: Global) -> Result<Timeline<Q>, AllocError>
+        ensures { IfOk result (λ t. t ≡ self.now) }
+    {
+        Ok(Timeline {
+            alloc,
+            time: self.time,
+            state: self.state.copy(alloc)?,
+            before: copy_of(alloc, &self.before)?,
+            arrival: copy_of(alloc, &self.arrival)?,
+            events: Vec::from_slice(alloc, &self.events)?,
+            running: Vec::from_slice(alloc, &self.running)?,
+            lines: self.lines,
+            entries: self.entries,
+            most: self.most,
+            answer: self.answer,
+            acted: self.acted,
+            ended: self.ended,
+        })
+    }
+
     fn has_ended(&self) -> bool
         ensures { result ≡ self.now.ended }
     {
@@ -291,6 +365,35 @@ impl<Q: Exact> Timeline<Q> {
         self.ended = true;
     }
 
+    fn alloc(&self) -> Global {
+        self.alloc
+    }
+
+    // Whether one more action can be counted.
+    fn can_count(&self) -> bool
+        ensures { IsTrue result ↔ (self.now.now.acted < u64.MAX) }
+    {
+        self.lines < u64::MAX
+    }
+
+    // Goes on in the state after an action.
+    fn put_state(&mut self, after: State<Q>)
+        requires there { self.old.answer ≡ Some Next.There }
+        requires count { self.old.now.acted < u64.MAX }
+        requires fits { StateFits (self.old.atoms) (self.old.fluents) after }
+        ensures moment { self.old.now.running ≡ None }
+        ensures now { self.new ≡ record (self.old) {
+          now = view_after (self.old.now) (Act (self.old.now.acted) after);
+          before = self.old.now.state;
+          acted = true;
+        } }
+    {
+        self.arrival = self.arrival.take().or(self.before.take());
+        self.before = Some(mem::replace(&mut self.state, after));
+        self.lines += 1;
+        self.acted = true;
+    }
+
     fn arrive(&mut self)
         ensures { self.new ≡ record (self.old) {
           now = record (self.old.now) { running = None };
@@ -321,7 +424,8 @@ impl<Q: Exact> Timeline<Q> {
     fn begin_entry(&mut self, time: Q)
         requires { self.old.entries < self.old.most }
         ensures { self.new ≡ record (self.old) {
-          now = view_after (self.old.now) (Enter (Q.value time) (self.old.now.state) (self.old.now.state));
+          now = view_after (self.old.now)
+              (Enter (Q.value time) (self.old.now.state) (self.old.now.state));
           before = self.old.now.state;
           arrival = self.old.now.state;
           literal = false;
