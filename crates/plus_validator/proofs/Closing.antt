@@ -1,0 +1,108 @@
+-- The beginning and the end of a run.
+use Rattle.std.proofs.Common.{◌≡◌, ℕ, ◌≤◌, true, false, List, [], ◌∷◌, ◌++◌, refl, ap, sym, subst, ◌∙◌, append-nil, inl, inr, pos, arith}
+use Rattle.std.specs.Prelude.{Option, None, length, if◌then◌else◌}
+use Rattle.plus_fraction.specs.Fraction.{Fraction, whole, ◌≤ℚ◌}
+use Rattle.plus_model.specs.Terms.{Problem}
+use Rattle.plus_model.specs.Plan.{Plan, IsInOrder}
+use Rattle.plus_model.specs.Trajectory.{IsWorked, first_part, literals}
+use Rattle.plus_model.specs.Value.{holds}
+use Rattle.plus_model.proofs.Paths.{prefix_begins}
+use Rattle.plus_model.proofs.Moments.{≤ℚ_refl}
+use Rattle.plus_number.specs.declared.frac.Frac64.{Frac64}
+use Rattle.plus_number.specs.Frac.{fraction_of, IsFrac64}
+use Rattle.plus_state.specs.View.{Labels}
+use Rattle.plus_state.specs.Fits.{ProblemFits}
+use Rattle.plus_timeline.specs.Timeline as timeline
+use Rattle.plus_timeline.specs.Timeline.{TimelineView, begun}
+use Rattle.plus_timeline.specs.Still.{IsStill}
+use Rattle.plus_timeline.specs.Advance.{IsAhead}
+use Rattle.plus_timeline.specs.Finish.{GoalIs}
+use Rattle.plus_timeline.specs.declared.next.Next.TheVariants.{Entry}
+use Rattle.plus_report.specs.Report.{report_of, report_from}
+use Rattle.plus_report.specs.Text.{entry_text, literals_text}
+use Rattle.plus_validator.specs.Standing.{CanGoOn, CanReach, IsReached, HasRoom, next_text, EndsBy, AllActed}
+use Rattle.plus_validator.specs.Running.{IsOnWay, Reaches}
+use Rattle.plus_validator.specs.Playing.{Closes, Begins, closed}
+use Rattle.plus_validator.specs.declared.run.Run.{Run}
+use Rattle.plus_validator.proofs.Steps.{literals_shown}
+use Rattle.plus_validator.proofs.Lines.{close_played, close_target, close_worked}
+
+-- at a moment a time that is not below the present one may be reached
+pub can_reach : (P : Problem) (u : Fraction) (t : TimelineView) → CanGoOn P t → t.now.running ≡ None → IsAhead None t.now.time u → CanReach P u t
+can_reach P u t c m a = record {
+  goes = c;
+  ahead = subst (λ (o : Option (List ℕ)). IsAhead o t.now.time u) (sym m) a;
+  room = subst (λ (o : Option (List ℕ)). HasRoom o t.entries t.most) (sym m) tt;
+}
+
+-- the present time may be reached
+pub can_reach_now : (P : Problem) (now : Fraction) (t : TimelineView) → CanGoOn P t → t.now.running ≡ None → now ≡ t.now.time → CanReach P now t
+can_reach_now P now t c m e = can_reach P now t c m (subst (λ x. t.now.time ≤ℚ x) (sym e) (≤ℚ_refl t.now.time))
+
+-- the first entry is written
+first_report : (N : Labels) (P : Problem) (L : Plan) (most : ℕ) (time : Frac64) → fraction_of time ≡ whole (pos 0) → next_text fraction_of N P (begun P most) (Entry time) ≡ report_of N P L (first_part P ∷ [])
+unfolding report_of report_from
+first_report N P L most time e =
+    ap (λ x. entry_text N x P.initial P.initial ++ (if timeline.has_literal P (whole (pos 0)) then literals_text N P.initial (literals P (whole (pos 0)) P.initial) else [])) e
+    ∙ ap (λ x. entry_text N (whole (pos 0)) P.initial P.initial ++ x) (literals_shown N P (whole (pos 0)) P.initial (literals P (whole (pos 0)) P.initial))
+    ∙ sym (append-nil _)
+
+pub begins : (N : Labels) (P : Problem) (most : ℕ) (time : Frac64) (run : Run) → ProblemFits P → IsStill P → 1 ≤ most → run.timeline ≡ begun P most → run.ended ≡ false → fraction_of time ≡ run.timeline.now.time → run.report.bytes.items ≡ [] ++ next_text fraction_of N P run.timeline (Entry time) → Begins N P most run
+begins N P most time run f s some e n t r =
+    let now : fraction_of time ≡ whole (pos 0) = t ∙ ap (λ v. v.now.time) e in
+    record {
+      rests = record {
+        can = record {
+          serves = record { fits = f; atoms = ap (λ v. v.atoms) e; fluents = ap (λ v. v.fluents) e; still = s };
+          going = ap (λ v. v.ended) e;
+          within = (let a : run.timeline.entries ≡ 1 = ap (λ v. v.entries) e in let b : run.timeline.most ≡ most = ap (λ v. v.most) e in omega arith);
+        };
+        moment = ap (λ v. v.now.running) e;
+        most_is = ap (λ v. v.most) e;
+      };
+      ready = λ L none open_yet. (
+        first_part P ∷ [],
+        record {
+          played = record {
+            prefix = prefix_begins P L (subst IsInOrder (sym none) tt);
+            now = ap (λ v. v.now) e;
+            entries = ap (λ v. v.entries) e;
+            written = r ∙ ap (λ v. next_text fraction_of N P v (Entry time)) e ∙ first_report N P L most time now;
+          };
+          not_closed = open_yet;
+          last = subst (λ b. EndsBy L.lines b run.timeline.now.time) (sym n) (inl (none, ap (λ v. v.now.time) e));
+          acted = subst (λ b. AllActed L.lines b run.timeline.now.acted) (sym n) (ap (λ v. v.now.acted) e ∙ ap length (sym none));
+          moment = ap (λ v. v.now.running) e;
+          worked = inl none;
+        },
+      );
+    }
+
+-- the text is at its end, and the goal holds
+pub closes : (N : Labels) (P : Problem) (old mid new : Run) (now : Fraction) → now ≡ old.timeline.now.time → CanGoOn P old.timeline → Reaches N P now old mid → GoalIs IsFrac64 P mid.timeline true → new.report.bytes.items ≡ mid.report.bytes.items → Closes N P old new
+closes N P old mid new now e c r g w = record {
+  ends = λ L h ready.
+      let on_way : IsOnWay N P (closed L) now old.timeline.now.acted h old = record {
+        played = close_played N P L old.ended h old.timeline old.report.bytes.items ready;
+        target_is = close_target N P L old.ended h old.timeline old.report.bytes.items ready ∙ sym e;
+        acted_is = refl;
+      } in
+      let there = r.reached (closed L) old.timeline.now.acted h (inr refl) on_way in
+      let there_now : IsReached N P (closed L) old.timeline.now.acted old.timeline.now.time there.0 mid.timeline mid.report.bytes.items =
+      subst (λ x. IsReached N P (closed L) old.timeline.now.acted x there.0 mid.timeline mid.report.bytes.items) e there.1 in
+      let within = r.can.within in
+      let most = r.most in
+      let entries = there.1.played.entries in (
+        there.0,
+        record {
+          happens = record {
+            prefix = there.1.played.prefix;
+            closed = refl;
+            worked = subst (IsWorked P (closed L)) there.1.played.now (close_worked N P L old.ended h there.0 old.timeline mid.timeline old.report.bytes.items mid.report.bytes.items ready there_now);
+            goal = subst (λ v. holds P.goal v.state ≡ true) there.1.played.now g.truth_is;
+          };
+          few = omega arith;
+          written = w ∙ there.1.played.written;
+        },
+      );
+}

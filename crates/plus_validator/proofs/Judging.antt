@@ -1,0 +1,84 @@
+-- What the verdict on a text says.
+use Rattle.std.proofs.Common.{◌≡◌, ℕ, ◌≤◌, Bool, List, ◌++◌, refl, ap, sym, subst, ◌∙◌}
+use Rattle.std.specs.Prelude.{length, OnOk, IfErr, Result, Ok, Err}
+use Rattle.plus_model.specs.Terms.{Problem}
+use Rattle.plus_number.specs.declared.frac.Frac64.{Frac64}
+use Rattle.plus_number.specs.Frac.{fraction_of}
+use Rattle.plus_state.specs.View.{Labels}
+use Rattle.plus_tree.specs.declared.trees.Domain.{Domain}
+use Rattle.plus_tree.specs.declared.trees.Problem as tree
+use Rattle.plus_ground.specs.Expansion.{expanded, labels_meant}
+use Rattle.plus_report.specs.declared.verdicts.Verdict.{Verdict}
+use Rattle.plus_report.specs.declared.verdicts.Verdict.TheVariants.{Valid, Invalid, Beyond, Other}
+use Rattle.plus_report.specs.Verdicts.{verdict_text, VerdictFits}
+use Rattle.plus_validator.specs.declared.halt.Halt.{Halt}
+use Rattle.plus_validator.specs.declared.halt.Halt.TheVariants.{Refused, Memory}
+use Rattle.plus_validator.specs.declared.judge.Judgement.{Judgement}
+use Rattle.plus_validator.specs.declared.run.Run.{Run}
+use Rattle.plus_validator.specs.Halts.{HaltFits}
+use Rattle.plus_report.specs.declared.refusals.Early.{Early}
+use Rattle.plus_report.specs.declared.refusals.Early.TheVariants as early
+use Rattle.plus_validator.specs.declared.judge.Outcome.TheVariants as outcomes
+use Rattle.plus_validator.specs.Outcomes.{early_outcome, outcome_of}
+use Rattle.plus_validator.specs.Playing.{Begins, PlaysWhole}
+use Rattle.plus_validator.specs.Judged.{GivesVerdict, AcceptsWhole, IsPlain, IsJudged}
+use Rattle.plus_validator.proofs.Played.{accepted}
+
+-- the verdict names what the problem has
+pub verdict_fits : (P : Problem) (played : Result (Unit {0}) Halt) (v : Verdict Frac64) → IfErr played (HaltFits P) → GivesVerdict played v → VerdictFits P v
+verdict_fits P (Ok u) v f g = subst (VerdictFits P) (sym g) tt
+verdict_fits P (Err (Refused Valid)) v f g = absurd f.names
+verdict_fits P (Err (Refused (Invalid b))) v f g = subst (VerdictFits P) (sym g) f.names
+verdict_fits P (Err (Refused (Beyond l))) v f g = subst (VerdictFits P) (sym g) f.names
+verdict_fits P (Err (Refused (Other e))) v f g = subst (VerdictFits P) (sym g) tt
+verdict_fits P (Err Memory) v f g = absurd g
+
+early_never : (e : Early) → early_outcome e ≡ outcomes.Valid → ⊥
+early_never (early.BadText text start last word) h = cc
+early_never (early.BadLine line start last) h = cc
+early_never (early.TooLong text) h = cc
+early_never (early.Depth text at) h = cc
+early_never early.DepthOut h = cc
+early_never (early.LineTooLong line) h = cc
+early_never (early.Literal text start last) h = cc
+early_never (early.TooMany kind most) h = cc
+
+valid_only : (v : Verdict Frac64) → outcome_of v ≡ outcomes.Valid → v ≡ Valid
+valid_only Valid h = refl
+valid_only (Invalid b) h = cc
+valid_only (Beyond l) h = cc
+valid_only (Other e) h = absurd (early_never e h)
+
+early_plain : (e : Early) → IsPlain (early_outcome e)
+early_plain (early.BadText text start last word) = tt
+early_plain (early.BadLine line start last) = tt
+early_plain (early.TooLong text) = tt
+early_plain (early.Depth text at) = tt
+early_plain early.DepthOut = tt
+early_plain (early.LineTooLong line) = tt
+early_plain (early.Literal text start last) = tt
+early_plain (early.TooMany kind most) = tt
+
+verdict_plain : (v : Verdict Frac64) → IsPlain (outcome_of v)
+verdict_plain Valid = tt
+verdict_plain (Invalid b) = tt
+verdict_plain (Beyond l) = tt
+verdict_plain (Other e) = early_plain e
+
+module _ (d : Domain) (p : tree.Problem) (N : Labels) (P : Problem) (most : ℕ) (text : List ℕ) (goes_on : Bool) (old new : Run) where
+  says : (bytes : List ℕ) (played : Result (Unit {0}) Halt) (v : Verdict Frac64) → v ≡ Valid → length text ≤ 1048576 → P ≡ expanded d p → N ≡ labels_meant d → Begins N P most old → OnOk played (PlaysWhole d N P text goes_on old new) → IfErr played (HaltFits P) → GivesVerdict played v → bytes ≡ new.report.bytes.items ++ verdict_text fraction_of N P v → AcceptsWhole d p most text goes_on bytes
+  says bytes (Ok u) v i w e n b r f g k = record {
+    whole = r.whole;
+    accepted = accepted d p N P most text bytes old new w e n b r.plays (k ∙ ap (λ x. new.report.bytes.items ++ verdict_text fraction_of N P x) i);
+  }
+  says bytes (Err (Refused Valid)) v i w e n b r f g k = absurd f.names
+  says bytes (Err (Refused (Invalid x))) v i w e n b r f g k = absurd (let h : Invalid x ≡ Valid = sym g ∙ i in cc h)
+  says bytes (Err (Refused (Beyond l))) v i w e n b r f g k = absurd (let h : Beyond l ≡ Valid = sym g ∙ i in cc h)
+  says bytes (Err (Refused (Other x))) v i w e n b r f g k = absurd (let h : Other x ≡ Valid = sym g ∙ i in cc h)
+  says bytes (Err Memory) v i w e n b r f g k = absurd g
+
+  pub judged : (j : Judgement) (played : Result (Unit {0}) Halt) (v : Verdict Frac64) → length text ≤ 1048576 → P ≡ expanded d p → N ≡ labels_meant d → Begins N P most old → OnOk played (PlaysWhole d N P text goes_on old new) → IfErr played (HaltFits P) → GivesVerdict played v → j.outcome ≡ outcome_of v → j.bytes.items ≡ new.report.bytes.items ++ verdict_text fraction_of N P v → IsJudged d p most text goes_on j
+  judged j played v w e n b r f g o k = record {
+    valid = λ h. says j.bytes.items played v (valid_only v (sym o ∙ h)) w e n b r f g k;
+    plain = subst IsPlain (sym o) (verdict_plain v);
+  }

@@ -1,0 +1,10 @@
+pub mod Steps
+pub mod Lines
+pub mod Texts
+pub mod Runs
+pub mod Closing
+pub mod Played
+pub mod Shown
+pub mod Atoms
+pub mod Halting
+pub mod Judging

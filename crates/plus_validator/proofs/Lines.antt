@@ -1,0 +1,142 @@
+-- What becomes of a run as its plan is read line by line.
+use Rattle.std.proofs.Common.{◌≡◌, ℕ, zero, suc, ◌+◌, Bool, true, false, List, [], ◌∷◌, ◌++◌, refl, ap, sym, subst, ◌∙◌, arith, append-nil, inl, inr}
+use Rattle.std.specs.Prelude.{◌⊎◌, Some, None, length, slice_get}
+use Rattle.plus_fraction.specs.Fraction.{Fraction, ◌≤ℚ◌}
+use Rattle.plus_model.specs.Terms.{Problem}
+use Rattle.plus_model.specs.Plan.{Called, Line, ActLine, EndLine, time_of, Plan, IsInOrder}
+use Rattle.plus_model.specs.History.{Part, View}
+use Rattle.plus_model.specs.Trajectory.{next_line, time_or, target, HasBegun, IsWorked, IsEndOrNone}
+use Rattle.plus_model.proofs.Later.{prefix_goes_on}
+use Rattle.plus_model.proofs.Reading.{order_grows}
+use Rattle.plus_state.specs.View.{Labels}
+use Rattle.plus_timeline.specs.Timeline.{TimelineView}
+use Rattle.plus_report.specs.Report.{report_of}
+use Rattle.plus_report.proofs.ReportLemmas.{report_of-grown}
+use Rattle.plus_validator.specs.Standing.{IsPlayed, EndsBy, AllActed, IsReady, IsReached}
+use Rattle.plus_validator.specs.Playing.{closed}
+
+-- the plan with one more line
+abbrev pub with_line : Plan → Line → Plan
+with_line L line = record { lines = L.lines ++ line ∷ []; closed = L.closed }
+
+begun_with : (ls : List Line) (line : Line) → (ls ++ line ∷ [] ≡ []) → ⊥
+begun_with [] line e = cc
+begun_with (x ∷ ls) line e = cc
+
+pub has_begun : (L : Plan) (line : Line) → HasBegun (with_line L line)
+has_begun L line = inl (begun_with L.lines line)
+
+-- a run goes on as one of a longer plan
+grown : (N : Labels) (P : Problem) (L L' : Plan) (more : List Line) (h : List Part) (t : TimelineView) (report : List ℕ) → L'.lines ≡ L.lines ++ more → IsInOrder L'.lines → HasBegun L' → IsPlayed N P L h t report → IsPlayed N P L' h t report
+grown N P L L' more h t report e o b p =
+    let is : L' ≡ record { lines = L.lines ++ more; closed = L'.closed } = λ i. record { lines = e i; closed = L'.closed } in
+    record {
+      prefix = prefix_goes_on P L L' h p.prefix (record { more = more; lines = e }) o b;
+      now = p.now;
+      entries = p.entries;
+      written = p.written ∙ sym (ap (λ (M : Plan). report_of N P M h) is ∙ report_of-grown N P L more L'.closed h p.prefix);
+    }
+
+-- lines stay in order when one is read that is not before the last, which is no end
+order_on : (ls : List Line) (time : Fraction) (line : Line) → IsInOrder ls → EndsBy ls false time → time ≤ℚ time_of line → IsInOrder (ls ++ line ∷ [])
+order_on ls time line o (inl e) h = subst (λ ks. IsInOrder (ks ++ line ∷ [])) (sym e.0) tt
+order_on ls time line o (inr e) h =
+    subst (λ ks. IsInOrder (ks ++ line ∷ [])) (sym e.2) (order_grows e.0 time e.1 line (subst IsInOrder e.2 o) h)
+
+-- the line at the end of a list
+get_last : (ls : List Line) (k : ℕ) (line : Line) → k ≡ length ls → slice_get (ls ++ line ∷ []) k ≡ Some line
+get_last [] zero line e = refl
+get_last [] (suc k) line e = absurd (omega arith)
+get_last (x ∷ ls) zero line e = absurd (omega arith)
+get_last (x ∷ ls) (suc k) line e = get_last ls k line (omega arith)
+
+get_none : (ls : List Line) (k : ℕ) → k ≡ length ls → slice_get ls k ≡ None
+get_none [] k e = refl
+get_none (x ∷ ls) zero e = absurd (omega arith)
+get_none (x ∷ ls) (suc k) e = get_none ls k (omega arith)
+
+length_with : (ls : List Line) (line : Line) → length (ls ++ line ∷ []) ≡ suc (length ls)
+length_with [] line = refl
+length_with (x ∷ ls) line = ap suc (length_with ls line)
+
+-- a line is read: the run is on its way to it
+pub read_on : (N : Labels) (P : Problem) (L : Plan) (h : List Part) (t : TimelineView) (report : List ℕ) (line : Line) → IsReady N P L false h t report → t.now.time ≤ℚ time_of line → IsPlayed N P (with_line L line) h t report
+read_on N P L h t report line r le =
+    grown N P L (with_line L line) (line ∷ []) h t report refl
+    (order_on L.lines t.now.time line r.played.prefix.ordered r.last le) (has_begun L line) r.played
+
+pub read_next : (N : Labels) (P : Problem) (L : Plan) (h : List Part) (t : TimelineView) (report : List ℕ) (line : Line) → IsReady N P L false h t report → next_line (with_line L line) t.now ≡ Some line
+read_next N P L h t report line r = get_last L.lines t.now.acted line r.acted
+
+pub read_target : (N : Labels) (P : Problem) (L : Plan) (h : List Part) (t : TimelineView) (report : List ℕ) (line : Line) → IsReady N P L false h t report → target (with_line L line) t.now ≡ time_of line
+read_target N P L h t report line r = ap (λ o. time_or o t.now.time) (read_next N P L h t report line r)
+
+-- the action of the last line is due
+pub act_due : (N : Labels) (P : Problem) (L : Plan) (h : List Part) (t : TimelineView) (report : List ℕ) (call : Called) (time : Fraction) → IsReached N P (with_line L (ActLine time call)) (length L.lines) time h t report → next_line (with_line L (ActLine time call)) t.now ≡ Some (ActLine t.now.time call)
+act_due N P L h t report call time r =
+    get_last L.lines t.now.acted (ActLine time call) r.acted_is ∙ ap (λ x. Some (ActLine x call)) (sym r.time_is)
+
+-- once it is acted, time is to go no further
+pub acted_target : (L : Plan) (line : Line) (v : View) → v.acted ≡ suc (length L.lines) → target (with_line L line) v ≡ v.time
+acted_target L line v e = ap (λ o. time_or o v.time) (get_none (L.lines ++ line ∷ []) v.acted (e ∙ sym (length_with L.lines line)))
+
+-- an action line is worked
+pub act_ready : (N : Labels) (P : Problem) (L : Plan) (h : List Part) (t : TimelineView) (report : List ℕ) (call : Called) (time : Fraction) → L.closed ≡ false → IsReached N P (with_line L (ActLine time call)) (suc (length L.lines)) time h t report → IsReady N P (with_line L (ActLine time call)) false h t report
+act_ready N P L h t report call time open_yet r =
+    let all : t.now.acted ≡ length (L.lines ++ ActLine time call ∷ []) = r.acted_is ∙ sym (length_with L.lines (ActLine time call)) in
+    let none : next_line (with_line L (ActLine time call)) t.now ≡ None = get_none (L.lines ++ ActLine time call ∷ []) t.now.acted all in
+    record {
+      played = r.played;
+      not_closed = open_yet;
+      last = inr (L.lines, call, ap (λ x. L.lines ++ ActLine x call ∷ []) (sym r.time_is));
+      acted = all;
+      moment = r.present.moment;
+      worked = inr (record { acted = subst IsEndOrNone (sym none) tt; still = r.present.still; moment = r.present.moment; over = r.over });
+    }
+
+-- an end line is worked
+pub end_ready : (N : Labels) (P : Problem) (L : Plan) (h : List Part) (t : TimelineView) (report : List ℕ) (time : Fraction) → L.closed ≡ false → IsReached N P (with_line L (EndLine time)) (length L.lines) time h t report → IsReady N P (with_line L (EndLine time)) true h t report
+end_ready N P L h t report time open_yet r =
+    let next : next_line (with_line L (EndLine time)) t.now ≡ Some (EndLine time) = get_last L.lines t.now.acted (EndLine time) r.acted_is in
+    record {
+      played = r.played;
+      not_closed = open_yet;
+      last = (L.lines, ap (λ x. L.lines ++ EndLine x ∷ []) (sym r.time_is));
+      acted = (let k = length_with L.lines (EndLine time) in let j = r.acted_is in omega arith);
+      moment = r.present.moment;
+      worked = inr (record { acted = subst IsEndOrNone (sym next) tt; still = r.present.still; moment = r.present.moment; over = r.over });
+    }
+
+-- ---- the end of the text
+
+pub close_played : (N : Labels) (P : Problem) (L : Plan) (ended : Bool) (h : List Part) (t : TimelineView) (report : List ℕ) → IsReady N P L ended h t report → IsPlayed N P (closed L) h t report
+close_played N P L ended h t report r =
+    grown N P L (closed L) [] h t report (sym (append-nil L.lines)) r.played.prefix.ordered (inr refl) r.played
+
+get_end : (before : List Line) (line : Line) (k : ℕ) (ls : List Line) → ls ≡ before ++ line ∷ [] → k + 1 ≡ length ls → slice_get ls k ≡ Some line
+get_end before line k ls e n =
+    let m : length ls ≡ suc (length before) = ap length e ∙ length_with before line in
+    subst (λ ks. slice_get ks k ≡ Some line) (sym e) (get_last before k line (omega arith))
+
+-- the line that is next at the end of the text is an end at the present time, or there is none
+close_by : (L : Plan) (ended : Bool) (v : View) → EndsBy L.lines ended v.time → AllActed L.lines ended v.acted → (next_line L v ≡ None) ⊎ (next_line L v ≡ Some (EndLine v.time))
+close_by L true v e a = inr (get_end e.0 (EndLine v.time) v.acted L.lines e.1 a)
+close_by L false v e a = inl (get_none L.lines v.acted a)
+
+pub close_target : (N : Labels) (P : Problem) (L : Plan) (ended : Bool) (h : List Part) (t : TimelineView) (report : List ℕ) → IsReady N P L ended h t report → target (closed L) t.now ≡ t.now.time
+close_target N P L ended h t report r = elim (close_by L ended t.now r.last r.acted) [
+  | inl e ↦ ap (λ o. time_or o t.now.time) e
+  | inr e ↦ ap (λ o. time_or o t.now.time) e
+]
+
+pub close_worked : (N : Labels) (P : Problem) (L : Plan) (ended : Bool) (h h' : List Part) (t t' : TimelineView) (report report' : List ℕ) → IsReady N P L ended h t report → IsReached N P (closed L) t.now.acted t.now.time h' t' report' → IsWorked P (closed L) t'.now
+close_worked N P L ended h h' t t' report report' r d =
+    record {
+      acted = subst (λ k. IsEndOrNone (slice_get L.lines k)) (sym d.acted_is) (elim (close_by L ended t.now r.last r.acted) [
+        | inl e ↦ subst IsEndOrNone (sym e) tt
+        | inr e ↦ subst IsEndOrNone (sym e) tt
+      ]);
+      still = d.present.still;
+      moment = d.present.moment;
+      over = d.over;
+    }

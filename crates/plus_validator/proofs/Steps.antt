@@ -1,0 +1,257 @@
+-- What one step of the timeline does to a run of a plan.
+use Rattle.std.proofs.Common.{◌≡◌, ℕ, suc, ◌+◌, ◌<◌, Bool, List, [], ◌∷◌, ◌++◌, refl, ap, sym, subst, ◌∙◌, arith, zero-add, add-zero}
+use Rattle.std.specs.Prelude.{Option, Some, None, length, All, slice_get, ◌||◌, if◌then◌else◌}
+use Rattle.std.specs.List.{list_any}
+use Rattle.std.proofs.lemmas.List.Elements.{All-nil}
+use Rattle.plus_fraction.specs.Fraction.{Fraction, ◌<ℚ◌, ◌≤ℚ◌, compared}
+use Rattle.plus_fraction.proofs.FractionAtMost.{<ℚ-≤ℚ_trans}
+use Rattle.plus_model.specs.Terms.{Same, Timed, State, Problem}
+use Rattle.plus_model.specs.Value.{passes}
+use Rattle.plus_model.specs.Plan.{Line, Plan}
+use Rattle.plus_model.specs.History as history
+use Rattle.plus_model.specs.History.{Part, Enter, Act, View, view_after}
+use Rattle.plus_model.specs.Trajectory.{next_line, time_or, target, least, HasBegun, Next as MayFollow}
+use Rattle.plus_model.proofs.Moments.{not_below, ≤ℚ_refl, ≤ℚ_trans, least_within}
+use Rattle.plus_model.proofs.Paths.{prefix_grows}
+use Rattle.plus_model.proofs.Members.{same_exactly}
+use Rattle.plus_model.specs.Running.{RunsAfter}
+use Rattle.plus_state.specs.View.{Labels}
+use Rattle.plus_timeline.specs.Timeline as timeline
+use Rattle.plus_timeline.specs.Timeline.{TimelineView}
+use Rattle.plus_timeline.specs.Still.{Serves}
+use Rattle.plus_timeline.specs.Advance.{IsAhead, Advances, FiresRound, ClosesEntry, BeginsEntry, IsThere}
+use Rattle.plus_timeline.specs.Laws.{AddsPart, IsDone}
+use Rattle.plus_timeline.proofs.Follows.{advance_follows}
+use Rattle.plus_timeline.proofs.StillWorld.{nothing_fires, none_goes_on}
+use Rattle.plus_timeline.specs.declared.next.Next.{Next}
+use Rattle.plus_timeline.specs.declared.next.Next.TheVariants.{Round, Run, Entry, There}
+use Rattle.plus_report.specs.Text.{entry_text, literals_text, round_text}
+use Rattle.plus_report.specs.Report as reports
+use Rattle.plus_report.specs.Report.{part_text, report_of, literals_part}
+use Rattle.plus_report.proofs.ReportLemmas.{report_of-append}
+use Rattle.plus_validator.specs.Accepted.{entries_of}
+use Rattle.plus_validator.specs.Standing.{IsPlayed, CanReach, IsReached, HasRoom, pending, steps_left, next_text, IsMore, IsShown}
+
+-- ---- the timeline may go on after a step
+
+pub serves_still : (P : Problem) (old new : TimelineView) → new.atoms ≡ old.atoms → new.fluents ≡ old.fluents → Serves P old → Serves P new
+serves_still P old new a f s = record { fits = s.fits; atoms = a ∙ s.atoms; fluents = f ∙ s.fluents; still = s.still }
+
+round_goes : (P : Problem) (u : Fraction) (old new : TimelineView) → CanReach P u old → FiresRound P old new → CanReach P u new
+round_goes P u old new c r =
+    let runs : new.now.running ≡ None = ap (λ v. v.now.running) r.is in
+    let time : new.now.time ≡ old.now.time = ap (λ v. v.now.time) r.is in
+    let e : new.entries ≡ old.entries = ap (λ v. v.entries) r.is in
+    let m : new.most ≡ old.most = ap (λ v. v.most) r.is in
+    let here : old.now.time ≤ℚ u = subst (λ o. IsAhead o old.now.time u) r.moment c.ahead in
+    let w = c.goes.within in
+    record {
+      goes = record { serves = serves_still P old new (ap (λ v. v.atoms) r.is) (ap (λ v. v.fluents) r.is) c.goes.serves; going = ap (λ v. v.ended) r.is ∙ c.goes.going; within = omega arith };
+      ahead = subst (λ o. IsAhead o new.now.time u) (sym runs) (subst (λ t. t ≤ℚ u) (sym time) here);
+      room = subst (λ o. HasRoom o new.entries new.most) (sym runs) tt;
+    }
+
+run_goes : (P : Problem) (u : Fraction) (old new : TimelineView) → CanReach P u old → ClosesEntry P (least old.now.time u P.timed) old new → CanReach P u new
+run_goes P u old new c r =
+    let runs : new.now.running ≡ Some r.members = ap (λ v. v.now.running) r.is in
+    let time : new.now.time ≡ old.now.time = ap (λ v. v.now.time) r.is in
+    let e : new.entries ≡ old.entries = ap (λ v. v.entries) r.is in
+    let m : new.most ≡ old.most = ap (λ v. v.most) r.is in
+    let here : old.now.time <ℚ u = <ℚ-≤ℚ_trans _ _ _ r.may.later (least_within old.now.time u P.timed) in
+    let w = c.goes.within in
+    let k = r.room in
+    record {
+      goes = record { serves = serves_still P old new (ap (λ v. v.atoms) r.is) (ap (λ v. v.fluents) r.is) c.goes.serves; going = ap (λ v. v.ended) r.is ∙ c.goes.going; within = omega arith };
+      ahead = subst (λ o. IsAhead o new.now.time u) (sym runs) (subst (λ t. t <ℚ u) (sym time) here);
+      room = subst (λ o. HasRoom o new.entries new.most) (sym runs) (let j : new.entries < new.most = omega arith in j);
+    }
+
+room_of : (o : Option (List ℕ)) (R : List ℕ) (entries most : ℕ) → o ≡ Some R → HasRoom o entries most → entries < most
+room_of o R entries most e h = subst (λ o. HasRoom o entries most) e h
+
+entry_goes : (P : Problem) (u t : Fraction) (old new : TimelineView) → CanReach P u old → BeginsEntry P (least old.now.time u P.timed) t old new → CanReach P u new
+entry_goes P u t old new c r =
+    let runs : new.now.running ≡ None = ap (λ v. v.now.running) r.is in
+    let time : new.now.time ≡ t = ap (λ v. v.now.time) r.is in
+    let e : new.entries ≡ suc old.entries = ap (λ v. v.entries) r.is in
+    let m : new.most ≡ old.most = ap (λ v. v.most) r.is in
+    let here : t ≤ℚ u = ≤ℚ_trans _ _ _ r.may.within (least_within old.now.time u P.timed) in
+    let k : old.entries < old.most = room_of old.now.running r.members old.entries old.most r.runs c.room in
+    record {
+      goes = record { serves = serves_still P old new (ap (λ v. v.atoms) r.is) (ap (λ v. v.fluents) r.is) c.goes.serves; going = ap (λ v. v.ended) r.is ∙ c.goes.going; within = omega arith };
+      ahead = subst (λ o. IsAhead o new.now.time u) (sym runs) (subst (λ x. x ≤ℚ u) (sym time) here);
+      room = subst (λ o. HasRoom o new.entries new.most) (sym runs) tt;
+    }
+
+there_goes : (P : Problem) (u : Fraction) (old new : TimelineView) → CanReach P u old → IsThere P u old new → CanReach P u new
+there_goes P u old new c r =
+    let runs : new.now.running ≡ None = ap (λ v. v.now.running) r.is ∙ r.moment in
+    let time : new.now.time ≡ u = ap (λ v. v.now.time) r.is ∙ r.time in
+    let e : new.entries ≡ old.entries = ap (λ v. v.entries) r.is in
+    let m : new.most ≡ old.most = ap (λ v. v.most) r.is in
+    let w = c.goes.within in
+    record {
+      goes = record { serves = serves_still P old new (ap (λ v. v.atoms) r.is) (ap (λ v. v.fluents) r.is) c.goes.serves; going = ap (λ v. v.ended) r.is ∙ c.goes.going; within = omega arith };
+      ahead = subst (λ o. IsAhead o new.now.time u) (sym runs) (subst (λ x. x ≤ℚ u) (sym time) (≤ℚ_refl u));
+      room = subst (λ o. HasRoom o new.entries new.most) (sym runs) tt;
+    }
+
+pub step_goes : {Q : Type 0} (value : Q → Fraction) (P : Problem) (u : Fraction) (old new : TimelineView) (answer : Next Q) → CanReach P u old → Advances value P u old new answer → CanReach P u new
+step_goes value P u old new Round c a = round_goes P u old new c a
+step_goes value P u old new Run c a = run_goes P u old new c a
+step_goes value P u old new (Entry t) c a = entry_goes P u (value t) old new c a
+step_goes value P u old new There c a = there_goes P u old new c a
+
+pub step_most : {Q : Type 0} (value : Q → Fraction) (P : Problem) (u : Fraction) (old new : TimelineView) (answer : Next Q) → Advances value P u old new answer → new.most ≡ old.most
+step_most value P u old new Round a = ap (λ v. v.most) a.is
+step_most value P u old new Run a = ap (λ v. v.most) a.is
+step_most value P u old new (Entry t) a = ap (λ v. v.most) a.is
+step_most value P u old new There a = ap (λ v. v.most) a.is
+
+-- ---- fewer steps are left
+
+no_round : (P : Problem) (old new : TimelineView) → Serves P old → FiresRound P old new → ⊥
+no_round P old new s r = r.round.some (r.round.all ∙ nothing_fires P old.now.state s.still)
+
+pub step_less : {Q : Type 0} (value : Q → Fraction) (P : Problem) (u : Fraction) (old new : TimelineView) (answer : Next Q) → CanReach P u old → IsMore answer → Advances value P u old new answer → steps_left new < steps_left old
+unfolding steps_left
+step_less value P u old new Round c m a = absurd (no_round P old new c.goes.serves a)
+step_less value P u old new Run c m a =
+    let runs : new.now.running ≡ Some a.members = ap (λ v. v.now.running) a.is in
+    let e : new.entries ≡ old.entries = ap (λ v. v.entries) a.is in
+    let k : new.most ≡ old.most = ap (λ v. v.most) a.is in
+    let p : pending new.now.running ≡ 0 = ap pending runs in
+    let q : pending old.now.running ≡ 1 = ap pending a.moment in
+    omega arith
+step_less value P u old new (Entry t) c m a =
+    let runs : new.now.running ≡ None = ap (λ v. v.now.running) a.is in
+    let e : new.entries ≡ suc old.entries = ap (λ v. v.entries) a.is in
+    let k : new.most ≡ old.most = ap (λ v. v.most) a.is in
+    let p : pending new.now.running ≡ 1 = ap pending runs in
+    let q : pending old.now.running ≡ 0 = ap pending a.runs in
+    let room : old.entries < old.most = room_of old.now.running a.members old.entries old.most a.runs c.room in
+    omega arith
+step_less value P u old new There c m a = elim m [ ]
+
+-- ---- the history and the report grow by one part
+
+-- the literals of a moment, as the timeline and as the report tells them
+has_literal_in : (t : Fraction) (ls : List Timed) → reports.has_literal t ls ≡ list_any (λ (l : Timed). passes Same (compared l.time t)) ls
+has_literal_in t [] = refl
+has_literal_in t (l ∷ ls) = ap (λ b. passes Same (compared l.time t) || b) (has_literal_in t ls)
+
+pub literals_shown : (N : Labels) (P : Problem) (t : Fraction) (a s : State) → (if timeline.has_literal P t then literals_text N a s else []) ≡ literals_part N P t a s
+unfolding literals_part
+literals_shown N P t a s = ap (λ b. if b then literals_text N a s else []) (sym (has_literal_in t P.timed))
+
+-- the part that an answer adds
+abbrev pub part_of : {Q : Type 0} → TimelineView → Next Q → Part
+part_of new Round = history.Round new.events new.now.state
+part_of new Run = history.Run new.running
+part_of new (Entry t) = Enter new.now.time new.arrival new.now.state
+part_of new There = history.Run []
+
+-- what it writes is the text of that part
+next_is_part : {Q : Type 0} (value : Q → Fraction) (N : Labels) (P : Problem) (L : Plan) (u : Fraction) (old new : TimelineView) (answer : Next Q) → IsMore answer → target L old.now ≡ u → Advances value P u old new answer → next_text value N P new answer ≡ part_text N P L old.now.state (part_of new answer)
+next_is_part value N P L u old new Round m e a =
+    ap (λ (b : State). round_text N P new.events b new.now.state) (ap (λ v. v.before) a.is)
+next_is_part value N P L u old new Run m e a = refl
+next_is_part value N P L u old new (Entry t) m e a =
+    let b : new.before ≡ old.now.state = ap (λ v. v.before) a.is in
+    let time : value t ≡ new.now.time = sym (ap (λ v. v.now.time) a.is) in
+    let lit : new.literal ≡ timeline.has_literal P new.now.time = ap (λ v. v.literal) a.is ∙ ap (timeline.has_literal P) time in
+    ap (λ (x : Fraction). entry_text N x new.before new.arrival ++ (if new.literal then literals_text N new.arrival new.now.state else [])) time
+    ∙ ap (λ (x : State). entry_text N new.now.time x new.arrival ++ (if new.literal then literals_text N new.arrival new.now.state else [])) b
+    ∙ ap (λ (x : Bool). entry_text N new.now.time old.now.state new.arrival ++ (if x then literals_text N new.arrival new.now.state else [])) lit
+    ∙ ap (λ x. entry_text N new.now.time old.now.state new.arrival ++ x) (literals_shown N P new.now.time new.arrival new.now.state)
+next_is_part value N P L u old new There m e a = elim m [ ]
+
+-- what it adds may come next
+adds_part : {Q : Type 0} (value : Q → Fraction) (P : Problem) (L : Plan) (u : Fraction) (old new : TimelineView) (answer : Next Q) → IsMore answer → target L old.now ≡ u → Advances value P u old new answer → AddsPart P L old new (part_of new answer)
+adds_part value P L u old new Round m e a = (advance_follows value P L old new u Round e a).adds
+adds_part value P L u old new Run m e a = advance_follows value P L old new u Run e a
+adds_part value P L u old new (Entry t) m e a = (advance_follows value P L old new u (Entry t) e a).adds
+adds_part value P L u old new There m e a = elim m [ ]
+
+-- a history that the timeline and the report follow, grown by a part
+pub played_on : (N : Labels) (P : Problem) (L : Plan) (h : List Part) (old new : TimelineView) (report report' : List ℕ) (part : Part) → HasBegun L → IsPlayed N P L h old report → AddsPart P L old new part → new.entries ≡ entries_of (h ++ part ∷ []) → report' ≡ report ++ part_text N P L old.now.state part → IsPlayed N P L (h ++ part ∷ []) new report'
+played_on N P L h old new report report' part b p a n r =
+    let g = prefix_grows P L h part b p.prefix (subst (λ v. MayFollow P L v part) p.now a.next) in
+    record {
+      prefix = g.0;
+      now = a.now ∙ ap (λ v. view_after v part) p.now ∙ sym g.1;
+      entries = n;
+      written = r ∙ ap (λ t. t ++ part_text N P L old.now.state part) p.written
+          ∙ ap (λ (v : View). report_of N P L h ++ part_text N P L v.state part) p.now
+          ∙ sym (report_of-append N P L h part p.prefix);
+    }
+
+pub entries_of-append : (h : List Part) (part : Part) → entries_of (h ++ part ∷ []) ≡ entries_of h + entries_of (part ∷ [])
+entries_of-append [] part = sym (zero-add (entries_of (part ∷ [])))
+entries_of-append (Enter t a s ∷ h) part = let i = entries_of-append h part in omega arith
+entries_of-append (history.Round E s ∷ h) part = entries_of-append h part
+entries_of-append (Act i s ∷ h) part = entries_of-append h part
+entries_of-append (history.Run R ∷ h) part = entries_of-append h part
+
+next_entries : {Q : Type 0} (value : Q → Fraction) (P : Problem) (u : Fraction) (old new : TimelineView) (answer : Next Q) → IsMore answer → Advances value P u old new answer → new.entries ≡ old.entries + entries_of (part_of new answer ∷ [])
+next_entries value P u old new Round m a = ap (λ v. v.entries) a.is ∙ sym (add-zero old.entries)
+next_entries value P u old new Run m a = ap (λ v. v.entries) a.is ∙ sym (add-zero old.entries)
+next_entries value P u old new (Entry t) m a = let e : new.entries ≡ suc old.entries = ap (λ v. v.entries) a.is in omega arith
+next_entries value P u old new There m a = elim m [ ]
+
+-- a step that adds a part
+pub step_played : {Q : Type 0} (value : Q → Fraction) (N : Labels) (P : Problem) (L : Plan) (h : List Part) (u : Fraction) (old new : TimelineView) (answer : Next Q) (report report' : List ℕ) → IsMore answer → HasBegun L → IsPlayed N P L h old report → target L old.now ≡ u → Advances value P u old new answer → report' ≡ report ++ next_text value N P new answer → IsPlayed N P L (h ++ part_of new answer ∷ []) new report'
+step_played value N P L h u old new answer report report' m b p t a r =
+    played_on N P L h old new report report' (part_of new answer) b p
+    (adds_part value P L u old new answer m t a)
+    (next_entries value P u old new answer m a ∙ ap (λ n. n + entries_of (part_of new answer ∷ [])) p.entries ∙ sym (entries_of-append h (part_of new answer)))
+    (r ∙ ap (λ x. report ++ x) (next_is_part value N P L u old new answer m t a))
+
+-- and the time that is aimed at stays the same
+target_by : (o : Option Line) (t t' u : Fraction) → time_or o t ≡ u → (o ≡ None → t' ≡ t) → time_or o t' ≡ u
+target_by None t t' u e f = f refl ∙ e
+target_by (Some line) t t' u e f = e
+
+pub step_acted : {Q : Type 0} (value : Q → Fraction) (P : Problem) (u : Fraction) (old new : TimelineView) (answer : Next Q) → Advances value P u old new answer → new.now.acted ≡ old.now.acted
+step_acted value P u old new Round a = ap (λ v. v.now.acted) a.is
+step_acted value P u old new Run a = ap (λ v. v.now.acted) a.is
+step_acted value P u old new (Entry t) a = ap (λ v. v.now.acted) a.is
+step_acted value P u old new There a = ap (λ v. v.now.acted) a.is
+
+-- with no line to come time does not pass
+time_kept : {Q : Type 0} (value : Q → Fraction) (P : Problem) (L : Plan) (u : Fraction) (old new : TimelineView) (answer : Next Q) → target L old.now ≡ u → Advances value P u old new answer → next_line L old.now ≡ None → new.now.time ≡ old.now.time
+time_kept value P L u old new Round e a n = ap (λ v. v.now.time) a.is
+time_kept value P L u old new Run e a n = ap (λ v. v.now.time) a.is
+time_kept value P L u old new (Entry t) e a n =
+    let here : old.now.time ≡ u = sym (ap (λ o. time_or o old.now.time) n) ∙ e in
+    absurd (not_below old.now.time (value t) a.may.later
+    (≤ℚ_trans _ _ _ a.may.within (subst (λ x. least old.now.time u P.timed ≤ℚ x) (sym here) (least_within old.now.time u P.timed))))
+time_kept value P L u old new There e a n = ap (λ v. v.now.time) a.is
+
+pub step_target : {Q : Type 0} (value : Q → Fraction) (P : Problem) (L : Plan) (u : Fraction) (old new : TimelineView) (answer : Next Q) → target L old.now ≡ u → Advances value P u old new answer → target L new.now ≡ u
+step_target value P L u old new answer e a =
+    let k : new.now.acted ≡ old.now.acted = step_acted value P u old new answer a in
+    subst (λ i. time_or (slice_get L.lines i) new.now.time ≡ u) (sym k)
+    (target_by (slice_get L.lines old.now.acted) old.now.time new.now.time u e (time_kept value P L u old new answer e a))
+
+-- a step that adds none
+pub step_done : {Q : Type 0} (value : Q → Fraction) (N : Labels) (P : Problem) (L : Plan) (h : List Part) (u : Fraction) (old new : TimelineView) (report report' : List ℕ) → IsPlayed N P L h old report → target L old.now ≡ u → IsThere P u old new → report' ≡ report → IsReached N P L old.now.acted u h new report'
+step_done value N P L h u old new report report' p t a r =
+    let d : IsDone P L old new = advance_follows value P L old new u There t a in
+    record {
+      played = record { prefix = p.prefix; now = d.now ∙ p.now; entries = ap (λ v. v.entries) a.is ∙ p.entries; written = r ∙ p.written };
+      present = d.present;
+      over = d.over;
+      acted_is = ap (λ v. v.now.acted) a.is;
+      time_is = ap (λ v. v.now.time) a.is ∙ a.time;
+    }
+
+-- what is to be written
+pub step_shown : {Q : Type 0} (value : Q → Fraction) (P : Problem) (u : Fraction) (old new : TimelineView) (answer : Next Q) → CanReach P u old → Advances value P u old new answer → IsShown P new answer
+step_shown value P u old new Round c a = absurd (no_round P old new c.goes.serves a)
+step_shown value P u old new Run c a =
+    let none : a.members ≡ [] = same_exactly (RunsAfter P old.now.state a.may.settled.choice.first) a.members [] a.may.settled.choice.chosen (none_goes_on P old.now.state a.may.settled.choice.first c.goes.serves.still) in
+    let e : new.running ≡ [] = ap (λ v. v.running) a.is ∙ none in
+    subst (All (λ p. p < length P.processes)) (sym e) (All-nil (λ p. p < length P.processes))
+step_shown value P u old new (Entry t) c a = tt
+step_shown value P u old new There c a = tt

@@ -1,0 +1,34 @@
+use Rattle.std.proofs.Common.{◌≡◌, refl}
+use Rattle.plus_number.specs.Frac.{fraction_of}
+use Rattle.plus_state.specs.View.{problem_of, labels_of, action_of}
+use Rattle.plus_validator.specs.declared.run.Run.{Run}
+use Rattle.plus_ground.specs.Expansion.{called_of}
+use Rattle.plus_validator.proofs.Shown.{act_reported}
+use Rattle.plus_validator.proofs.Played.{acts_once}
+use Rattle.std.specs.Prelude.{length}
+use Rattle.plus_types.specs.Faults.{predicate_names}
+use Rattle.plus_validator.specs.declared.halt.Halt.{Halt}
+use Rattle.plus_validator.specs.Halts.{stop_halt, HaltFits}
+use Rattle.plus_validator.proofs.Halting.{from_err, act_halts}
+use Rattle.plus_validator.proofs.run.Run.act.Goals as goal
+
+pub returns-clause-acts : goal.returns-clause-acts
+returns-clause-acts c =
+    let N = labels_of c.args.ground.now in
+    let P = problem_of fraction_of c.args.ground.now in
+    let new : Run = record { timeline = c.act.new.self; report = c.write_act.new.out; ended = c.args.self.now.ended } in
+    acts_once N P (called_of c.args.typed.now.domain c.args.call.now.name c.args.call.now.args) (action_of fraction_of c.in-Ok.action)
+    c.args.self.now new c.requires.can c.in-Ok.ensures.called c.in_ok-act.ensures.ok refl
+    (act_reported c.args.self.now.report.bytes.items c.write_act.new.out.bytes.items N c.in-Ok.action.label c.before-2.result.now c.state.result.now
+    c.act.new.self.before c.act.new.self.now.state c.in_ok-write_act.ensures.outcome c.before-2.ensures.state c.state.ensures.state)
+
+pub returns-in-Err-clause-fits : goal.returns-in-Err-clause-fits
+returns-in-Err-clause-fits c = c.refused_call.ensures (problem_of fraction_of c.args.ground.now)
+
+pub returns-in_err-act-clause-fits : goal.returns-in_err-act-clause-fits
+returns-in_err-act-clause-fits c =
+    let P = problem_of fraction_of c.args.ground.now in
+    let stop = c.in_err-act.field-0.0 in
+    from_err c.from_residual.result (λ (h : Halt). h ≡ stop_halt stop) (HaltFits P) c.from_residual.ensures.1
+    (λ h e. act_halts P (action_of fraction_of c.in-Ok.action) c.args.line c.args.self.now.timeline stop h (length (predicate_names c.args.typed.now.domain))
+    c.in-Ok.ensures.fits.1 e c.in_err-act.ensures.breach c.in_err-act.ensures.limit)

@@ -1,0 +1,20 @@
+use Rattle.std.proofs.Common.{subst}
+use Rattle.plus_number.specs.Frac.{fraction_of}
+use Rattle.plus_state.specs.View.{problem_of, labels_of}
+use Rattle.plus_validator.specs.Running.{Steps}
+use Rattle.plus_validator.proofs.Runs.{along_step, along_done}
+use Rattle.plus_validator.proofs.run.Run.reach.Goals as goal
+
+pub returns-then-branch-clause-reaches : goal.returns-then-branch-clause-reaches
+returns-then-branch-clause-reaches c =
+    let N = labels_of c.args.ground.now in
+    let P = problem_of fraction_of c.args.ground.now in
+    along_done N P (fraction_of c.args.until) c.args.self.now c.steps.self c.step.new.self c.steps.invariant
+    (subst (Steps N P (fraction_of c.args.until) c.steps.self c.step.new.self) c.if-branch.true c.in_ok-step.ensures.steps)
+
+pub steps-preserved : goal.steps-preserved
+steps-preserved c =
+    let N = labels_of c.args.ground.now in
+    let P = problem_of fraction_of c.args.ground.now in
+    along_step N P (fraction_of c.args.until) c.args.self.now c.steps.self c.step.new.self c.steps.invariant
+    (subst (Steps N P (fraction_of c.args.until) c.steps.self c.step.new.self) c.if-branch.false c.in_ok-step.ensures.steps)

@@ -1,0 +1,34 @@
+-- Which verdict a refusal is.
+use Rattle.plus_model.specs.Terms.{Problem}
+use Rattle.plus_number.specs.declared.frac.Frac64.{Frac64}
+use Rattle.plus_plan.specs.declared.faults.PlanFault.{PlanFault}
+use Rattle.plus_plan.specs.declared.faults.PlanFault.TheVariants as faults
+use Rattle.plus_timeline.specs.declared.stop.Stop.{Stop}
+use Rattle.plus_timeline.specs.declared.stop.Stop.TheVariants as stops
+use Rattle.plus_report.specs.declared.verdicts.Verdict.TheVariants.{Valid, Invalid, Beyond, Other}
+use Rattle.plus_report.specs.declared.refusals.Early.TheVariants.{BadLine, LineTooLong}
+use Rattle.plus_report.specs.Verdicts.{BreachFits, LimitFits}
+use Rattle.plus_validator.specs.declared.halt.Halt.{Halt}
+use Rattle.plus_validator.specs.declared.halt.Halt.TheVariants.{Refused, Memory}
+
+abbrev pub stop_halt : Stop Frac64 → Halt
+stop_halt (stops.Breach b) = Refused (Invalid b)
+stop_halt (stops.Limit l) = Refused (Beyond l)
+stop_halt stops.Ended = Memory
+stop_halt stops.Memory = Memory
+
+abbrev pub line_halt : PlanFault → Halt
+line_halt (faults.NotLine n start last) = Refused (Other (BadLine n start last))
+line_halt (faults.LineTooLong n) = Refused (Other (LineTooLong n))
+line_halt faults.Memory = Memory
+
+-- it is a refusal, and the ids that it names are those of the problem
+abbrev pub NamesOf : Problem → Halt → Type 0
+NamesOf P (Refused Valid) = ⊥
+NamesOf P (Refused (Invalid breach)) = BreachFits P breach
+NamesOf P (Refused (Beyond limit)) = LimitFits P limit
+NamesOf P (Refused (Other early)) = Unit {0}
+NamesOf P Memory = Unit {0}
+
+pub record HaltFits (P : Problem) (halt : Halt) : Type 0 where
+  pub names : NamesOf P halt

@@ -1,0 +1,10 @@
+pub mod Plans
+pub mod Limits
+pub mod Accepted
+pub mod Standing
+pub mod Running
+pub mod Playing
+pub mod Halts
+pub mod Outcomes
+pub mod Judged
+pub mod Validates

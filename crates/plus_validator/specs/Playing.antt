@@ -1,0 +1,111 @@
+-- What the lines of a plan text do to a run.
+use Rattle.std.specs.Prelude.{◌≡◌, ℕ, suc, ◌≤◌, Bool, true, false, List, [], ◌++◌, length, map, Some, None, Ok}
+use Rattle.plus_fraction.specs.Fraction.{◌≤ℚ◌}
+use Rattle.plus_model.specs.Terms.{Problem}
+use Rattle.plus_model.specs.Plan.{Called, Plan, ActLine}
+use Rattle.plus_model.specs.History.{Part}
+use Rattle.plus_model.specs.Trajectory.{HasBegun, next_line, Trajectory}
+use Rattle.plus_number.specs.declared.frac.Frac64.{Frac64}
+use Rattle.plus_number.specs.Frac.{fraction_of}
+use Rattle.plus_state.specs.declared.problem.Ground.{Ground}
+use Rattle.plus_state.specs.View.{Labels, problem_of, labels_of}
+use Rattle.plus_tree.specs.declared.trees.Domain.{Domain}
+use Rattle.plus_tree.specs.declared.trees.Problem as tree
+use Rattle.plus_types.specs.Faults.{predicate_names}
+use Rattle.plus_plan.specs.declared.forms.Time.{Time}
+use Rattle.plus_plan.specs.declared.forms.Line.{Line}
+use Rattle.plus_plan.specs.declared.forms.PlanForm.TheVariants.{Timed}
+use Rattle.plus_plan.specs.TimeValue.{value_of}
+use Rattle.plus_plan.specs.Lines.{plan_lines}
+use Rattle.plus_ground.specs.Expansion.{expanded, labels_meant}
+use Rattle.plus_report.specs.Report.{report_of}
+use Rattle.plus_validator.specs.Accepted.{entries_of}
+use Rattle.plus_validator.specs.Plans.{line_meant, plan_of}
+use Rattle.plus_validator.specs.Standing.{IsPlayed, CanGoOn, IsReady}
+use Rattle.plus_validator.specs.declared.run.Run.{Run}
+
+-- the ground form of a pair
+pub record IsGroundOf (d : Domain) (p : tree.Problem) (g : Ground Frac64) : Type 0 where
+  pub expands : problem_of fraction_of g ≡ expanded d p
+  pub labels : labels_of g ≡ labels_meant d
+  pub few : length (predicate_names d) ≤ 200000
+
+-- the time of a line that may be played: none stands after an end, and time does not go back
+pub record IsInTime (run : Run) (time : Time) (at : Frac64) : Type 0 where
+  pub is : fraction_of at ≡ value_of time
+  pub not_ended : run.ended ≡ false
+  pub ahead : run.timeline.now.time ≤ℚ fraction_of at
+
+-- the action that is called is done
+pub record ActsOnce (N : Labels) (P : Problem) (call : Called) (old new : Run) : Type 0 where
+  pub can : CanGoOn P new.timeline
+  pub moment : new.timeline.now.running ≡ None
+  pub most : new.timeline.most ≡ old.timeline.most
+  pub ended : new.ended ≡ old.ended
+  pub time : new.timeline.now.time ≡ old.timeline.now.time
+  pub acted_is : new.timeline.now.acted ≡ suc old.timeline.now.acted
+  pub acted :
+      (L : Plan) (h : List Part) → HasBegun L → IsPlayed N P L h old.timeline old.report.bytes.items
+      → next_line L old.timeline.now ≡ Some (ActLine old.timeline.now.time call)
+      → (h' : List Part) × IsPlayed N P L h' new.timeline new.report.bytes.items
+
+-- the run stands ready for the next line of this plan
+abbrev pub Readied : Labels → Problem → Plan → List Part → Run → Type 0
+Readied N P L h run = IsReady N P L run.ended h run.timeline run.report.bytes.items
+
+-- the run may play on: it stands at a moment
+pub record IsResting (P : Problem) (most : ℕ) (run : Run) : Type 0 where
+  pub can : CanGoOn P run.timeline
+  pub moment : run.timeline.now.running ≡ None
+  pub most_is : run.timeline.most ≡ most
+
+-- a line of the text is played
+pub record PlaysLine (d : Domain) (N : Labels) (P : Problem) (line : Line) (old new : Run) : Type 0 where
+  pub rests : IsResting P old.timeline.most new
+  pub ready :
+      (L : Plan) (h : List Part) → Readied N P L h old
+      → (h' : List Part) × Readied N P (record { lines = L.lines ++ line_meant d line; closed = L.closed }) h' new
+
+-- the lines of a text are played
+pub record ReadsAll (d : Domain) (N : Labels) (P : Problem) (text : List ℕ) (old new : Run) : Type 0 where
+  pub rests : IsResting P old.timeline.most new
+  pub lines : List Line
+  pub read : plan_lines Timed text ≡ map Ok lines
+  pub ready :
+      (h : List Part) → Readied N P (plan_of d [] false) h old
+      → (h' : List Part) × Readied N P (plan_of d lines false) h' new
+
+-- the plan whose text was read to its end
+abbrev pub closed : Plan → Plan
+closed L = record { lines = L.lines; closed = true }
+
+-- what happens has ended, and the goal holds
+pub record Ends (N : Labels) (P : Problem) (L : Plan) (most : ℕ) (h : List Part) (report : List ℕ) : Type 0 where
+  pub happens : Trajectory P L h
+  pub few : entries_of h ≤ most
+  pub written : report ≡ report_of N P L h
+
+pub record Closes (N : Labels) (P : Problem) (old new : Run) : Type 0 where
+  pub ends :
+      (L : Plan) (h : List Part) → Readied N P L h old
+      → (h' : List Part) × Ends N P (closed L) old.timeline.most h' new.report.bytes.items
+
+-- a run is begun: it is ready for the first line of a text
+pub record Begins (N : Labels) (P : Problem) (most : ℕ) (run : Run) : Type 0 where
+  pub rests : IsResting P most run
+  pub ready :
+      (L : Plan) → L.lines ≡ [] → L.closed ≡ false
+      → (h : List Part) × Readied N P L h run
+
+-- a text is played to its end, and the goal holds there
+pub record PlaysAll (d : Domain) (N : Labels) (P : Problem) (text : List ℕ) (old new : Run) : Type 0 where
+  pub lines : List Line
+  pub read : plan_lines Timed text ≡ map Ok lines
+  pub ends :
+      (h : List Part) → Readied N P (plan_of d [] false) h old
+      → (h' : List Part) × Ends N P (plan_of d lines true) old.timeline.most h' new.report.bytes.items
+
+-- the same of a text that is not cut off
+pub record PlaysWhole (d : Domain) (N : Labels) (P : Problem) (text : List ℕ) (goes_on : Bool) (old new : Run) : Type 0 where
+  pub whole : goes_on ≡ false
+  pub plays : PlaysAll d N P text old new

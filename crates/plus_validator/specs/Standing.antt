@@ -1,0 +1,113 @@
+-- How a run of a plan stands: its timeline and its report are those of one history of the lines read.
+use Rattle.std.specs.Prelude.{◌≡◌, ◌⊎◌, ℕ, ◌+◌, ◌-◌, ◌*◌, ◌<◌, ◌≤◌, Bool, true, false, List, [], ◌∷◌, ◌++◌, length, Option, Some, None, pos, All, if◌then◌else◌}
+use Rattle.plus_fraction.specs.Fraction.{Fraction, whole}
+use Rattle.plus_model.specs.Terms.{Problem}
+use Rattle.plus_model.specs.Plan.{Called, Line, ActLine, EndLine, Plan}
+use Rattle.plus_model.specs.History.{Part}
+use Rattle.plus_model.specs.Trajectory.{until, IsWorked, Prefix, view_of}
+use Rattle.plus_model.specs.Breach.{IsPresent}
+use Rattle.plus_state.specs.View.{Labels}
+use Rattle.plus_state.specs.Fits.{ProblemFits}
+use Rattle.plus_timeline.specs.Timeline.{TimelineView}
+use Rattle.plus_timeline.specs.Still.{Serves}
+use Rattle.plus_timeline.specs.Stops.{IsGoing}
+use Rattle.plus_timeline.specs.Advance.{IsAhead}
+use Rattle.plus_report.specs.Text.{entry_text, literals_text, round_text, run_text}
+use Rattle.plus_report.specs.Report.{report_of}
+use Rattle.plus_timeline.specs.declared.next.Next.{Next}
+use Rattle.plus_timeline.specs.declared.next.Next.TheVariants.{Round, Run, Entry, There}
+use Rattle.plus_validator.specs.Accepted.{entries_of}
+
+-- the timeline and the report are those of this history of the plan
+pub record IsPlayed (N : Labels) (P : Problem) (L : Plan) (h : List Part) (t : TimelineView) (report : List ℕ) : Type 0 where
+  pub prefix : Prefix P L h
+  pub now : t.now ≡ view_of P h
+  pub entries : t.entries ≡ entries_of h
+  pub written : report ≡ report_of N P L h
+
+-- the timeline goes on, with this problem
+pub record CanGoOn (P : Problem) (t : TimelineView) : Type 0 where
+  pub serves : Serves P t
+  pub going : IsGoing t
+  pub within : t.entries ≤ t.most
+
+-- a further entry is allowed where a set runs
+abbrev pub HasRoom : Option (List ℕ) → ℕ → ℕ → Type 0
+HasRoom None entries most = Unit {0}
+HasRoom (Some running) entries most = entries < most
+
+-- the timeline may go on up to this time
+pub record CanReach (P : Problem) (until : Fraction) (t : TimelineView) : Type 0 where
+  pub goes : CanGoOn P t
+  pub ahead : IsAhead t.now.running t.now.time until
+  pub room : HasRoom t.now.running t.entries t.most
+
+-- how many steps are left at most
+abbrev pub pending : Option (List ℕ) → ℕ
+pending None = 1
+pending (Some running) = 0
+
+unfoldable pub steps_left : TimelineView → ℕ
+steps_left t = 2 * (t.most - t.entries) + pending t.now.running
+
+-- what a step adds to the report
+abbrev pub next_text : {Q : Type 0} → (Q → Fraction) → Labels → Problem → TimelineView → Next Q → List ℕ
+next_text value N P t Round = round_text N P t.events t.before t.now.state
+next_text value N P t Run = run_text P t.running
+next_text value N P t (Entry time) =
+    entry_text N (value time) t.before t.arrival ++ (if t.literal then literals_text N t.arrival t.now.state else [])
+next_text value N P t There = []
+
+-- whether an end was read, and the time of the last line, which is 0 where there is none
+abbrev pub EndsBy : List Line → Bool → Fraction → Type 0
+EndsBy lines true time = (before : List Line) × (lines ≡ before ++ EndLine time ∷ [])
+EndsBy lines false time =
+    ((lines ≡ []) × (time ≡ whole (pos 0)))
+    ⊎ ((before : List Line) × (call : Called) × (lines ≡ before ++ ActLine time call ∷ []))
+
+-- every action read is acted
+abbrev pub AllActed : List Line → Bool → ℕ → Type 0
+AllActed lines true acted = acted + 1 ≡ length lines
+AllActed lines false acted = acted ≡ length lines
+
+-- all lines read are worked, or none is read
+pub record IsReady (N : Labels) (P : Problem) (L : Plan) (ended : Bool) (h : List Part) (t : TimelineView) (report : List ℕ) : Type 0 where
+  pub played : IsPlayed N P L h t report
+  pub not_closed : L.closed ≡ false
+  pub last : EndsBy L.lines ended t.now.time
+  pub acted : AllActed L.lines ended t.now.acted
+  pub moment : t.now.running ≡ None
+  pub worked : (L.lines ≡ []) ⊎ IsWorked P L t.now
+
+-- up to the time of the next line nothing is left to do
+pub record IsReached (N : Labels) (P : Problem) (L : Plan) (acted : ℕ) (time : Fraction) (h : List Part) (t : TimelineView) (report : List ℕ) : Type 0 where
+  pub played : IsPlayed N P L h t report
+  pub present : IsPresent P t.now
+  pub over : until P L t.now ≡ t.now.time
+  pub acted_is : t.now.acted ≡ acted
+  pub time_is : t.now.time ≡ time
+
+-- the answer is not `There`
+pub data IsMore {Q : Type 0} : Next Q → Type 0 where
+  a_round : IsMore Round
+  a_run : IsMore Run
+  an_entry : (t : Q) → IsMore (Entry t)
+
+abbrev pub is_there : {Q : Type 0} → Next Q → Bool
+is_there Round = false
+is_there Run = false
+is_there (Entry t) = false
+is_there There = true
+
+-- the timeline is one of a ground problem that fits
+pub record CanShow (P : Problem) (t : TimelineView) : Type 0 where
+  pub fits : ProblemFits P
+  pub atoms : t.atoms ≡ P.atoms
+  pub fluents : t.fluents ≡ P.fluents
+
+-- what is to be written of the step are events or processes of the problem
+abbrev pub IsShown : {Q : Type 0} → Problem → TimelineView → Next Q → Type 0
+IsShown P t Round = All (λ e. e < length P.events) t.events
+IsShown P t Run = All (λ p. p < length P.processes) t.running
+IsShown P t (Entry time) = Unit {0}
+IsShown P t There = Unit {0}

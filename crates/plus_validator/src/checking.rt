@@ -1,0 +1,122 @@
+//! From the bytes of a plan to its report and its verdict.
+ghost use Rattle.std.specs.Prelude.{◌≡◌, ◌≤◌, false, length, IfSome, IfOk, IfErr};
+ghost use Rattle.plus_io.specs.Files.{KeepsFiles};
+ghost use Rattle.plus_validator.specs.Validates.{Accepts, ReadsNot, RefusesPair};
+ghost use Rattle.plus_io.specs.Faults.{Rose};
+
+use crate::judge::{Outcome, PlanText, judge};
+use plus_ground::{Count, GroundFault, ground};
+use plus_io::{ReadStop, Shelf, Sink, read_all, write_all};
+use plus_number::frac::Frac64;
+use plus_report::{Early, Kinds, Text, write_early};
+use plus_types::{File, Typed};
+use std::alloc::Global;
+
+/// The most bytes of a plan text.
+const TEXT_LIMIT: usize = 1048576;
+
+fn kind_of(count: Count) -> Kinds {
+    match count {
+        Count::Objects => Kinds::Objects,
+        Count::Atoms => Kinds::Atoms,
+        Count::Fluents => Kinds::Fluents,
+        Count::Processes => Kinds::Processes,
+        Count::Events => Kinds::Events,
+        Count::Actions => Kinds::Actions,
+        Count::Nodes => Kinds::Nodes,
+    }
+}
+
+fn text_of(file: File) -> Text {
+    match file {
+        File::Domain => Text::Domain,
+        File::Problem => Text::Problem,
+    }
+}
+
+// Writes why the pair is not grounded.
+fn refuse<O: Sink>(out: &mut O, fault: GroundFault) -> Outcome
+    ensures refused { RefusesPair (O.faults out.old) (O.faults out.new) (O.taken out.old) (O.taken out.new) result }
+    ensures no_fall { O.faults out.old ≤ O.faults out.new }
+{
+    let early = match fault {
+        GroundFault::TooMany { kind, most } => Early::TooMany {
+            kind: kind_of(kind),
+            most,
+        },
+        GroundFault::Literal { file, span } => Early::Literal {
+            text: text_of(file),
+            start: span.start,
+            end: span.end,
+        },
+        GroundFault::Memory => return Outcome::NoMemory,
+    };
+    match write_early(out, &early) {
+        Ok(()) => Outcome::Beyond,
+        Err(_) => Outcome::WriteFault,
+    }
+}
+
+// Reads the plan text.
+fn read_text<S: Shelf>(alloc: Global, shelf: &mut S, plan: &str) -> Result<PlanText, Outcome>
+    ensures whole { IfOk result (λ t. t.goes_on ≡ false → IfSome (S.bytes shelf.old plan.now) (λ text. t.bytes.items ≡ text)) }
+    ensures few { IfOk result (λ t. length t.bytes.items ≤ 1048576) }
+    // The shelf failed, or memory is wanting.
+    ensures refused { IfErr result (ReadsNot (S.faults shelf.old) (S.faults shelf.new)) }
+    ensures keeps { KeepsFiles S.names S.bytes S.faults shelf.old shelf.new }
+{
+    let mut bytes = Vec::new(alloc);
+    match read_all(shelf, plan, TEXT_LIMIT, &mut bytes) {
+        Ok(()) => Ok(PlanText {
+            bytes,
+            goes_on: false,
+        }),
+        Err(ReadStop::TooLong) => Ok(PlanText {
+            bytes,
+            goes_on: true,
+        }),
+        Err(ReadStop::Failed) => Err(Outcome::ReadFault),
+        Err(ReadStop::Memory) => Err(Outcome::NoMemory),
+    }
+}
+
+/// Checks the plan under a name of the shelf, and writes its report and its verdict line.
+/// `happenings` is how many moments it may enter.
+pub fn validate<S: Shelf, O: Sink>(
+    alloc: Global,
+    typed: &Typed,
+    shelf: &mut S,
+    plan: &str,
+    out: &mut O,
+    happenings: u64,
+) -> Outcome
+    requires some { 1 ≤ happenings }
+    requires few { happenings ≤ 1000000 }
+    ensures valid { result ≡ Outcome.Valid → IfSome (S.bytes shelf.old plan.now) (λ text.
+        Accepts typed.now.domain typed.now.problem happenings text (O.taken out.old) (O.taken out.new)) }
+
+    // A fault is answered only where it came.
+    ensures read_fault { result ≡ Outcome.ReadFault →
+        Rose (S.faults shelf.old) (S.faults shelf.new) × (O.taken out.new ≡ O.taken out.old) }
+    ensures write_fault { result ≡ Outcome.WriteFault → Rose (O.faults out.old) (O.faults out.new) }
+    ensures no_memory { result ≡ Outcome.NoMemory → O.taken out.new ≡ O.taken out.old }
+
+    ensures keeps { KeepsFiles S.names S.bytes S.faults shelf.old shelf.new }
+    ensures no_fall { O.faults out.old ≤ O.faults out.new }
+{
+    let ground = match ground::<Frac64>(alloc, typed) {
+        Ok(ground) => ground,
+        Err(fault) => return refuse(out, fault),
+    };
+    let text = match read_text(alloc, shelf, plan) {
+        Ok(text) => text,
+        Err(outcome) => return outcome,
+    };
+    match judge(alloc, typed, &ground, &text, happenings) {
+        Ok(judgement) => match write_all(out, &judgement.bytes) {
+            Ok(()) => judgement.outcome,
+            Err(_) => Outcome::WriteFault,
+        },
+        Err(_) => Outcome::NoMemory,
+    }
+}

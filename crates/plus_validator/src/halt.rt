@@ -1,0 +1,68 @@
+//! Why a run halts before the end of its plan.
+ghost use Rattle.std.specs.Prelude.{◌≡◌};
+ghost use Rattle.plus_validator.specs.declared.halt.Halt.TheVariants as halts;
+ghost use Rattle.plus_validator.specs.Halts.{stop_halt, line_halt};
+
+use plus_io::Failed;
+use plus_number::frac::Frac64;
+use plus_plan::PlanFault;
+use plus_report::{Early, Verdict};
+use plus_timeline::Stop;
+use std::alloc::AllocError;
+
+/// Why a run halts before the end of its plan.
+#[derive(Drop)]
+pub enum Halt {
+    /// The plan is refused with this verdict.
+    Refused(Verdict<Frac64>),
+    /// Memory is wanting.
+    Memory,
+}
+
+impl From<Failed> for Halt {
+    ghost from_gives = { λ _ halt. halt ≡ halts.Memory };
+
+    fn from(_: Failed) -> Halt {
+        Halt::Memory
+    }
+}
+
+impl From<AllocError> for Halt {
+    ghost from_gives = { λ _ halt. halt ≡ halts.Memory };
+
+    fn from(_: AllocError) -> Halt {
+        Halt::Memory
+    }
+}
+
+// A run stops at the first refusal, so that no call answers `Ended`.
+impl From<Stop<Frac64>> for Halt {
+    ghost from_gives = { λ stop halt. halt ≡ stop_halt stop };
+
+    fn from(stop: Stop<Frac64>) -> Halt {
+        match stop {
+            Stop::Breach(breach) => Halt::Refused(Verdict::Invalid(breach)),
+            Stop::Limit(limit) => Halt::Refused(Verdict::Beyond(limit)),
+            Stop::Ended => Halt::Memory,
+            Stop::Memory => Halt::Memory,
+        }
+    }
+}
+
+impl From<PlanFault> for Halt {
+    ghost from_gives = { λ fault halt. halt ≡ line_halt fault };
+
+    fn from(fault: PlanFault) -> Halt {
+        match fault {
+            PlanFault::NotLine { line, start, end } => Halt::Refused(Verdict::Other(Early::BadLine {
+                line,
+                start,
+                end,
+            })),
+            PlanFault::LineTooLong { line } => Halt::Refused(Verdict::Other(Early::LineTooLong {
+                line,
+            })),
+            PlanFault::Memory => Halt::Memory,
+        }
+    }
+}

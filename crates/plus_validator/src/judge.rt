@@ -1,0 +1,194 @@
+//! The report and the verdict of a plan text.
+ghost use Rattle.std.specs.Prelude.{◌≡◌, ◌≤◌, None, length, OnOk, IfOk, IfErr};
+ghost use Rattle.plus_state.specs.View.{problem_of, labels_of};
+ghost use Rattle.plus_state.specs.Fits.{ProblemFits};
+ghost use Rattle.plus_number.specs.Frac.{fraction_of};
+ghost use Rattle.plus_validator.specs.Playing.{IsGroundOf, PlaysAll, PlaysWhole};
+ghost use Rattle.plus_model.specs.Terms.{Problem};
+ghost use Rattle.plus_validator.specs.Standing.{CanGoOn};
+ghost use Rattle.plus_validator.specs.Halts.{HaltFits};
+ghost use Rattle.plus_validator.specs.Judged.{IsJudged, GivesVerdict};
+ghost use Rattle.plus_validator.specs.Outcomes.{outcome_of};
+
+use crate::halt::Halt;
+use crate::run::Run;
+use plus_number::frac::Frac64;
+use plus_report::{Early, Text, Verdict, write_verdict};
+use plus_state::problem::Ground;
+use plus_types::Typed;
+use std::alloc::Global;
+
+/// How the check of a plan ends.
+#[derive(Clone, Copy, Debug, PartialEq, Eq)]
+pub enum Outcome {
+    /// The plan is valid.
+    Valid,
+    /// The plan breaks a rule.
+    Invalid,
+    /// A limit of the program is reached before the plan can be judged.
+    Beyond,
+    /// A line of the plan text is none of a plan.
+    BadText,
+    /// The shelf failed.
+    ReadFault,
+    /// The sink failed.
+    WriteFault,
+    /// Memory is wanting.
+    NoMemory,
+}
+
+/// The most bytes of a plan line.
+const LINE_LIMIT: usize = 4096;
+
+/// A plan text, or where it goes on behind the limit its first bytes.
+#[derive(Drop)]
+pub struct PlanText {
+    pub bytes: Vec<u8>,
+    pub goes_on: bool,
+}
+
+/// The report of a plan and its verdict line.
+#[derive(Drop)]
+pub struct Judgement {
+    pub bytes: Vec<u8>,
+    pub outcome: Outcome,
+}
+
+// Plays all lines of a text, and then its end.
+fn play(
+    run: &mut Run,
+    alloc: Global,
+    typed: &Typed,
+    ground: &Ground<Frac64>,
+    text: &[u8],
+) -> Result<(), Halt>
+    requires expands { IsGroundOf typed.now.domain typed.now.problem ground.now }
+    requires can { CanGoOn (problem_of fraction_of ground.now) run.old.timeline }
+    requires moment { run.old.timeline.now.running ≡ None }
+    requires few { length text.now ≤ 1048576 }
+    ensures plays { OnOk result (PlaysAll typed.now.domain (labels_of ground.now)
+        (problem_of fraction_of ground.now) text.now run.old run.new) }
+    ensures fits { IfErr result (HaltFits (problem_of fraction_of ground.now)) }
+{
+    run.text(alloc, typed, ground, text)?;
+    run.close(ground)?;
+    Ok(())
+}
+
+// Where the last line begins that may go on: behind the last LF.
+fn whole_lines(text: &[u8]) -> usize
+    ensures { result ≤ length text.now }
+{
+    let mut end = text.len();
+    while end > 0 && text[end - 1] != b'\n' {
+        end -= 1;
+    }
+    end
+}
+
+// The refusal of a text that goes on behind the limit, all of whose whole lines are played.
+fn too_long(number: u32, rest: usize) -> Halt
+    ensures { (P : Problem) → HaltFits P result }
+{
+    let early = if rest > LINE_LIMIT {
+        Early::LineTooLong { line: number }
+    } else {
+        Early::TooLong { text: Text::Plan }
+    };
+    Halt::Refused(Verdict::Other(early))
+}
+
+// Plays the whole lines of a text that is too long, of which these are the first bytes, and says why
+// it is refused.
+fn play_cut(
+    run: &mut Run,
+    alloc: Global,
+    typed: &Typed,
+    ground: &Ground<Frac64>,
+    text: &[u8],
+) -> Halt
+    requires expands { IsGroundOf typed.now.domain typed.now.problem ground.now }
+    requires can { CanGoOn (problem_of fraction_of ground.now) run.old.timeline }
+    requires moment { run.old.timeline.now.running ≡ None }
+    requires few { length text.now ≤ 1048576 }
+    ensures { HaltFits (problem_of fraction_of ground.now) result }
+{
+    let end = whole_lines(text);
+    match run.text(alloc, typed, ground, &text[..end]) {
+        Ok(number) => too_long(number, text.len() - end),
+        Err(halt) => halt,
+    }
+}
+
+// Plays a plan text, or what of it is within the limit.
+fn play_text(
+    run: &mut Run,
+    alloc: Global,
+    typed: &Typed,
+    ground: &Ground<Frac64>,
+    text: &PlanText,
+) -> Result<(), Halt>
+    requires expands { IsGroundOf typed.now.domain typed.now.problem ground.now }
+    requires can { CanGoOn (problem_of fraction_of ground.now) run.old.timeline }
+    requires moment { run.old.timeline.now.running ≡ None }
+    requires few { length text.now.bytes.items ≤ 1048576 }
+    ensures plays { OnOk result (PlaysWhole typed.now.domain (labels_of ground.now)
+        (problem_of fraction_of ground.now) text.now.bytes.items text.now.goes_on run.old run.new) }
+    ensures fits { IfErr result (HaltFits (problem_of fraction_of ground.now)) }
+{
+    if text.goes_on {
+        return Err(play_cut(run, alloc, typed, ground, &text.bytes));
+    }
+    play(run, alloc, typed, ground, &text.bytes)?;
+    Ok(())
+}
+
+fn outcome_of(verdict: &Verdict<Frac64>) -> Outcome
+    ensures { result ≡ outcome_of verdict.now }
+{
+    match verdict {
+        Verdict::Valid => Outcome::Valid,
+        Verdict::Invalid(_) => Outcome::Invalid,
+        Verdict::Beyond(_) => Outcome::Beyond,
+        Verdict::Other(early) => match early {
+            Early::BadText { .. } | Early::BadLine { .. } => Outcome::BadText,
+            _ => Outcome::Beyond,
+        },
+    }
+}
+
+// The verdict on a text whose lines are played.
+fn verdict_of(played: Result<(), Halt>) -> Result<Verdict<Frac64>, Halt>
+    ensures { IfOk result (GivesVerdict played) }
+{
+    match played {
+        Ok(()) => Ok(Verdict::Valid),
+        Err(Halt::Refused(verdict)) => Ok(verdict),
+        Err(Halt::Memory) => Err(Halt::Memory),
+    }
+}
+
+/// Judges a plan text.
+pub fn judge(
+    alloc: Global,
+    typed: &Typed,
+    ground: &Ground<Frac64>,
+    text: &PlanText,
+    happenings: u64,
+) -> Result<Judgement, Halt>
+    requires expands { IsGroundOf typed.now.domain typed.now.problem ground.now }
+    requires fits { ProblemFits (problem_of fraction_of ground.now) }
+    requires some { 1 ≤ happenings }
+    requires few { length text.now.bytes.items ≤ 1048576 }
+    ensures judged { IfOk result (IsJudged typed.now.domain typed.now.problem happenings
+        text.now.bytes.items text.now.goes_on) }
+{
+    let mut run = Run::begin(alloc, ground, happenings)?;
+    let verdict = verdict_of(play_text(&mut run, alloc, typed, ground, text))?;
+    write_verdict(&mut run.report, ground, &verdict)?;
+    let outcome = outcome_of(&verdict);
+    Ok(Judgement {
+        bytes: run.report.bytes,
+        outcome,
+    })
+}

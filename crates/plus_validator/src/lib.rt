@@ -1,0 +1,12 @@
+//! Checks a plan: from its bytes to the report and the verdict.
+#![tactic(auto)]
+
+mod checking;
+mod halt;
+mod judge;
+mod memory;
+mod play;
+mod run;
+
+pub use checking::validate;
+pub use judge::Outcome;

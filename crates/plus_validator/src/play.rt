@@ -1,0 +1,207 @@
+//! Plays a plan text, line by line.
+ghost use Rattle.std.specs.Prelude.{◌≡◌, ◌≤◌, ◌<◌, None, length, OnOk, IfOk, IfErr};
+ghost use Rattle.plus_number.specs.Frac.{fraction_of};
+ghost use Rattle.plus_model.specs.Terms.{Problem};
+ghost use Rattle.plus_model.specs.Trajectory.{is_below};
+ghost use Rattle.plus_plan.specs.Answers.{HasBottom};
+ghost use Rattle.plus_state.specs.View.{problem_of, labels_of};
+ghost use Rattle.plus_timeline.specs.Finish.{IsPaused};
+ghost use Rattle.plus_ground.specs.Expansion.{called_of};
+ghost use Rattle.plus_validator.specs.Halts.{HaltFits};
+ghost use Rattle.plus_validator.specs.Standing.{CanGoOn};
+ghost use Rattle.plus_validator.specs.Playing.{IsGroundOf, IsInTime, ActsOnce, PlaysLine, Closes, ReadsAll};
+
+use crate::halt::Halt;
+use crate::run::Run;
+use plus_ground::{InstanceFault, instance};
+use plus_number::exact::Exact;
+use plus_number::frac::Frac64;
+use plus_plan::{Line, PlanForm, Time, line_at, time_value};
+use plus_report::{Early, Text, Verdict, write_act};
+use plus_state::Label;
+use plus_state::outcome::Breach;
+use plus_state::problem::Ground;
+use plus_tree::Call;
+use plus_types::Typed;
+use std::alloc::Global;
+use std::cmp::Ordering;
+
+fn is_earlier(time: Frac64, other: Frac64) -> bool
+    ensures { result ≡ is_below (fraction_of time) (fraction_of other) }
+{
+    match time.order(other) {
+        Ordering::Less => true,
+        Ordering::Equal => false,
+        Ordering::Greater => false,
+    }
+}
+
+// A plan that breaks a rule.
+fn broken(breach: Breach<Frac64>) -> Halt
+    ensures { result ≡ Halt.Refused (Verdict.Invalid breach) }
+{
+    Halt::Refused(Verdict::Invalid(breach))
+}
+
+// Why an action cannot be called.
+fn refused_call(alloc: Global, fault: InstanceFault, line: u32, call: &Call) -> Halt
+    ensures { (P : Problem) → HaltFits P result }
+{
+    match fault {
+        InstanceFault::UnknownAction => match Label::new(alloc, call.name.bytes()) {
+            Ok(name) => broken(Breach::UnknownAction { line, name }),
+            Err(_) => Halt::Memory,
+        },
+        InstanceFault::WrongArguments => match Label::new(alloc, call.name.bytes()) {
+            Ok(name) => broken(Breach::WrongArguments { line, name }),
+            Err(_) => Halt::Memory,
+        },
+        InstanceFault::TooManyNodes | InstanceFault::Literal { .. } | InstanceFault::Memory =>
+            Halt::Memory,
+    }
+}
+
+impl Run {
+    // Whether a time is below the present one.
+    fn is_past(&self, at: Frac64) -> bool
+        ensures { result ≡ is_below (fraction_of at) (self.now.timeline.now.time) }
+    {
+        is_earlier(at, self.timeline.time())
+    }
+
+    /// The time of a line, which may be played now.
+    #[tactic(auto, using(crate::proofs::Shown::in_time))]
+    fn moment(&self, line: u32, time: &Time) -> Result<Frac64, Halt>
+        requires { 0 < time.now.bottom }
+        ensures ok { IfOk result (IsInTime self.now time.now) }
+        ensures fits { IfErr result (λ halt. (P : Problem) → HaltFits P halt) }
+    {
+        if self.ended {
+            return Err(broken(Breach::AfterEnd { line }));
+        }
+        match time_value(time) {
+            Ok(at) => {
+                if self.is_past(at) {
+                    return Err(broken(Breach::TimeGoesBack { line }));
+                }
+                Ok(at)
+            }
+            Err(_) => Err(Halt::Refused(Verdict::Other(Early::Literal {
+                text: Text::Plan,
+                start: time.span.start,
+                end: time.span.end,
+            }))),
+        }
+    }
+
+    /// Does the action that a line calls.
+    fn act(
+        &mut self,
+        alloc: Global,
+        typed: &Typed,
+        ground: &Ground<Frac64>,
+        line: u32,
+        call: &Call,
+    ) -> Result<(), Halt>
+        requires expands { IsGroundOf typed.now.domain typed.now.problem ground.now }
+        requires can { CanGoOn (problem_of fraction_of ground.now) self.old.timeline }
+        requires paused { IsPaused self.old.timeline }
+        ensures acts { OnOk result (ActsOnce (labels_of ground.now) (problem_of fraction_of ground.now)
+            (called_of typed.now.domain call.now.name call.now.args) self.old self.new) }
+        ensures fits { IfErr result (HaltFits (problem_of fraction_of ground.now)) }
+    {
+        let action = match instance::<Frac64>(alloc, typed, call) {
+            Ok(action) => action,
+            Err(fault) => return Err(refused_call(alloc, fault, line, call)),
+        };
+        self.timeline.act(ground, &action, line)?;
+        write_act(
+            &mut self.report,
+            ground,
+            &action.label,
+            self.timeline.before(),
+            self.timeline.state(),
+        )?;
+        Ok(())
+    }
+
+    /// Plays one line of the text.
+    pub fn line(
+        &mut self,
+        alloc: Global,
+        typed: &Typed,
+        ground: &Ground<Frac64>,
+        read: &Line,
+    ) -> Result<(), Halt>
+        requires expands { IsGroundOf typed.now.domain typed.now.problem ground.now }
+        requires can { CanGoOn (problem_of fraction_of ground.now) self.old.timeline }
+        requires moment { self.old.timeline.now.running ≡ None }
+        requires bottom { HasBottom read.now }
+        ensures plays { OnOk result (PlaysLine typed.now.domain (labels_of ground.now)
+            (problem_of fraction_of ground.now) read.now self.old self.new) }
+        ensures fits { IfErr result (HaltFits (problem_of fraction_of ground.now)) }
+    {
+        match read {
+            Line::Act { line, time, call } => {
+                let until = self.moment(*line, time)?;
+                self.reach(ground, until)?;
+                self.act(alloc, typed, ground, *line, call)?;
+                let now = self.timeline.time();
+                self.reach(ground, now)
+            }
+            Line::End { line, time } => {
+                let until = self.moment(*line, time)?;
+                self.reach(ground, until)?;
+                self.ended = true;
+                Ok(())
+            }
+            Line::Blank | Line::Step { .. } => Ok(()),
+        }
+    }
+
+    /// Plays on at the end of the text.
+    pub fn close(&mut self, ground: &Ground<Frac64>) -> Result<(), Halt>
+        requires can { CanGoOn (problem_of fraction_of ground.now) self.old.timeline }
+        requires moment { self.old.timeline.now.running ≡ None }
+        ensures closes { OnOk result (Closes (labels_of ground.now)
+            (problem_of fraction_of ground.now) self.old self.new) }
+        ensures fits { IfErr result (HaltFits (problem_of fraction_of ground.now)) }
+    {
+        let now = self.timeline.time();
+        self.reach(ground, now)?;
+        self.timeline.finish(ground)?;
+        Ok(())
+    }
+
+    /// Plays the lines of a text, and answers which number the next line would have.
+    pub fn text(
+        &mut self,
+        alloc: Global,
+        typed: &Typed,
+        ground: &Ground<Frac64>,
+        text: &[u8],
+    ) -> Result<u32, Halt>
+        requires expands { IsGroundOf typed.now.domain typed.now.problem ground.now }
+        requires can { CanGoOn (problem_of fraction_of ground.now) self.old.timeline }
+        requires moment { self.old.timeline.now.running ≡ None }
+        requires few { length text.now ≤ 1048576 }
+        ensures reads { OnOk result (ReadsAll typed.now.domain (labels_of ground.now)
+            (problem_of fraction_of ground.now) text.now self.old self.new) }
+        ensures fits { IfErr result (HaltFits (problem_of fraction_of ground.now)) }
+    {
+        let mut from = 0;
+        let mut number = 1u32;
+        'lines: while let Some((read, next)) = line_at(
+            alloc,
+            text,
+            from,
+            number,
+            PlanForm::Timed,
+        )? {
+            self.line(alloc, typed, ground, &read)?;
+            from = next;
+            number += 1;
+        }
+        Ok(number)
+    }
+}

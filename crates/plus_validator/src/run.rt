@@ -1,0 +1,114 @@
+//! A plan that is played, and its report as it is written.
+ghost use Rattle.std.specs.Prelude.{◌≡◌, ◌≤◌, ◌++◌, OnOk, IfOk, IfErr};
+ghost use Rattle.plus_number.specs.Frac.{fraction_of};
+ghost use Rattle.plus_state.specs.View.{problem_of, labels_of};
+ghost use Rattle.plus_state.specs.Fits.{ProblemFits};
+ghost use Rattle.plus_timeline.specs.Still.{IsStill};
+ghost use Rattle.plus_validator.specs.Running.{Steps, Reaches};
+ghost use Rattle.plus_validator.specs.Halts.{HaltFits};
+ghost use Rattle.plus_validator.specs.Playing.{Begins};
+ghost use Rattle.plus_validator.specs.Standing.{CanReach, IsShown, next_text, is_there, CanShow};
+
+use crate::halt::Halt;
+use crate::memory::Report;
+use plus_io::Failed;
+use plus_number::frac::Frac64;
+use plus_report::{write_entry, write_literals, write_round, write_run};
+use plus_state::problem::Ground;
+use plus_timeline::{Next, Timeline};
+use std::alloc::Global;
+
+/// A plan that is played, and its report as far as it is written.
+#[derive(Drop)]
+pub struct Run {
+    pub timeline: Timeline<Frac64>,
+    pub report: Report,
+    /// Whether the end of the plan was read.
+    pub ended: bool,
+}
+
+fn is_there(next: Next<Frac64>) -> bool
+    ensures { result ≡ is_there next }
+{
+    matches!(next, Next::There)
+}
+
+// Writes what the timeline did.
+fn write_next(
+    report: &mut Report,
+    ground: &Ground<Frac64>,
+    timeline: &Timeline<Frac64>,
+    next: Next<Frac64>,
+) -> Result<(), Failed>
+    requires can { CanShow (problem_of fraction_of ground.now) timeline.now }
+    requires shown { IsShown (problem_of fraction_of ground.now) timeline.now next }
+    ensures { OnOk result (report.new.bytes.items ≡ report.old.bytes.items
+        ++ next_text fraction_of (labels_of ground.now) (problem_of fraction_of ground.now) timeline.now next) }
+{
+    match next {
+        Next::Round => write_round(
+            report,
+            ground,
+            timeline.events(),
+            timeline.before(),
+            timeline.state(),
+        ),
+        Next::Run => write_run(report, ground, timeline.running()),
+        Next::Entry { time } => {
+            write_entry(report, ground, time, timeline.before(), timeline.arrival())?;
+            if timeline.has_literals() {
+                return write_literals(report, ground, timeline.arrival(), timeline.state());
+            }
+            Ok(())
+        }
+        Next::There => Ok(()),
+    }
+}
+
+impl Run {
+    /// Begins a run: the first entry, at time 0.
+    pub fn begin(alloc: Global, ground: &Ground<Frac64>, happenings: u64) -> Result<Run, Halt>
+        requires some { 1 ≤ happenings }
+        requires fits { ProblemFits (problem_of fraction_of ground.now) }
+        requires still { IsStill (problem_of fraction_of ground.now) }
+        ensures begins { IfOk result (Begins (labels_of ground.now) (problem_of fraction_of ground.now) happenings) }
+    {
+        let timeline = Timeline::begin(alloc, ground, happenings)?;
+        let mut report = Report::new(alloc);
+        let first = Next::Entry {
+            time: timeline.time(),
+        };
+        write_next(&mut report, ground, &timeline, first)?;
+        Ok(Run {
+            timeline,
+            report,
+            ended: false,
+        })
+    }
+
+    /// Takes one step toward a time, and says whether the time is reached and nothing is due.
+    fn step(&mut self, ground: &Ground<Frac64>, until: Frac64) -> Result<bool, Halt>
+        requires can { CanReach (problem_of fraction_of ground.now) (fraction_of until) self.old.timeline }
+        ensures steps { IfOk result (Steps (labels_of ground.now) (problem_of fraction_of ground.now)
+            (fraction_of until) self.old self.new) }
+        ensures fits { IfErr result (HaltFits (problem_of fraction_of ground.now)) }
+    {
+        let next = self.timeline.advance(ground, until)?;
+        write_next(&mut self.report, ground, &self.timeline, next)?;
+        Ok(is_there(next))
+    }
+
+    /// Plays on up to a time, until nothing is due there.
+    pub fn reach(&mut self, ground: &Ground<Frac64>, until: Frac64) -> Result<(), Halt>
+        requires can { CanReach (problem_of fraction_of ground.now) (fraction_of until) self.old.timeline }
+        ensures reaches { OnOk result (Reaches (labels_of ground.now) (problem_of fraction_of ground.now)
+            (fraction_of until) self.old self.new) }
+        ensures fits { IfErr result (HaltFits (problem_of fraction_of ground.now)) }
+    {
+        'steps: loop {
+            if self.step(ground, until)? {
+                return Ok(());
+            }
+        }
+    }
+}
