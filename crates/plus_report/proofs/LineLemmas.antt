@@ -10,49 +10,71 @@ use Rattle.plus_report.proofs.PutsLemmas.{both, early, worded, nothing}
 use Rattle.plus_report.proofs.TextLemmas.{lines_below-more, lines_below-rest}
 
 module _ {O E : Type 0} {taken : O → Option (List ℕ)} {faults : O → ℕ} (line : ℕ → List ℕ) where
-  pub no_line : {x : O} {v : List ℕ} → Puts {T = Unit {0}} {E = E} taken faults x x v v (lines_below line 0) (Ok tt)
+  pub no_line : {x : O} {v : List ℕ}
+      → Puts {T = Unit {0}} {E = E} taken faults x x v v (lines_below line 0) (Ok tt)
   unfolding lines_below
   no_line = nothing tt
 
   -- one more line
-  pub next_line : {x y z : O} {v w u a : List ℕ} {r : Result (Unit {0}) E} (i j : ℕ) → Puts {T = Unit {0}} {E = E} taken faults x y v w (lines_below line i) (Ok tt) → Puts taken faults y z w u a r → a ≡ line i → j ≡ i + 1 → Puts taken faults x z v u (lines_below line j) r
+  pub next_line : {x y z : O} {v w u a : List ℕ} {r : Result (Unit {0}) E} (i j : ℕ)
+      → Puts {T = Unit {0}} {E = E} taken faults x y v w (lines_below line i) (Ok tt)
+      → Puts taken faults y z w u a r → a ≡ line i → j ≡ i + 1
+      → Puts taken faults x z v u (lines_below line j) r
   next_line i j p q e d = worded (both p q) (ap (λ t. lines_below line i ++ t) e ∙ lines_below-more line i j d)
 
   -- a fault in a line
-  pub last_line : {x y z : O} {v w u a : List ℕ} {r : Result (Unit {0}) E} (i n : ℕ) → Puts {T = Unit {0}} {E = E} taken faults x y v w (lines_below line i) (Ok tt) → Puts taken faults y z w u a r → a ≡ line i → i < n → IsErr r → Puts taken faults x z v u (lines_below line n) r
+  pub last_line : {x y z : O} {v w u a : List ℕ} {r : Result (Unit {0}) E} (i n : ℕ)
+      → Puts {T = Unit {0}} {E = E} taken faults x y v w (lines_below line i) (Ok tt)
+      → Puts taken faults y z w u a r → a ≡ line i → i < n → IsErr r
+      → Puts taken faults x z v u (lines_below line n) r
   last_line i n p q e l h =
       let rest = lines_below-rest line (i + 1) n (omega (arith, l)) in
       worded (early rest.0 (next_line i (i + 1) p q e refl) h) rest.1
 
   -- no more lines
-  pub all_lines : {x y : O} {v w : List ℕ} (i n : ℕ) → Puts {T = Unit {0}} {E = E} taken faults x y v w (lines_below line i) (Ok tt) → i ≡ n → Puts {T = Unit {0}} {E = E} taken faults x y v w (lines_below line n) (Ok tt)
+  pub all_lines : {x y : O} {v w : List ℕ} (i n : ℕ)
+      → Puts {T = Unit {0}} {E = E} taken faults x y v w (lines_below line i) (Ok tt) → i ≡ n
+      → Puts {T = Unit {0}} {E = E} taken faults x y v w (lines_below line n) (Ok tt)
   all_lines i n p e = worded p (ap (lines_below line) e)
 
 module _ {A : Type 0} (label : ℕ → List ℕ) (id : A → ℕ) (xs : List A) where
-  labels_text-more : (i : ℕ) (x : A) → i < length xs → x ≡ get_or xs i x → labels_text label (map id (take i xs)) ++ (codes " " ++ label (id x)) ≡ labels_text label (map id (take (i + 1) xs))
+  labels_text-more : (i : ℕ) (x : A) → i < length xs → x ≡ get_or xs i x
+      → labels_text label (map id (take i xs)) ++ (codes " " ++ label (id x)) ≡ labels_text label (map id (take (i + 1) xs))
   unfolding labels_text
   labels_text-more i x h e =
       let f : ℕ → List ℕ = λ k. codes " " ++ label k in
       sym (ap (λ ys. flat_map f (map id ys)) ((take_at_read xs i x h).1 ∙ ap (λ y. take i xs ++ y ∷ []) (sym e)) ∙ ap (flat_map f) (map-append id (take i xs) (x ∷ [])) ∙ flat_map-append f (map id (take i xs)) (id x ∷ []) ∙ ap (λ t. flat_map f (map id (take i xs)) ++ t) (append-nil (f (id x))))
 
-  labels_text-rest : (i : ℕ) → (rest : List ℕ) × (labels_text label (map id (take i xs)) ++ rest ≡ labels_text label (map id xs))
+  labels_text-rest : (i : ℕ)
+      → (rest : List ℕ) × (labels_text label (map id (take i xs)) ++ rest ≡ labels_text label (map id xs))
   unfolding labels_text
   labels_text-rest i =
       let f : ℕ → List ℕ = λ k. codes " " ++ label k in
       (flat_map f (map id (drop i xs)), sym (ap (λ ys. flat_map f (map id ys)) (sym (take-append-drop i xs)) ∙ ap (flat_map f) (map-append id (take i xs) (drop i xs)) ∙ flat_map-append f (map id (take i xs)) (map id (drop i xs))))
 
 module _ {O E A : Type 0} {taken : O → Option (List ℕ)} {faults : O → ℕ} (label : ℕ → List ℕ) (id : A → ℕ) (xs : List A) where
-  pub no_label : {x : O} {v : List ℕ} → Puts {T = Unit {0}} {E = E} taken faults x x v v (labels_text label (map id (take 0 xs))) (Ok tt)
+  pub no_label : {x : O} {v : List ℕ}
+      → Puts {T = Unit {0}} {E = E} taken faults x x v v (labels_text label (map id (take 0 xs))) (Ok tt)
   unfolding labels_text
   no_label = nothing tt
 
-  pub next_label : {x y z : O} {v w u a : List ℕ} {r : Result (Unit {0}) E} (i : ℕ) (e : A) → Puts {T = Unit {0}} {E = E} taken faults x y v w (labels_text label (map id (take i xs))) (Ok tt) → Puts taken faults y z w u a r → a ≡ codes " " ++ label (id e) → i < length xs → e ≡ get_or xs i e → Puts taken faults x z v u (labels_text label (map id (take (i + 1) xs))) r
+  pub next_label : {x y z : O} {v w u a : List ℕ} {r : Result (Unit {0}) E} (i : ℕ) (e : A)
+      → Puts {T = Unit {0}} {E = E} taken faults x y v w (labels_text label (map id (take i xs))) (Ok tt)
+      → Puts taken faults y z w u a r → a ≡ codes " " ++ label (id e) → i < length xs
+      → e ≡ get_or xs i e
+      → Puts taken faults x z v u (labels_text label (map id (take (i + 1) xs))) r
   next_label i e p q d h g = worded (both p q) (ap (λ t. labels_text label (map id (take i xs)) ++ t) d ∙ labels_text-more label id xs i e h g)
 
-  pub last_label : {x y z : O} {v w u a : List ℕ} {r : Result (Unit {0}) E} (i : ℕ) (e : A) → Puts {T = Unit {0}} {E = E} taken faults x y v w (labels_text label (map id (take i xs))) (Ok tt) → Puts taken faults y z w u a r → a ≡ codes " " ++ label (id e) → i < length xs → e ≡ get_or xs i e → IsErr r → Puts taken faults x z v u (labels_text label (map id xs)) r
+  pub last_label : {x y z : O} {v w u a : List ℕ} {r : Result (Unit {0}) E} (i : ℕ) (e : A)
+      → Puts {T = Unit {0}} {E = E} taken faults x y v w (labels_text label (map id (take i xs))) (Ok tt)
+      → Puts taken faults y z w u a r → a ≡ codes " " ++ label (id e) → i < length xs
+      → e ≡ get_or xs i e → IsErr r → Puts taken faults x z v u (labels_text label (map id xs)) r
   last_label i e p q d h g f =
       let rest = labels_text-rest label id xs (i + 1) in
       worded (early rest.0 (next_label i e p q d h g) f) rest.1
 
-  pub all_labels : {x y : O} {v w : List ℕ} (i : ℕ) → Puts {T = Unit {0}} {E = E} taken faults x y v w (labels_text label (map id (take i xs))) (Ok tt) → length xs ≤ i → Puts {T = Unit {0}} {E = E} taken faults x y v w (labels_text label (map id xs)) (Ok tt)
+  pub all_labels : {x y : O} {v w : List ℕ} (i : ℕ)
+      → Puts {T = Unit {0}} {E = E} taken faults x y v w (labels_text label (map id (take i xs))) (Ok tt)
+      → length xs ≤ i
+      → Puts {T = Unit {0}} {E = E} taken faults x y v w (labels_text label (map id xs)) (Ok tt)
   all_labels i p h = worded p (ap (λ ys. labels_text label (map id ys)) (take_all i xs h))

@@ -7,6 +7,8 @@ pub mod laws;
 mod parts;
 mod put;
 mod refusals;
+#[cfg(test)]
+mod tests;
 mod verdicts;
 
 pub use parts::{write_act, write_entry, write_literals, write_round, write_run};

@@ -1,0 +1,550 @@
+//! The printed texts, and what a fault leaves of one.
+ghost use Rattle.std.specs.Prelude.{◌≡◌, ◌<ℤ◌, pos, IfOk, length};
+ghost use Rattle.plus_state.specs.View.{problem_of};
+ghost use Rattle.plus_report.specs.Verdicts.{VerdictFits};
+
+use crate::{Early, Kinds, Text, Verdict, Word, write_early, write_verdict};
+use plus_io::{Failed, MemSink};
+use plus_number::consts::zero;
+use plus_number::exact::Exact;
+use plus_number::frac::Frac64;
+use plus_state::{
+    Breach, Cond, Event, EventId, FluentId, Ground, Label, Limit, Overflow, Owner, Process,
+    ProcessId, Sign, State,
+};
+use std::alloc::{AllocError, Global};
+use std::test::Fail;
+
+fn fraction(n: i64, d: i64) -> Frac64
+    requires { pos 0 <ℤ d }
+{
+    Frac64::ratio(n, d).unwrap_or(zero())
+}
+
+// a ground problem with two atoms, and one fluent, event and process
+fn tank(alloc: Global) -> Result<Ground<Frac64>, AllocError>
+    ensures fluents { IfOk result (λ g. length g.fluents.items ≡ 1) }
+    ensures processes { IfOk result (λ g. length g.processes.items ≡ 1) }
+    ensures events { IfOk result (λ g. length g.events.items ≡ 1) }
+{
+    let initial = State::new(alloc, 2, 1)?;
+    let mut atoms = Vec::new(alloc);
+    atoms.push(Label::new(alloc, b"(open)")?)?;
+    atoms.push(Label::new(alloc, b"(shut)")?)?;
+    let mut fluents = Vec::new(alloc);
+    fluents.push(Label::new(alloc, b"(level)")?)?;
+    let mut processes = Vec::new(alloc);
+    processes.push(Process {
+        label: Label::new(alloc, b"(fill)")?,
+        condition: Cond::All(Vec::new(alloc)),
+        rates: Vec::new(alloc),
+    })?;
+    let mut events = Vec::new(alloc);
+    events.push(Event {
+        label: Label::new(alloc, b"(full)")?,
+        condition: Cond::All(Vec::new(alloc)),
+        effects: Vec::new(alloc),
+    })?;
+    Ok(Ground {
+        atoms,
+        fluents,
+        processes,
+        events,
+        timed: Vec::new(alloc),
+        initial,
+        goal: Cond::All(Vec::new(alloc)),
+    })
+}
+
+static REFUSALS: [(Early, &str); 31] = [
+    (
+        Early::BadLine {
+            line: 1,
+            start: 14,
+            end: 14,
+        },
+        "bad text: plan line 1, bytes 14-14\n",
+    ),
+    (
+        Early::TooLong { text: Text::Plan },
+        "beyond: plan text over 1048576 bytes\n",
+    ),
+    (
+        Early::TooLong {
+            text: Text::TranslatedProblem,
+        },
+        "beyond: translated problem text over 1048576 bytes\n",
+    ),
+    (
+        Early::Depth {
+            text: Text::Domain,
+            at: 700,
+        },
+        "beyond: depth 64 in domain at 700\n",
+    ),
+    (Early::DepthOut, "beyond: depth 64 in translation\n"),
+    (
+        Early::LineTooLong { line: 3 },
+        "beyond: line 3 over 4096 bytes\n",
+    ),
+    (
+        Early::Literal {
+            text: Text::Problem,
+            start: 46,
+            end: 65,
+        },
+        "beyond: literal in problem 46-65\n",
+    ),
+    (
+        Early::BadText {
+            text: Text::Domain,
+            start: 18,
+            end: 20,
+            word: Word::Byte,
+        },
+        "bad text: domain 18-20: byte\n",
+    ),
+    (
+        Early::BadText {
+            text: Text::Problem,
+            start: 18,
+            end: 20,
+            word: Word::Long,
+        },
+        "bad text: problem 18-20: long\n",
+    ),
+    (
+        Early::BadText {
+            text: Text::TranslatedDomain,
+            start: 18,
+            end: 20,
+            word: Word::Unclosed,
+        },
+        "bad text: translated domain 18-20: unclosed\n",
+    ),
+    (
+        Early::BadText {
+            text: Text::Domain,
+            start: 18,
+            end: 20,
+            word: Word::Form,
+        },
+        "bad text: domain 18-20: form\n",
+    ),
+    (
+        Early::BadText {
+            text: Text::Problem,
+            start: 18,
+            end: 20,
+            word: Word::NotBuilt,
+        },
+        "bad text: problem 18-20: not built\n",
+    ),
+    (
+        Early::BadText {
+            text: Text::TranslatedDomain,
+            start: 18,
+            end: 20,
+            word: Word::UnknownType,
+        },
+        "bad text: translated domain 18-20: unknown type\n",
+    ),
+    (
+        Early::BadText {
+            text: Text::Domain,
+            start: 18,
+            end: 20,
+            word: Word::UnknownName,
+        },
+        "bad text: domain 18-20: unknown name\n",
+    ),
+    (
+        Early::BadText {
+            text: Text::Problem,
+            start: 18,
+            end: 20,
+            word: Word::Arity,
+        },
+        "bad text: problem 18-20: arity\n",
+    ),
+    (
+        Early::BadText {
+            text: Text::TranslatedDomain,
+            start: 18,
+            end: 20,
+            word: Word::WrongType,
+        },
+        "bad text: translated domain 18-20: wrong type\n",
+    ),
+    (
+        Early::BadText {
+            text: Text::Domain,
+            start: 18,
+            end: 20,
+            word: Word::Twice,
+        },
+        "bad text: domain 18-20: twice\n",
+    ),
+    (
+        Early::BadText {
+            text: Text::Problem,
+            start: 18,
+            end: 20,
+            word: Word::UnboundVariable,
+        },
+        "bad text: problem 18-20: unbound variable\n",
+    ),
+    (
+        Early::BadText {
+            text: Text::TranslatedDomain,
+            start: 18,
+            end: 20,
+            word: Word::ShadowedVariable,
+        },
+        "bad text: translated domain 18-20: shadowed variable\n",
+    ),
+    (
+        Early::BadText {
+            text: Text::Domain,
+            start: 18,
+            end: 20,
+            word: Word::TypeLoop,
+        },
+        "bad text: domain 18-20: type loop\n",
+    ),
+    (
+        Early::BadText {
+            text: Text::Problem,
+            start: 18,
+            end: 20,
+            word: Word::RateForm,
+        },
+        "bad text: problem 18-20: rate form\n",
+    ),
+    (
+        Early::BadText {
+            text: Text::TranslatedDomain,
+            start: 18,
+            end: 20,
+            word: Word::DomainName,
+        },
+        "bad text: translated domain 18-20: domain name\n",
+    ),
+    (
+        Early::BadText {
+            text: Text::Domain,
+            start: 18,
+            end: 20,
+            word: Word::NameTaken,
+        },
+        "bad text: domain 18-20: name taken\n",
+    ),
+    (
+        Early::BadText {
+            text: Text::Problem,
+            start: 18,
+            end: 20,
+            word: Word::NotLevelTwo,
+        },
+        "bad text: problem 18-20: not level two\n",
+    ),
+    (
+        Early::TooMany {
+            kind: Kinds::Objects,
+            most: 1000000,
+        },
+        "beyond: more than 1000000 objects\n",
+    ),
+    (
+        Early::TooMany {
+            kind: Kinds::Atoms,
+            most: 1000000,
+        },
+        "beyond: more than 1000000 atoms\n",
+    ),
+    (
+        Early::TooMany {
+            kind: Kinds::Fluents,
+            most: 1000000,
+        },
+        "beyond: more than 1000000 fluents\n",
+    ),
+    (
+        Early::TooMany {
+            kind: Kinds::Processes,
+            most: 1000000,
+        },
+        "beyond: more than 1000000 processes\n",
+    ),
+    (
+        Early::TooMany {
+            kind: Kinds::Events,
+            most: 1000000,
+        },
+        "beyond: more than 1000000 events\n",
+    ),
+    (
+        Early::TooMany {
+            kind: Kinds::Actions,
+            most: 1000000,
+        },
+        "beyond: more than 1000000 actions\n",
+    ),
+    (
+        Early::TooMany {
+            kind: Kinds::Nodes,
+            most: 1000000,
+        },
+        "beyond: more than 1000000 nodes\n",
+    ),
+];
+
+#[test]
+fn each_refusal_has_its_line(rt: HostRuntime) -> Result<(), Fail> {
+    let alloc = rt.alloc();
+    for (early, line) in &REFUSALS {
+        let mut out = MemSink::new(alloc, 8);
+        assert_eq!(rt; write_early(&mut out, early), Ok(()));
+        assert_eq!(rt; out.bytes(), line.as_bytes());
+    }
+    Ok(())
+}
+
+fn writes(alloc: Global, ground: &Ground<Frac64>, verdict: Verdict<Frac64>, line: &str) -> bool
+    requires { VerdictFits (problem_of ⟦<Frac64 as Exact>⟧.value ground.now) verdict }
+{
+    let mut out = MemSink::new(alloc, 8);
+    write_verdict(&mut out, ground, &verdict).is_ok() && out.bytes() == line.as_bytes()
+}
+
+#[test]
+fn each_breach_has_its_line(rt: HostRuntime) -> Result<(), Fail> {
+    let alloc = rt.alloc();
+    let ground = tank(alloc)?;
+    let name = Label::new(alloc, b"shut")?;
+    let unknown = Breach::UnknownAction { line: 1, name };
+    assert!(rt;
+        writes(
+            alloc,
+            &ground,
+            Verdict::Invalid(unknown),
+            "invalid: line 1: unknown action shut\n"
+        )
+    );
+    let name = Label::new(alloc, b"open-valve")?;
+    let wrong = Breach::WrongArguments { line: 2, name };
+    assert!(rt;
+        writes(
+            alloc,
+            &ground,
+            Verdict::Invalid(wrong),
+            "invalid: line 2: wrong arguments of open-valve\n"
+        )
+    );
+    let label = Label::new(alloc, b"(shut)")?;
+    let early = Breach::Precondition { line: 10, label };
+    assert!(rt;
+        writes(
+            alloc,
+            &ground,
+            Verdict::Invalid(early),
+            "invalid: line 10: precondition of (shut)\n"
+        )
+    );
+    let back = Breach::TimeGoesBack { line: 2 };
+    assert!(rt;
+        writes(
+            alloc,
+            &ground,
+            Verdict::Invalid(back),
+            "invalid: line 2: time goes back\n"
+        )
+    );
+    let after = Breach::AfterEnd { line: 2 };
+    assert!(rt;
+        writes(
+            alloc,
+            &ground,
+            Verdict::Invalid(after),
+            "invalid: line 2: after the end\n"
+        )
+    );
+    assert!(rt;
+        writes(
+            alloc,
+            &ground,
+            Verdict::Invalid(Breach::Goal),
+            "invalid: goal\n"
+        )
+    );
+    Ok(())
+}
+
+#[test]
+fn each_breach_of_a_ground_thing_has_its_line(rt: HostRuntime) -> Result<(), Fail> {
+    let alloc = rt.alloc();
+    let ground = tank(alloc)?;
+    let fluent = FluentId(0);
+    let process = ProcessId(0);
+    let event = EventId(0);
+    let conflict = Breach::Conflict { fluent };
+    assert!(rt;
+        writes(
+            alloc,
+            &ground,
+            Verdict::Invalid(conflict),
+            "invalid: conflict on (level)\n"
+        )
+    );
+    let none = Breach::NoValue { fluent };
+    assert!(rt;
+        writes(
+            alloc,
+            &ground,
+            Verdict::Invalid(none),
+            "invalid: no value for (level)\n"
+        )
+    );
+    let again = Breach::Repeats { event };
+    assert!(rt;
+        writes(
+            alloc,
+            &ground,
+            Verdict::Invalid(again),
+            "invalid: (full) repeats\n"
+        )
+    );
+    let unsettled = Breach::Unsettled { process };
+    assert!(rt;
+        writes(
+            alloc,
+            &ground,
+            Verdict::Invalid(unsettled),
+            "invalid: (fill) is unsettled\n"
+        )
+    );
+    let coupled = Breach::Coupled { process, fluent };
+    assert!(rt;
+        writes(
+            alloc,
+            &ground,
+            Verdict::Invalid(coupled),
+            "invalid: (fill) reads moving (level)\n"
+        )
+    );
+    let time = fraction(-7, 2);
+    let late = Breach::NoFirstMoment { event, time };
+    assert!(rt;
+        writes(
+            alloc,
+            &ground,
+            Verdict::Invalid(late),
+            "invalid: (full) has no first moment at -7/2\n"
+        )
+    );
+    Ok(())
+}
+
+#[test]
+fn each_limit_has_its_line(rt: HostRuntime) -> Result<(), Fail> {
+    let alloc = rt.alloc();
+    let ground = tank(alloc)?;
+    let left = fraction(1, 9223372036854775806);
+    let right = fraction(9223372036854775807, 1);
+    for (sign, line) in [
+        (
+            Sign::Plus,
+            "beyond: number 1/9223372036854775806 + 9223372036854775807\n",
+        ),
+        (
+            Sign::Minus,
+            "beyond: number 1/9223372036854775806 - 9223372036854775807\n",
+        ),
+        (
+            Sign::Times,
+            "beyond: number 1/9223372036854775806 * 9223372036854775807\n",
+        ),
+        (
+            Sign::Divide,
+            "beyond: number 1/9223372036854775806 / 9223372036854775807\n",
+        ),
+    ] {
+        let number = Limit::Number(Overflow { sign, left, right });
+        assert!(rt; writes(alloc, &ground, Verdict::Beyond(number), line));
+    }
+    let count = Limit::Happenings(3);
+    assert!(rt;
+        writes(
+            alloc,
+            &ground,
+            Verdict::Beyond(count),
+            "beyond: happenings 3\n"
+        )
+    );
+    let owner = Owner::Event(EventId(0));
+    let event = Limit::Nonlinear {
+        owner,
+        comparison: 1,
+    };
+    assert!(rt;
+        writes(
+            alloc,
+            &ground,
+            Verdict::Beyond(event),
+            "beyond: nonlinear in (full), comparison 1\n"
+        )
+    );
+    let owner = Owner::Process(ProcessId(0));
+    let process = Limit::Nonlinear {
+        owner,
+        comparison: 2,
+    };
+    assert!(rt;
+        writes(
+            alloc,
+            &ground,
+            Verdict::Beyond(process),
+            "beyond: nonlinear in (fill), comparison 2\n"
+        )
+    );
+    assert!(rt; writes(alloc, &ground, Verdict::Valid, "valid\n"));
+    let out = Early::DepthOut;
+    assert!(rt;
+        writes(
+            alloc,
+            &ground,
+            Verdict::Other(out),
+            "beyond: depth 64 in translation\n"
+        )
+    );
+    Ok(())
+}
+
+#[test]
+fn a_fault_leaves_the_bytes_before_it(rt: HostRuntime) -> Result<(), Fail> {
+    let alloc = rt.alloc();
+    // the write that fails, and what comes before it
+    for (call, before) in [(1, ""), (2, "beyond: "), (4, "beyond: depth 64 in tran")] {
+        let mut out = MemSink::new(alloc, 8);
+        out.fail(call)?;
+        assert_eq!(rt; write_early(&mut out, &Early::DepthOut), Err(Failed));
+        assert_eq!(rt; out.bytes(), before.as_bytes());
+    }
+    Ok(())
+}
+
+#[test]
+fn a_long_label_is_written_whole(rt: HostRuntime) -> Result<(), Fail> {
+    let alloc = rt.alloc();
+    let ground = tank(alloc)?;
+    let long = vec![in alloc; b'a'; 600]?;
+    let label = Label::new(alloc, &long)?;
+    let unmet = Breach::Precondition { line: 1, label };
+    let mut out = MemSink::new(alloc, 100);
+    assert_eq!(rt;
+        write_verdict(&mut out, &ground, &Verdict::Invalid(unmet)),
+        Ok(())
+    );
+    assert_eq!(rt; out.bytes().len(), 634);
+    Ok(())
+}
