@@ -1,0 +1,16 @@
+-- What the words behind the program's name mean. Each word is compared byte for byte.
+use Rattle.std.specs.Prelude.{ℕ, List, [], ◌∷◌, Option, Some, None, codes, if◌then◌else◌}
+use Rattle.std.specs.Str.{bytes_eq}
+
+-- `check D P L`: the files of the domain, the problem and the plan
+pub data Command : Type 0 where
+  Check : List ℕ → List ℕ → List ℕ → Command
+
+abbrev pub command_of : List (List ℕ) → Option Command
+command_of (c ∷ d ∷ p ∷ l ∷ []) = if bytes_eq c (codes "check") then Some (Check d p l) else None
+command_of _ = None
+
+-- the names of the files of a command, in the order of the words
+abbrev pub files_of : Option Command → List (List ℕ)
+files_of None = []
+files_of (Some (Check d p l)) = d ∷ p ∷ l ∷ []

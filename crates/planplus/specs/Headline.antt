@@ -1,0 +1,76 @@
+-- What an answer of the top call shows.
+use Rattle.std.specs.Prelude.{◌≡◌, ◌⊎◌, ℕ, List, [], Option, Some, None, IfSome, codes}
+use Rattle.plus_io.specs.Taken.{Took}
+use Rattle.plus_tree.specs.declared.trees.Domain.{Domain}
+use Rattle.plus_tree.specs.declared.trees.Problem.{Problem}
+use Rattle.plus_types.specs.Faults.{faults_of}
+use Rattle.plus_io.specs.Faults.{Rose}
+use Rattle.plus_report.specs.declared.refusals.Early.{Early}
+use Rattle.plus_report.specs.declared.refusals.Early.TheVariants.{BadText, BadLine}
+use Rattle.plus_validator.specs.declared.judge.Outcome.{Outcome}
+use Rattle.plus_validator.specs.declared.judge.Outcome.TheVariants as outcomes
+use Rattle.planplus.specs.declared.run.Status.{Status}
+use Rattle.planplus.specs.declared.run.Status.TheVariants as s
+use Rattle.plus_report.specs.Refusals.{early_text}
+use Rattle.plus_validator.specs.Validates.{Accepts}
+use Rattle.planplus.specs.Command.{Command, Check}
+use Rattle.planplus.specs.Pair.{SpellsPair, PairRefused}
+
+-- how many moments a plan may enter
+abbrev pub default_happenings : ℕ
+default_happenings = 10000
+
+-- The bytes under the three names spell a well-typed pair and a plan of lines, exactly one trajectory of the pair has
+-- that plan's actions, and between old and new the sink took that trajectory's text and `valid`.
+pub record IsValidRun (domain problem plan : List ℕ) (old new : Option (List ℕ)) : Type 0 where
+  pub d : Domain
+  pub p : Problem
+  pub spelled : SpellsPair domain problem d p
+  pub well_typed : faults_of d p ≡ []
+  pub accepted : Accepts d p default_happenings plan old new
+
+-- the same for a command, where the shelf tells what stands under its names
+abbrev pub RunsValid : Option Command → (List ℕ → Option (List ℕ)) → Option (List ℕ) → Option (List ℕ) → Type 0
+RunsValid None bytes old new = ⊥
+RunsValid (Some (Check d p l)) bytes old new =
+    IfSome (bytes d) (λ ds. IfSome (bytes p) (λ ps. IfSome (bytes l) (λ ls. IsValidRun ds ps ls old new)))
+
+-- the line that is written where the words mean no command
+abbrev pub usage_line : List ℕ
+usage_line = codes "usage: planplus COMMAND ARGUMENTS\n"
+
+-- the status of a refusal that is one line
+abbrev pub early_status : Early → Status
+early_status (BadText text start finish word) = s.BadText
+early_status (BadLine line start finish) = s.BadText
+early_status _ = s.Beyond
+
+-- the line was written, and this is the status; or the sink failed
+abbrev pub Writes : List ℕ → Status → Option (List ℕ) → Option (List ℕ) → ℕ → ℕ → Status → Type 0
+Writes line status old new before now answer = ((answer ≡ status) × Took old new line) ⊎ ((answer ≡ s.WriteFault) × Rose before now)
+
+-- The two texts are no well-typed pair, and one line says why; or they are, and the plan is refused.
+pub data IsRefusedRun (domain problem : List ℕ) (old new : Option (List ℕ)) (status : Status) : Type 0 where
+  for_pair : (e : Early) → PairRefused domain problem e → status ≡ early_status e → Took old new (early_text e) → IsRefusedRun domain problem old new status
+  for_plan : (d : Domain) (p : Problem) → SpellsPair domain problem d p → faults_of d p ≡ [] → IsRefusedRun domain problem old new status
+
+-- what is said where a command is refused: its plan is not valid, a limit stands, or a text is none
+abbrev pub OnRefusal : Status → Type 0 → Type 0
+OnRefusal s.Invalid P = P
+OnRefusal s.Beyond P = P
+OnRefusal s.BadText P = P
+OnRefusal _ P = Unit {0}
+
+abbrev pub RunsRefused : Option Command → (List ℕ → Option (List ℕ)) → Option (List ℕ) → Option (List ℕ) → Status → Type 0
+RunsRefused None bytes old new status = ⊥
+RunsRefused (Some (Check d p l)) bytes old new status =
+    IfSome (bytes d) (λ ds. IfSome (bytes p) (λ ps. IsRefusedRun ds ps old new status))
+
+abbrev pub status_of : Outcome → Status
+status_of outcomes.Valid = s.Valid
+status_of outcomes.Invalid = s.Invalid
+status_of outcomes.Beyond = s.Beyond
+status_of outcomes.BadText = s.BadText
+status_of outcomes.ReadFault = s.ReadFault
+status_of outcomes.WriteFault = s.WriteFault
+status_of outcomes.NoMemory = s.NoMemory

@@ -1,0 +1,5 @@
+pub mod Command
+pub mod Meant
+pub mod Pair
+pub mod Reads
+pub mod Headline

@@ -1,0 +1,7 @@
+-- The command that a value of the code stands for.
+use Rattle.planplus.specs.declared.command.Command as code
+use Rattle.planplus.specs.declared.command.Command.TheVariants as codes
+use Rattle.planplus.specs.Command.{Command, Check}
+
+abbrev pub meant : code.Command → Command
+meant (codes.Check c) = Check c.domain.now c.problem.now c.plan.now

@@ -1,0 +1,100 @@
+-- The domain and the problem that two texts spell, and why two texts are no pair. The domain's text comes first: its
+-- length, then its tree; then the problem's; then their types.
+use Rattle.std.specs.Prelude.{◌≡◌, ℕ, ◌+◌, ◌-◌, ◌^◌, ◌<◌, ◌≤◌, min, List, length, Err}
+use Rattle.plus_tokens.specs.declared.token.LexFault.TheVariants as lex
+use Rattle.plus_tree.specs.declared.faults.TextFault.{TextFault}
+use Rattle.plus_tree.specs.declared.faults.TextFault.TheVariants as faults
+use Rattle.plus_tree.specs.declared.trees.Domain.{Domain}
+use Rattle.plus_tree.specs.declared.trees.Problem.{Problem}
+use Rattle.plus_parser.specs.Items.{items_of}
+use Rattle.plus_parser.specs.ReadingDomain.{domain_of}
+use Rattle.plus_parser.specs.ReadingProblem.{problem_of}
+use Rattle.plus_parser.specs.SpellsDomain.{SpellsWithin}
+use Rattle.plus_parser.specs.SpellsProblem.{SpellsProblemWithin}
+use Rattle.plus_types.specs.declared.faults.File.{File}
+use Rattle.plus_types.specs.declared.faults.File.TheVariants as files
+use Rattle.plus_types.specs.declared.faults.Wrong.{Wrong}
+use Rattle.plus_types.specs.declared.faults.Wrong.TheVariants as wrongs
+use Rattle.plus_types.specs.declared.faults.TypeFault.{TypeFault}
+use Rattle.plus_types.specs.declared.faults.TypeFault.TheVariants as types
+use Rattle.plus_types.specs.Faults.{faults_of, IsFirstFault}
+use Rattle.plus_report.specs.declared.refusals.Text.{Text}
+use Rattle.plus_report.specs.declared.refusals.Text.TheVariants as texts
+use Rattle.plus_report.specs.declared.refusals.Word.{Word}
+use Rattle.plus_report.specs.declared.refusals.Word.TheVariants as words
+use Rattle.plus_report.specs.declared.refusals.Early as early
+use Rattle.plus_report.specs.declared.refusals.Early.TheVariants.{BadText, TooLong, Depth}
+use Rattle.planplus.specs.declared.pair.Refusal.{Refusal}
+use Rattle.planplus.specs.declared.pair.Refusal.TheVariants.{Early, NoMemory}
+
+-- the most bytes of a text, and the most parentheses open at once
+abbrev pub text_limit : ℕ
+text_limit = 1048576
+
+abbrev pub depth_limit : ℕ
+depth_limit = 64
+
+-- the offset behind one byte
+abbrev pub behind : ℕ → ℕ
+behind at = min (at + 1) (2 ^ 64 - 1)
+
+-- a text of this length that spells no tree is refused so
+abbrev pub text_refusal : Text → ℕ → TextFault → Refusal
+text_refusal text n (faults.Lex (lex.BadByte at)) = Early (BadText text at (behind at) words.Byte)
+text_refusal text n (faults.Lex (lex.TooLong at)) = Early (BadText text at (behind at) words.Long)
+text_refusal text n faults.Unclosed = Early (BadText text n n words.Unclosed)
+text_refusal text n (faults.Depth at) = Early (Depth text at)
+text_refusal text n (faults.Form span) = Early (BadText text span.start span.«end» words.Form)
+text_refusal text n (faults.NotBuilt span) = Early (BadText text span.start span.«end» words.NotBuilt)
+text_refusal text n faults.Memory = NoMemory
+
+abbrev pub text_named : File → Text
+text_named files.Domain = texts.Domain
+text_named files.Problem = texts.Problem
+
+abbrev pub word_of : Wrong → Word
+word_of wrongs.UnknownType = words.UnknownType
+word_of wrongs.UnknownName = words.UnknownName
+word_of wrongs.Arity = words.Arity
+word_of wrongs.WrongType = words.WrongType
+word_of wrongs.Twice = words.Twice
+word_of wrongs.Unbound = words.UnboundVariable
+word_of wrongs.Shadowed = words.ShadowedVariable
+word_of wrongs.TypeLoop = words.TypeLoop
+word_of wrongs.RateForm = words.RateForm
+word_of wrongs.DomainName = words.DomainName
+
+-- a pair that is not well typed is refused so
+abbrev pub type_refusal : TypeFault → Refusal
+type_refusal (types.At wrong file span) = Early (BadText (text_named file) span.start span.«end» (word_of wrong))
+type_refusal types.Memory = NoMemory
+
+-- why the domain's text is refused
+pub data DomainRefused (text : List ℕ) (e : early.Early) : Type 0 where
+  long_domain : text_limit < length text → e ≡ TooLong texts.Domain → DomainRefused text e
+  no_domain :
+      (fault : TextFault) → length text ≤ text_limit → domain_of depth_limit (items_of text) ≡ Err fault
+      → text_refusal texts.Domain (length text) fault ≡ Early e → DomainRefused text e
+
+-- why the problem's text is refused
+pub data ProblemRefused (text : List ℕ) (e : early.Early) : Type 0 where
+  long_problem : text_limit < length text → e ≡ TooLong texts.Problem → ProblemRefused text e
+  no_problem :
+      (fault : TextFault) → length text ≤ text_limit → problem_of depth_limit (items_of text) ≡ Err fault
+      → text_refusal texts.Problem (length text) fault ≡ Early e → ProblemRefused text e
+
+-- why two texts are no well-typed pair
+pub data PairRefused (domain problem : List ℕ) (e : early.Early) : Type 0 where
+  by_domain : DomainRefused domain e → PairRefused domain problem e
+  by_problem : (d : Domain) → SpellsWithin depth_limit domain d → ProblemRefused problem e → PairRefused domain problem e
+  by_types :
+      (d : Domain) (p : Problem) (fault : TypeFault) → SpellsWithin depth_limit domain d
+      → SpellsProblemWithin depth_limit problem p → IsFirstFault (faults_of d p) fault → type_refusal fault ≡ Early e
+      → PairRefused domain problem e
+
+-- the two texts spell this pair, which is well typed
+pub record SpellsPair (domain problem : List ℕ) (d : Domain) (p : Problem) : Type 0 where
+  pub domain_within : length domain ≤ text_limit
+  pub problem_within : length problem ≤ text_limit
+  pub domain_spelled : SpellsWithin depth_limit domain d
+  pub problem_spelled : SpellsProblemWithin depth_limit problem p

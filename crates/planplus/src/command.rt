@@ -1,0 +1,66 @@
+//! The words of the command line.
+
+ghost use Rattle.std.specs.Prelude.{◌≡◌, [], ◌∷◌, map, option_map, string_bytes, IfOk};
+ghost use Rattle.planplus.specs.Command.{command_of, files_of};
+ghost use Rattle.planplus.specs.Meant.{meant};
+
+use std::alloc::{AllocError, Global};
+
+/// A command, with the names of its files.
+#[derive(Clone, Copy)]
+pub enum Command<'a> {
+    Check(Check<'a>),
+}
+
+/// `check D P L`: checks a plan.
+#[derive(Clone, Copy)]
+pub struct Check<'a> {
+    pub domain: &'a str,
+    pub problem: &'a str,
+    pub plan: &'a str,
+}
+
+impl Check<'_> {
+    // The names of its files.
+    fn names(&self, alloc: Global) -> Result<Vec<String>, AllocError>
+        ensures { IfOk result (λ names. map string_bytes names.items
+            ≡ self.now.domain.now ∷ self.now.problem.now ∷ self.now.plan.now ∷ []) }
+    {
+        let mut names = Vec::new(alloc);
+        names.push(String::from_str(alloc, self.domain)?)?;
+        names.push(String::from_str(alloc, self.problem)?)?;
+        names.push(String::from_str(alloc, self.plan)?)?;
+        Ok(names)
+    }
+}
+
+/// The command that the words mean, if they mean one.
+pub fn parse<'a>(words: &'a [String]) -> Option<Command<'a>>
+    ensures { option_map meant result ≡ command_of (map string_bytes words.now) }
+{
+    match words {
+        [name, domain, problem, plan] => {
+            if name.as_str() == "check" {
+                Some(Command::Check(Check {
+                    domain: domain.as_str(),
+                    problem: problem.as_str(),
+                    plan: plan.as_str(),
+                }))
+            } else {
+                None
+            }
+        }
+        _ => None,
+    }
+}
+
+/// The names of the files of the command that the words mean, in the order of the words; none where
+/// they mean no command.
+pub fn files(alloc: Global, words: &[String]) -> Result<Vec<String>, AllocError>
+    ensures { IfOk result (λ names. map string_bytes names.items ≡ files_of (command_of (map string_bytes words.now))) }
+{
+    match parse(words) {
+        None => Ok(Vec::new(alloc)),
+        Some(Command::Check(check)) => check.names(alloc),
+    }
+}

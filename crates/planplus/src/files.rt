@@ -1,0 +1,113 @@
+//! Real files as a shelf.
+
+ghost use Rattle.std.specs.Prelude.{◌≡◌, ◌≤◌, length, map, position, string_bytes, IfSome};
+ghost use Rattle.std.specs.Str.{bytes_eq};
+ghost use Rattle.plus_io.specs.Stored.{place_of};
+ghost use Rattle.plus_io.specs.Faults.{Rose};
+
+use plus_io::{Failed, Shelf};
+use std::fs;
+use std::fs::Files;
+use std::io::Read;
+
+// A file that is picked, and the place of its name.
+#[derive(Drop)]
+struct Picked<F: Drop> {
+    place: usize,
+    file: F,
+}
+
+/// Reads real files. It is made for a list of names: a name outside of it has no bytes, and a listed
+/// name without a file is a fault at its pick. It tells nothing of what the files hold: this is the
+/// edge where the system is trusted.
+#[derive(Drop)]
+pub struct FileShelf<'r, R: Files> {
+    rt: &'r R,
+    names: Vec<String>,
+    picked: Option<Picked<R::File>>,
+    faults: u64,
+}
+
+fn first_named(names: &[String], name: &str) -> Option<usize>
+    ensures { result ≡ position (λ n. bytes_eq (string_bytes n) name.now) names.now }
+{
+    names.iter().position(|n| n.as_str() == name)
+}
+
+// The place of a name.
+fn place(names: &[String], name: &str) -> Option<usize>
+    ensures { result ≡ place_of (map string_bytes names.now) name.now }
+{
+    first_named(names, name)
+}
+
+// One fault more; the count stands still at its greatest value.
+fn raised(faults: u64) -> u64
+    ensures { Rose faults result }
+{
+    faults.saturating_add(1)
+}
+
+// Reads a piece; at a fault nothing is read.
+fn read_piece(file: &mut impl Read, into: &mut [u8]) -> Option<usize>
+    ensures within { IfSome result (λ count. count ≤ length into.new) }
+{
+    match file.read(into) {
+        Ok(count) => Some(count),
+        Err(_) => None,
+    }
+}
+
+impl<'r, R: Files> FileShelf<'r, R> {
+    /// A shelf of real files, made for these names.
+    pub fn new(rt: &'r R, names: Vec<String>) -> Self {
+        FileShelf {
+            rt,
+            names,
+            picked: None,
+            faults: 0,
+        }
+    }
+}
+
+impl<'r, R: Files> Shelf for FileShelf<'r, R> {
+    ghost use Rattle.std.specs.Prelude.{None, [], map, string_bytes, slice_index_or, option_map};
+
+    ghost names = { λ s. map string_bytes s.names.items };
+
+    ghost bytes = { λ _ _. None };
+
+    ghost picked = { λ s. option_map (λ p. slice_index_or (map string_bytes s.names.items) p.place []) s.picked };
+
+    ghost rest = { λ _. None };
+
+    ghost faults = { λ s. s.faults };
+
+    #[tactic(auto, using(crate::proofs::FilesLemmas::picking))]
+    fn pick(&mut self, name: &str) -> Result<(), Failed> {
+        self.picked = None;
+        if let Some(place) = place(&self.names, name) {
+            match fs::open(self.rt, name) {
+                Ok(file) => self.picked = Some(Picked { place, file }),
+                Err(_) => {
+                    self.faults = raised(self.faults);
+                    return Err(Failed);
+                }
+            }
+        }
+        Ok(())
+    }
+
+    fn read(&mut self, into: &mut [u8]) -> Result<usize, Failed> {
+        match &mut self.picked {
+            None => Ok(0),
+            Some(picked) => match read_piece(&mut picked.file, into) {
+                Some(count) => Ok(count),
+                None => {
+                    self.faults = raised(self.faults);
+                    Err(Failed)
+                }
+            },
+        }
+    }
+}

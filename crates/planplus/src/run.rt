@@ -1,0 +1,157 @@
+//! The top call: from the words of the command line to what is written and the exit status.
+
+ghost use Rattle.std.specs.Prelude.{◌≡◌, ◌≤◌, map, string_bytes};
+ghost use Rattle.plus_io.specs.Faults.{Rose};
+ghost use Rattle.plus_io.specs.Files.{KeepsFiles};
+ghost use Rattle.plus_report.specs.Refusals.{early_text};
+ghost use Rattle.planplus.specs.Command.{command_of};
+ghost use Rattle.planplus.specs.Headline.{RunsValid, RunsRefused, OnRefusal, Writes, usage_line, early_status, status_of};
+ghost use Rattle.planplus.specs.Meant.{meant};
+
+use crate::command::{Check, Command, parse};
+use crate::pair::{Refusal, pair};
+use plus_io::{Shelf, Sink, write_all};
+use plus_report::{Early, write_early};
+use plus_validator::{Outcome, validate};
+use std::alloc::Global;
+use std::process::ExitCode;
+
+/// How many moments a plan may enter.
+const DEFAULT_HAPPENINGS: u64 = 10000;
+
+/// How a run ends. The exit statuses are 0 to 7 in this order.
+#[derive(Clone, Copy, Debug, PartialEq, Eq)]
+pub enum Status {
+    /// The plan is valid.
+    Valid,
+    /// The plan breaks a rule.
+    Invalid,
+    /// A limit of the program is reached before there is an answer.
+    Beyond,
+    /// A text or a plan line is none.
+    BadText,
+    /// The words are no command.
+    Usage,
+    /// A file cannot be read.
+    ReadFault,
+    /// The output cannot be written.
+    WriteFault,
+    /// Memory is wanting.
+    NoMemory,
+}
+
+impl Status {
+    /// The exit status of the process.
+    pub fn exit_code(self) -> ExitCode {
+        ExitCode::from(match self {
+            Status::Valid => 0,
+            Status::Invalid => 1,
+            Status::Beyond => 2,
+            Status::BadText => 3,
+            Status::Usage => 4,
+            Status::ReadFault => 5,
+            Status::WriteFault => 6,
+            Status::NoMemory => 7,
+        })
+    }
+
+    // The status of a checked plan.
+    fn of(outcome: Outcome) -> Status
+        ensures { result ≡ status_of outcome }
+    {
+        match outcome {
+            Outcome::Valid => Status::Valid,
+            Outcome::Invalid => Status::Invalid,
+            Outcome::Beyond => Status::Beyond,
+            Outcome::BadText => Status::BadText,
+            Outcome::ReadFault => Status::ReadFault,
+            Outcome::WriteFault => Status::WriteFault,
+            Outcome::NoMemory => Status::NoMemory,
+        }
+    }
+}
+
+// The words are no command.
+fn usage<O: Sink>(out: &mut O) -> Status
+    ensures writes { Writes usage_line Status.Usage (O.taken out.old) (O.taken out.new)
+        (O.faults out.old) (O.faults out.new) result }
+    ensures no_fall { O.faults out.old ≤ O.faults out.new }
+{
+    match write_all(out, b"usage: planplus COMMAND ARGUMENTS\n") {
+        Ok(()) => Status::Usage,
+        Err(_) => Status::WriteFault,
+    }
+}
+
+fn status_for(early: &Early) -> Status
+    ensures { result ≡ early_status early.now }
+{
+    match early {
+        Early::BadText { .. } | Early::BadLine { .. } => Status::BadText,
+        _ => Status::Beyond,
+    }
+}
+
+// Refuses with one line.
+fn refuse<O: Sink>(out: &mut O, early: &Early) -> Status
+    ensures writes { Writes (early_text early.now) (early_status early.now) (O.taken out.old)
+        (O.taken out.new) (O.faults out.old) (O.faults out.new) result }
+    ensures no_fall { O.faults out.old ≤ O.faults out.new }
+{
+    match write_early(out, early) {
+        Ok(()) => status_for(early),
+        Err(_) => Status::WriteFault,
+    }
+}
+
+// `check`: reads the pair, and checks the plan.
+fn check<S: Shelf, O: Sink>(alloc: Global, files: Check<'_>, shelf: &mut S, out: &mut O) -> Status
+    ensures valid { result ≡ Status.Valid → RunsValid (Some (meant (Command.Check files.entry)))
+        (S.bytes shelf.old) (O.taken out.old) (O.taken out.new) }
+    ensures refused { OnRefusal result (RunsRefused (Some (meant (Command.Check files.entry)))
+        (S.bytes shelf.old) (O.taken out.old) (O.taken out.new) result) }
+    ensures no_usage { result ≡ Status.Usage → ⊥ }
+    ensures read_fault { result ≡ Status.ReadFault → Rose (S.faults shelf.old) (S.faults shelf.new) }
+    ensures write_fault { result ≡ Status.WriteFault → Rose (O.faults out.old) (O.faults out.new) }
+    ensures keeps { KeepsFiles S.names S.bytes S.faults shelf.old shelf.new }
+    ensures no_fall { O.faults out.old ≤ O.faults out.new }
+{
+    match pair(alloc, shelf, files.domain, files.problem) {
+        Ok(typed) => Status::of(validate(
+            alloc,
+            &typed,
+            shelf,
+            files.plan,
+            out,
+            DEFAULT_HAPPENINGS,
+        )),
+        Err(Refusal::Early(early)) => refuse(out, &early),
+        Err(Refusal::ReadFault) => Status::ReadFault,
+        Err(Refusal::NoMemory) => Status::NoMemory,
+    }
+}
+
+/// Carries out the command that the words mean: reads the files that it names from the shelf,
+/// writes to the sink, and answers the status.
+pub fn run<S: Shelf, O: Sink>(alloc: Global, words: &[String], shelf: &mut S, out: &mut O) -> Status
+    // The plan is valid: exactly one trajectory has its actions, and the report is its text.
+    ensures valid { result ≡ Status.Valid → RunsValid (command_of (map string_bytes words.now))
+        (S.bytes shelf.old) (O.taken out.old) (O.taken out.new) }
+    // A text, the pair or the plan is refused, and the line says which.
+    ensures refused { OnRefusal result (RunsRefused (command_of (map string_bytes words.now))
+        (S.bytes shelf.old) (O.taken out.old) (O.taken out.new) result) }
+
+    ensures usage { result ≡ Status.Usage → command_of (map string_bytes words.now) ≡ None }
+    ensures no_command { command_of (map string_bytes words.now) ≡ None → Writes usage_line Status.Usage
+        (O.taken out.old) (O.taken out.new) (O.faults out.old) (O.faults out.new) result }
+
+    ensures read_fault { result ≡ Status.ReadFault → Rose (S.faults shelf.old) (S.faults shelf.new) }
+    ensures write_fault { result ≡ Status.WriteFault → Rose (O.faults out.old) (O.faults out.new) }
+    ensures keeps { KeepsFiles S.names S.bytes S.faults shelf.old shelf.new }
+    ensures no_fall { O.faults out.old ≤ O.faults out.new }
+{
+    match parse(words) {
+        None => usage(out),
+        Some(Command::Check(files)) => check(alloc, files, shelf, out),
+    }
+}

@@ -1,0 +1,4 @@
+(define (problem open-the-door)
+  (:domain door)
+  (:init (closed) (locked))
+  (:goal (not (closed))))
