@@ -82,7 +82,7 @@ no_line d N P line run e c m = record {
 }
 
 -- the run stands ready for a line at this time
-not_ended : (N : Labels) (P : Problem) (L : Plan) (h : List Part) (run : Run) → run.ended ≡ false → Readied N P L h run → IsReady N P L false h run.timeline run.report.bytes.items
+pub not_ended : (N : Labels) (P : Problem) (L : Plan) (h : List Part) (run : Run) → run.ended ≡ false → Readied N P L h run → IsReady N P L false h run.timeline run.report.bytes.items
 not_ended N P L h run e r = subst (λ b. IsReady N P L b h run.timeline run.report.bytes.items) e r
 
 -- and is then on its way to it

@@ -1,7 +1,9 @@
 //! From the bytes of a plan to its report and its verdict.
 ghost use Rattle.std.specs.Prelude.{◌≡◌, ◌≤◌, false, length, IfSome, IfOk, IfErr};
 ghost use Rattle.plus_io.specs.Files.{KeepsFiles};
-ghost use Rattle.plus_validator.specs.Validates.{Accepts, ReadsNot, RefusesPair};
+ghost use Rattle.plus_validator.specs.Validates.{Accepts, ReadsNot, EndsUngrounded, kind_meant, file_meant};
+ghost use Rattle.plus_ground.specs.Refusals.{RefusesGround};
+ghost use Rattle.plus_tree.specs.declared.trees.Domain.{Domain};
 ghost use Rattle.plus_io.specs.Faults.{Rose};
 
 use crate::judge::{Outcome, PlanText, judge};
@@ -15,7 +17,9 @@ use std::alloc::Global;
 /// The most bytes of a plan text.
 const TEXT_LIMIT: usize = 1048576;
 
-fn kind_of(count: Count) -> Kinds {
+fn kind_of(count: Count) -> Kinds
+    ensures { result ≡ kind_meant count }
+{
     match count {
         Count::Objects => Kinds::Objects,
         Count::Atoms => Kinds::Atoms,
@@ -27,7 +31,9 @@ fn kind_of(count: Count) -> Kinds {
     }
 }
 
-fn text_of(file: File) -> Text {
+fn text_of(file: File) -> Text
+    ensures { result ≡ file_meant file }
+{
     match file {
         File::Domain => Text::Domain,
         File::Problem => Text::Problem,
@@ -36,7 +42,8 @@ fn text_of(file: File) -> Text {
 
 // Writes why the pair is not grounded.
 fn refuse<O: Sink>(out: &mut O, fault: GroundFault) -> Outcome
-    ensures refused { RefusesPair (O.faults out.old) (O.faults out.new) (O.taken out.old) (O.taken out.new) result }
+    ensures refused { (d : Domain) → RefusesGround d fault →
+        EndsUngrounded d (O.faults out.old) (O.faults out.new) (O.taken out.old) (O.taken out.new) result }
     ensures no_fall { O.faults out.old ≤ O.faults out.new }
 {
     let early = match fault {
