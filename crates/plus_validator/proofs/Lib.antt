@@ -10,4 +10,5 @@ pub mod Halting
 pub mod Stopping
 pub mod Waiting
 pub mod LineStops
+pub mod TextStops
 pub mod Judging

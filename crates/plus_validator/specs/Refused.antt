@@ -173,15 +173,15 @@ pub record IsStoppedAtEnd (d : Domain) (P : Problem) (most : ℕ) (before : List
   pub stands : Stands P L most h v
   pub names : NamesNoLine v
 
--- which limit a text is over whose last line is cut off: this piece of the line is left
-abbrev pub cut_verdict : ℕ → List ℕ → Early
-cut_verdict n piece = if nat_lt line_limit (length piece) then LineTooLong n else TooLong texts.Plan
+-- which limit a text is over whose last line, of this number, is cut off behind so many bytes
+abbrev pub cut_verdict : ℕ → ℕ → Early
+cut_verdict n size = if nat_lt line_limit size then LineTooLong n else TooLong texts.Plan
 
 -- all whole lines are worked, and the text goes on behind the limit
 pub record IsCutOff (d : Domain) (P : Problem) (before : List Line) (piece : List ℕ) (L : Plan) (h : List Part) (v : Verdict Frac64) : Type 0 where
   pub lines : L ≡ plan_of d before false
   pub waits : IsWaiting P L h
-  pub is : v ≡ Other (cut_verdict (length before + 1) piece)
+  pub is : v ≡ Other (cut_verdict (length before + 1) (length piece))
 
 abbrev pub EndRefused : Domain → Problem → ℕ → Bool → List ℕ → List Line → Plan → List Part → Verdict Frac64 → Type 0
 EndRefused d P most false piece before L h v = IsStoppedAtEnd d P most before L h v

@@ -9,7 +9,7 @@ ghost use Rattle.plus_timeline.specs.Finish.{IsPaused};
 ghost use Rattle.plus_ground.specs.Expansion.{called_of};
 ghost use Rattle.plus_validator.specs.Halts.{CallHalts, HaltFits};
 ghost use Rattle.plus_validator.specs.Standing.{CanGoOn};
-ghost use Rattle.plus_validator.specs.Stopped.{HaltsAtMoment, HaltsInAct, HaltsInLine, HaltsAtEnd};
+ghost use Rattle.plus_validator.specs.Stopped.{HaltsAtMoment, HaltsInAct, HaltsInLine, HaltsInLines, HaltsAtEnd};
 ghost use Rattle.plus_validator.specs.Playing.{IsGroundOf, IsInTime, ActsOnce, PlaysLine, Closes, ReadsAll};
 
 use crate::halt::Halt;
@@ -194,7 +194,9 @@ impl Run {
         requires can { CanGoOn (problem_of fraction_of ground.now) self.old.timeline }
         requires moment { self.old.timeline.now.running ≡ None }
         requires few { length text.now ≤ 1048576 }
-        ensures reads { OnOk result (ReadsAll typed.now.domain (labels_of ground.now)
+        ensures reads { IfOk result (ReadsAll typed.now.domain (labels_of ground.now)
+            (problem_of fraction_of ground.now) text.now self.old self.new) }
+        ensures stops { IfErr result (HaltsInLines typed.now.domain (labels_of ground.now)
             (problem_of fraction_of ground.now) text.now self.old self.new) }
         ensures fits { IfErr result (HaltFits (problem_of fraction_of ground.now)) }
     {
