@@ -11,4 +11,5 @@ pub mod Stopping
 pub mod Waiting
 pub mod LineStops
 pub mod TextStops
+pub mod Cutting
 pub mod Judging

@@ -37,4 +37,5 @@ IsPlain outcomes.NoMemory = ⊥
 -- the outcome is so, and the bytes are the report and the verdict's line
 pub record IsJudged (d : Domain) (p : Problem) (most : ℕ) (text : List ℕ) (goes_on : Bool) (j : Judgement) : Type 0 where
   pub valid : j.outcome ≡ outcomes.Valid → AcceptsWhole d p most text goes_on j.bytes.items
+  pub refused : j.outcome ≢ outcomes.Valid → IsRefused d p most text goes_on j.outcome j.bytes.items
   pub plain : IsPlain j.outcome

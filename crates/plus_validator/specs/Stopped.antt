@@ -23,7 +23,7 @@ use Rattle.plus_validator.specs.Plans.{line_meant, plan_of}
 use Rattle.plus_validator.specs.Standing.{IsPlayed}
 use Rattle.plus_validator.specs.Running.{IsOnWay}
 use Rattle.plus_validator.specs.Playing.{Readied, closed}
-use Rattle.plus_validator.specs.Refused.{Stands, NamesLine, NamesNoLine, IsWaiting, HasTime, number_in, TimeFault, Refusal}
+use Rattle.plus_validator.specs.Refused.{Stands, NamesLine, NamesNoLine, IsWaiting, HasTime, number_in, TimeFault, Refusal, WholeLines}
 
 -- the report is that of a history of the plan
 pub record IsReported (N : Labels) (P : Problem) (L : Plan) (most : ℕ) (h : List Part) (report : List ℕ) : Type 0 where
@@ -132,3 +132,10 @@ pub record HaltsInText (d : Domain) (N : Labels) (P : Problem) (goes_on : Bool) 
   pub stops :
       (h : List Part) → Readied N P (plan_of d [] false) h old
       → StopsInText d N P old.timeline.most goes_on whole piece new.report.bytes.items halt
+
+-- the run halts in a plan text
+pub record HaltsInPlan (d : Domain) (N : Labels) (P : Problem) (text : List ℕ) (goes_on : Bool) (old new : Run) (halt : Halt) : Type 0 where
+  pub whole : List ℕ
+  pub piece : List ℕ
+  pub cut : WholeLines goes_on text whole piece
+  pub halts : HaltsInText d N P goes_on whole piece old new halt
