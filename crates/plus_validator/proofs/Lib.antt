@@ -13,3 +13,4 @@ pub mod LineStops
 pub mod TextStops
 pub mod Cutting
 pub mod Judging
+pub mod Validating
