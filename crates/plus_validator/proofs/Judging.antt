@@ -1,7 +1,6 @@
 -- What the verdict on a text says.
 use Rattle.std.proofs.Common.{◌≡◌, ℕ, ◌≤◌, Bool, false, List, [], ◌++◌, refl, ap, sym, subst, ◌∙◌}
 use Rattle.std.specs.Prelude.{◌≢◌, length, OnOk, IfErr, Result, Ok, Err}
-use Rattle.plus_model.specs.History.{Part}
 use Rattle.plus_model.specs.Terms.{Problem}
 use Rattle.plus_number.specs.declared.frac.Frac64.{Frac64}
 use Rattle.plus_number.specs.Frac.{fraction_of}

@@ -1,19 +1,17 @@
 -- A run that halts in a line, or at the end of the text.
-use Rattle.std.proofs.Common.{◌≡◌, ℕ, suc, true, false, List, [], ◌∷◌, ◌++◌, refl, ap, sym, subst, ◌∙◌, inl, inr}
-use Rattle.std.specs.Prelude.{Option, Some, None, Result, Ok, Err, IfErr, length, IsSomeAnd}
+use Rattle.std.proofs.Common.{◌≡◌, ℕ, suc, true, List, [], ◌∷◌, ◌++◌, refl, ap, sym, subst, ◌∙◌, inl, inr}
+use Rattle.std.specs.Prelude.{Result, Ok, Err, IfErr, length}
 use Rattle.plus_fraction.specs.Fraction.{Fraction}
 use Rattle.plus_model.specs.Terms.{Problem}
 use Rattle.plus_model.specs.Plan as model
 use Rattle.plus_model.specs.Plan.{Called, ActLine, EndLine, Plan}
 use Rattle.plus_model.specs.History.{Part, View}
-use Rattle.plus_model.specs.Trajectory.{IsWorked, view_of}
-use Rattle.plus_model.specs.Breach.{Breaks}
+use Rattle.plus_model.specs.Trajectory.{IsWorked}
 use Rattle.plus_number.specs.declared.frac.Frac64.{Frac64}
 use Rattle.plus_number.specs.Frac.{fraction_of, IsFrac64}
 use Rattle.plus_state.specs.View.{Labels}
 use Rattle.plus_state.specs.declared.outcome.Breach.{Breach}
 use Rattle.plus_state.specs.declared.outcome.Breach.TheVariants as breaches
-use Rattle.plus_state.specs.declared.outcome.Limit.{Limit}
 use Rattle.plus_state.specs.declared.outcome.Limit.TheVariants as limits
 use Rattle.plus_tree.specs.declared.trees.Call.{Call}
 use Rattle.plus_tree.specs.declared.trees.Domain.{Domain}
@@ -23,7 +21,6 @@ use Rattle.plus_plan.specs.declared.forms.Line.TheVariants as lines
 use Rattle.plus_plan.specs.TimeValue.{value_of}
 use Rattle.plus_ground.specs.Expansion.{called_of}
 use Rattle.plus_timeline.specs.Finish.{BreaksFinish, LimitsFinish}
-use Rattle.plus_timeline.specs.Laws.{breach_of}
 use Rattle.plus_timeline.specs.Stops.{BreachExactly, LimitExactly}
 use Rattle.plus_timeline.specs.Timeline.{TimelineView}
 use Rattle.plus_timeline.specs.declared.stop.Stop.{Stop}
@@ -39,7 +36,7 @@ use Rattle.plus_validator.specs.Plans.{line_meant}
 use Rattle.plus_validator.specs.Standing.{IsPlayed, CanGoOn, IsReached}
 use Rattle.plus_validator.specs.Running.{IsOnWay, Reaches}
 use Rattle.plus_validator.specs.Playing.{Readied, ActsOnce, IsInTime, closed}
-use Rattle.plus_validator.specs.Refused.{BreachNames, NamesNone, NamesLine, NamesNoLine, HasTime, number_in, LimitStands, IsGoalUnfit}
+use Rattle.plus_validator.specs.Refused.{BreachNames, NamesNone, NamesLine, NamesNoLine, HasTime, number_in, IsGoalUnfit}
 use Rattle.plus_validator.specs.Stopped.{IsReported, IsStoppedIn, StopsIn, StopsOnWay, HaltsOnWay, HaltsAtEnd, HaltsInAct, HaltsAtMoment, StopsInLine, HaltsInLine}
 use Rattle.plus_validator.proofs.Lines.{with_line, has_begun, act_due, acted_target, close_played, close_target, close_worked}
 use Rattle.plus_validator.proofs.Played.{not_ended, on_way}

@@ -1,12 +1,11 @@
 -- A run that halts: the verdict stands at the history that is reported.
-use Rattle.std.proofs.Common.{◌≡◌, ℕ, ◌≤◌, List, refl, ap, sym, subst, ◌∙◌, inl, inr, arith}
-use Rattle.std.specs.Prelude.{Option, Some, None, Result, Ok, Err, IsSomeAnd}
+use Rattle.std.proofs.Common.{◌≡◌, ℕ, ◌≤◌, List, refl, ap, sym, subst, ◌∙◌, inl, inr}
+use Rattle.std.specs.Prelude.{Option, Some, None, Err, IsSomeAnd}
 use Rattle.plus_fraction.specs.Fraction.{Fraction}
 use Rattle.plus_model.specs.Terms.{Action, Problem}
-use Rattle.plus_model.specs.Plan as model_plan
 use Rattle.plus_model.specs.Plan.{Called, Instance, ActLine, Plan}
 use Rattle.plus_model.specs.History.{Part, View}
-use Rattle.plus_model.specs.Trajectory.{HasBegun, Prefix, next_line, target, least, until, view_of}
+use Rattle.plus_model.specs.Trajectory.{HasBegun, Prefix, next_line, least, until, view_of}
 use Rattle.plus_model.specs.Breach as model
 use Rattle.plus_model.specs.Breach.{Breaks, IsDue, IsPresent}
 use Rattle.plus_number.specs.declared.frac.Frac64.{Frac64}
@@ -29,7 +28,7 @@ use Rattle.plus_timeline.specs.declared.stop.Stop.TheVariants as stops
 use Rattle.plus_timeline.proofs.Follows.{advance_breaks, act_breaks}
 use Rattle.plus_report.specs.declared.verdicts.Verdict.{Verdict}
 use Rattle.plus_report.specs.declared.verdicts.Verdict.TheVariants.{Invalid, Beyond}
-use Rattle.plus_report.specs.Report.{called_label, report_of}
+use Rattle.plus_report.specs.Report.{called_label}
 use Rattle.plus_validator.specs.declared.halt.Halt.{Halt}
 use Rattle.plus_validator.specs.declared.halt.Halt.TheVariants.{Refused, Memory}
 use Rattle.plus_validator.specs.declared.run.Run.{Run}

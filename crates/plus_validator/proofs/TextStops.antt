@@ -1,11 +1,11 @@
 -- A run that halts in a text: the plan is refused.
-use Rattle.std.proofs.Common.{◌≡◌, ℕ, ◌+◌, ◌≤◌, Bool, true, false, List, [], ◌∷◌, ◌++◌, refl, ap, sym, subst, ◌∙◌, inl, inr, append_assoc, append-nil, drop}
+use Rattle.std.proofs.Common.{◌≡◌, ℕ, ◌+◌, Bool, true, false, List, [], ◌∷◌, ◌++◌, refl, ap, sym, subst, ◌∙◌, inl, inr, append_assoc, append-nil, drop}
 use Rattle.std.specs.Prelude.{◌≢◌, Option, Some, None, Result, Ok, Err, IfSome, IsSomeAnd, length, map}
 use Rattle.plus_model.specs.Terms.{Problem}
 use Rattle.plus_model.specs.Plan as model
 use Rattle.plus_model.specs.Plan.{Plan}
 use Rattle.plus_model.specs.History.{Part}
-use Rattle.plus_model.specs.Trajectory.{HasBegun, Prefix, Trajectory, view_of}
+use Rattle.plus_model.specs.Trajectory.{Prefix, Trajectory, view_of}
 use Rattle.plus_model.specs.Breach as breach
 use Rattle.plus_model.specs.Breach.{Breaks, BreaksBy, LineBreach}
 use Rattle.plus_model.specs.Laws.{IsLongest, GoesOnFrom}
@@ -23,8 +23,8 @@ use Rattle.plus_plan.specs.declared.forms.Line.{Line}
 use Rattle.plus_plan.specs.declared.forms.PlanForm.TheVariants.{Timed}
 use Rattle.plus_plan.specs.declared.faults.PlanFault.{PlanFault}
 use Rattle.plus_plan.specs.declared.faults.PlanFault.TheVariants as faults
-use Rattle.plus_plan.specs.Cut.{lines_of, line_from, next_line}
-use Rattle.plus_plan.specs.Lines.{read_line, numbered, plan_lines}
+use Rattle.plus_plan.specs.Cut.{lines_of, next_line}
+use Rattle.plus_plan.specs.Lines.{numbered}
 use Rattle.plus_plan.specs.Answers.{IsLineAt, IsRefusedAt}
 use Rattle.plus_timeline.specs.Laws.{breach_of}
 use Rattle.plus_report.specs.declared.verdicts.Verdict.{Verdict}
@@ -38,9 +38,9 @@ use Rattle.plus_validator.specs.Plans.{line_meant, lines_meant, plan_of}
 use Rattle.plus_validator.specs.Standing.{CanGoOn}
 use Rattle.plus_validator.specs.Playing.{Readied, ReadsAll}
 use Rattle.plus_validator.specs.Refused.{Stands, NamesFault, IsWaiting, TimeFault, after_end, no_value, goes_back, cut_verdict, NonePlays, BreachRefutes, Refutes, IsNoLimit, number_in}
-use Rattle.plus_validator.specs.Stopped.{IsReported, IsStoppedBefore, IsStoppedIn, StopsOnWay, StopsInLine, HaltsInLine, HaltsAtEnd, IsStoppedInText, StopsInText, HaltsInLines, HaltsInText}
+use Rattle.plus_validator.specs.Stopped.{IsReported, IsStoppedIn, StopsOnWay, StopsInLine, HaltsInLine, HaltsAtEnd, IsStoppedInText, StopsInText, HaltsInLines, HaltsInText}
 use Rattle.plus_validator.proofs.Played.{ReadsTo}
-use Rattle.plus_validator.proofs.Texts.{said_more, plan_of-append}
+use Rattle.plus_validator.proofs.Texts.{plan_of-append}
 use Rattle.plus_validator.proofs.Stopping.{reported}
 use Rattle.plus_validator.proofs.Waiting.{waits}
 

@@ -1,6 +1,6 @@
 -- What the check of a plan writes, by its outcome.
-use Rattle.std.proofs.Common.{◌≡◌, ℕ, Bool, true, false, List, refl, sym, subst, inl, inr}
-use Rattle.std.specs.Prelude.{◌≢◌, ◌⊎◌, Option, Some, None, IfSome}
+use Rattle.std.proofs.Common.{◌≡◌, ℕ, Bool, false, List, refl, subst}
+use Rattle.std.specs.Prelude.{◌≢◌, Option, Some, None, IfSome}
 use Rattle.plus_io.specs.Faults.{Rose}
 use Rattle.plus_io.specs.Taken.{Took, TookPart}
 use Rattle.plus_tree.specs.declared.trees.Domain.{Domain}
@@ -9,7 +9,6 @@ use Rattle.plus_validator.specs.declared.judge.Judgement.{Judgement}
 use Rattle.plus_validator.specs.declared.judge.Outcome.{Outcome}
 use Rattle.plus_validator.specs.declared.judge.Outcome.TheVariants.{Valid, Invalid, Beyond, BadText, ReadFault, WriteFault, NoMemory}
 use Rattle.plus_validator.specs.Accepted.{IsAccepted}
-use Rattle.plus_validator.specs.Refused.{IsRefused}
 use Rattle.plus_validator.specs.Judged.{AcceptsWhole, IsPlain, IsJudged}
 use Rattle.plus_validator.specs.Validates.{Accepts, Refuses, BreaksOff, IsWhole, RefusesPair, RefusesPairInPart, IsRefusal, IsRefusedIn, IsRead, ReadsNot, EndsUngrounded}
 

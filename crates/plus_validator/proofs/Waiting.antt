@@ -1,6 +1,5 @@
 -- A line that cannot be played after those that are worked.
-use Rattle.std.proofs.Common.{◌≡◌, ℕ, ◌<◌, zero, suc, true, false, List, [], ◌∷◌, ◌++◌, refl, ap, sym, subst, ◌∙◌, inl, inr, arith, ℤ, pos, ◌+ℤ◌, ◌*ℤ◌, ◌<ℤ◌, ◌≤ℤ◌}
-use Rattle.std.specs.Prelude.{Option, Some, None, slice_get, length}
+use Rattle.std.proofs.Common.{◌≡◌, ℕ, ◌<◌, true, false, List, [], ◌∷◌, ◌++◌, refl, sym, subst, ◌∙◌, inl, inr, arith, pos}
 use Rattle.std.proofs.lemmas.Int.{ints}
 use Rattle.plus_fraction.specs.Fraction.{Fraction, whole, over, ◌<ℚ◌, ◌≤ℚ◌}
 use Rattle.plus_fraction.proofs.FractionLaws.{Is-over}
@@ -10,7 +9,7 @@ use Rattle.plus_model.specs.Plan as model
 use Rattle.plus_model.specs.Plan.{Called, ActLine, EndLine, Plan}
 use Rattle.plus_model.specs.History.{Part}
 use Rattle.plus_model.specs.Trajectory.{IsWorked, is_below, view_of}
-use Rattle.plus_model.specs.Breach.{IsAfter, BreaksBy, TimeGoesBack, AfterEnd}
+use Rattle.plus_model.specs.Breach.{BreaksBy, TimeGoesBack, AfterEnd}
 use Rattle.plus_model.proofs.Moments.{not_below, from_below}
 use Rattle.plus_number.specs.declared.frac.Frac64.{Frac64}
 use Rattle.plus_number.specs.Frac.{fraction_of, IsFrac64}
@@ -25,8 +24,8 @@ use Rattle.plus_validator.specs.declared.halt.Halt.{Halt}
 use Rattle.plus_validator.specs.declared.halt.Halt.TheVariants.{Refused}
 use Rattle.plus_validator.specs.declared.run.Run.{Run}
 use Rattle.plus_validator.specs.Playing.{Readied}
-use Rattle.plus_validator.specs.Standing.{IsReady, EndsBy}
-use Rattle.plus_validator.specs.Refused.{IsWaiting, TimeFault, after_end, no_value, goes_back}
+use Rattle.plus_validator.specs.Standing.{EndsBy}
+use Rattle.plus_validator.specs.Refused.{IsWaiting, after_end, no_value, goes_back}
 use Rattle.plus_validator.specs.Stopped.{TimeHalts, HaltsAtMoment}
 
 -- what is ready for a line waits for it

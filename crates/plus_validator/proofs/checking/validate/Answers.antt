@@ -35,8 +35,9 @@ returns-in-Ok-write_all-clause-refused g c = λ h.
 pub returns-in-Ok-judge-clause-write_fault : goal.returns-in-Ok-judge-clause-write_fault
 returns-in-Ok-judge-clause-write_fault g c = λ h.
     let old = g.O.Sink.taken c.args.out.now in
-    let new = g.O.Sink.taken c.write_all.new.sink in
-    (c.in-Err-write_all.ensures.cause,
-    inr (breaks_off_told c.args.typed.now.domain c.args.typed.now.problem c.args.happenings (g.S.Shelf.bytes c.args.shelf.now c.args.plan.now)
-    c.in-Ok-read_text.text.bytes.items c.in-Ok-read_text.text.goes_on c.in-Ok-judge.judgement c.in-Ok-judge.ensures.judged old new
-    c.in-Ok-read_text.ensures.read (subst (TookPart old new) c.deref.ensures.value c.in-Err-write_all.ensures.part)))
+    let new = g.O.Sink.taken c.write_all.new.sink in (
+      c.in-Err-write_all.ensures.cause,
+      inr (breaks_off_told c.args.typed.now.domain c.args.typed.now.problem c.args.happenings (g.S.Shelf.bytes c.args.shelf.now c.args.plan.now)
+          c.in-Ok-read_text.text.bytes.items c.in-Ok-read_text.text.goes_on c.in-Ok-judge.judgement c.in-Ok-judge.ensures.judged old new
+          c.in-Ok-read_text.ensures.read (subst (TookPart old new) c.deref.ensures.value c.in-Err-write_all.ensures.part)),
+    )

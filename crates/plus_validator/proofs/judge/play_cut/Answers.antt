@@ -1,4 +1,4 @@
-use Rattle.std.proofs.Common.{◌≡◌, true, ap, ◌∙◌, drop, take}
+use Rattle.std.proofs.Common.{true, ap, ◌∙◌, drop, take}
 use Rattle.plus_number.specs.Frac.{fraction_of}
 use Rattle.plus_state.specs.View.{problem_of, labels_of}
 use Rattle.plus_report.specs.declared.verdicts.Verdict.TheVariants.{Other}

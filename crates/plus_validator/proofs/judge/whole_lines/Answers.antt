@@ -1,4 +1,4 @@
-use Rattle.std.proofs.Common.{◌≡◌, ◌+◌, ◌-◌, arith}
+use Rattle.std.proofs.Common.{◌-◌, arith}
 use Rattle.plus_validator.proofs.Cutting.{no_lf_end, no_lf_before, cut_at_start, cut_at_lf}
 use Rattle.plus_validator.proofs.judge.whole_lines.Goals as goal
 

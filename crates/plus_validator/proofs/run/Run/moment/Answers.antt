@@ -1,5 +1,4 @@
 use Rattle.std.proofs.Common.{refl, sym, ◌∙◌}
-use Rattle.plus_number.specs.Frac.{fraction_of}
 use Rattle.plus_validator.proofs.Waiting.{halts_after_end, halts_without_value, halts_going_back}
 use Rattle.plus_validator.proofs.run.Run.moment.Goals as goal
 
