@@ -1,6 +1,6 @@
 -- What the verdict on a text says.
-use Rattle.std.proofs.Common.{◌≡◌, ℕ, ◌≤◌, Bool, List, ◌++◌, refl, ap, sym, subst, ◌∙◌}
-use Rattle.std.specs.Prelude.{length, OnOk, IfErr, Result, Ok, Err}
+use Rattle.std.proofs.Common.{◌≡◌, ℕ, ◌≤◌, Bool, false, List, [], ◌++◌, refl, ap, sym, subst, ◌∙◌}
+use Rattle.std.specs.Prelude.{◌≢◌, length, OnOk, IfErr, Result, Ok, Err}
 use Rattle.plus_model.specs.Terms.{Problem}
 use Rattle.plus_number.specs.declared.frac.Frac64.{Frac64}
 use Rattle.plus_number.specs.Frac.{fraction_of}
@@ -21,6 +21,11 @@ use Rattle.plus_report.specs.declared.refusals.Early.TheVariants as early
 use Rattle.plus_validator.specs.declared.judge.Outcome.TheVariants as outcomes
 use Rattle.plus_validator.specs.Outcomes.{early_outcome, outcome_of}
 use Rattle.plus_validator.specs.Playing.{Begins, PlaysWhole}
+use Rattle.plus_validator.specs.declared.judge.Outcome.{Outcome}
+use Rattle.plus_validator.specs.Plans.{plan_of}
+use Rattle.plus_validator.specs.Refused.{IsRefused}
+use Rattle.plus_validator.specs.Stopped.{IsStoppedInText, HaltsInPlan}
+use Rattle.plus_report.specs.Report.{report_of}
 use Rattle.plus_validator.specs.Judged.{GivesVerdict, AcceptsWhole, IsPlain, IsJudged}
 use Rattle.plus_validator.proofs.Played.{accepted}
 
@@ -77,8 +82,34 @@ module _ (d : Domain) (p : tree.Problem) (N : Labels) (P : Problem) (most : ℕ)
   says bytes (Err (Refused (Other x))) v i w e n b r f g k = absurd (let h : Other x ≡ Valid = sym g ∙ i in cc h)
   says bytes (Err Memory) v i w e n b r f g k = absurd g
 
-  pub judged : (j : Judgement) (played : Result (Unit {0}) Halt) (v : Verdict Frac64) → length text ≤ 1048576 → P ≡ expanded d p → N ≡ labels_meant d → Begins N P most old → OnOk played (PlaysWhole d N P text goes_on old new) → IfErr played (HaltFits P) → GivesVerdict played v → j.outcome ≡ outcome_of v → j.bytes.items ≡ new.report.bytes.items ++ verdict_text fraction_of N P v → IsJudged d p most text goes_on j
-  judged j played v w e n b r f g o k = record {
+  -- a refusal tells where the run halts
+  says_why : (bytes : List ℕ) (played : Result (Unit {0}) Halt) (v : Verdict Frac64) → P ≡ expanded d p → N ≡ labels_meant d → Begins N P most old → IfErr played (HaltsInPlan d N P text goes_on old new) → GivesVerdict played v → outcome_of v ≢ outcomes.Valid → bytes ≡ new.report.bytes.items ++ verdict_text fraction_of N P v → IsRefused d p most text goes_on (outcome_of v) bytes
+  says_why bytes (Ok u) v e n b s g o k = absurd (o (ap outcome_of g))
+  says_why bytes (Err Memory) v e n b s g o k = absurd g
+  says_why bytes (Err (Refused w)) v e n b s g o k =
+      let start = b.ready (plan_of d [] false) refl refl in
+      let here : IsStoppedInText d N P old.timeline.most goes_on s.whole s.piece new.report.bytes.items w = s.halts.stops start.0 start.1 in
+      let there : IsStoppedInText d (labels_meant d) (expanded d p) most goes_on s.whole s.piece new.report.bytes.items v =
+      subst (λ M. IsStoppedInText d M (expanded d p) most goes_on s.whole s.piece new.report.bytes.items v) n
+      (subst (λ Q. IsStoppedInText d N Q most goes_on s.whole s.piece new.report.bytes.items v) e
+      (subst (λ m. IsStoppedInText d N P m goes_on s.whole s.piece new.report.bytes.items v) b.rests.most_is
+      (subst (IsStoppedInText d N P old.timeline.most goes_on s.whole s.piece new.report.bytes.items) (sym g) here))) in
+      let text_is : verdict_text fraction_of N P v ≡ verdict_text fraction_of (labels_meant d) (expanded d p) v =
+      ap (λ M. verdict_text fraction_of M P v) n ∙ ap (λ Q. verdict_text fraction_of (labels_meant d) Q v) e in
+      record {
+        whole = s.whole;
+        piece = s.piece;
+        cut = s.cut;
+        verdict = v;
+        outcome_is = refl;
+        refusal = there.refusal;
+        written = k ∙ ap (λ t. t ++ verdict_text fraction_of N P v) there.written ∙ ap (λ t. report_of (labels_meant d) (expanded d p) there.refusal.plan there.refusal.history ++ t) text_is;
+      }
+
+  pub judged : (j : Judgement) (played : Result (Unit {0}) Halt) (v : Verdict Frac64) → length text ≤ 1048576 → P ≡ expanded d p → N ≡ labels_meant d → Begins N P most old → OnOk played (PlaysWhole d N P text goes_on old new) → IfErr played (HaltsInPlan d N P text goes_on old new) → IfErr played (HaltFits P) → GivesVerdict played v → j.outcome ≡ outcome_of v → j.bytes.items ≡ new.report.bytes.items ++ verdict_text fraction_of N P v → IsJudged d p most text goes_on j
+  judged j played v w e n b r s f g o k = record {
     valid = λ h. says j.bytes.items played v (valid_only v (sym o ∙ h)) w e n b r f g k;
+    refused = λ x. subst (λ (y : Outcome). IsRefused d p most text goes_on y j.bytes.items) (sym o)
+        (says_why j.bytes.items played v e n b s g (λ z. x (o ∙ z)) k);
     plain = subst IsPlain (sym o) (verdict_plain v);
   }

@@ -7,4 +7,10 @@ pub mod Played
 pub mod Shown
 pub mod Atoms
 pub mod Halting
+pub mod Stopping
+pub mod Waiting
+pub mod LineStops
+pub mod TextStops
+pub mod Cutting
 pub mod Judging
+pub mod Validating

@@ -82,7 +82,7 @@ no_line d N P line run e c m = record {
 }
 
 -- the run stands ready for a line at this time
-not_ended : (N : Labels) (P : Problem) (L : Plan) (h : List Part) (run : Run) → run.ended ≡ false → Readied N P L h run → IsReady N P L false h run.timeline run.report.bytes.items
+pub not_ended : (N : Labels) (P : Problem) (L : Plan) (h : List Part) (run : Run) → run.ended ≡ false → Readied N P L h run → IsReady N P L false h run.timeline run.report.bytes.items
 not_ended N P L h run e r = subst (λ b. IsReady N P L b h run.timeline run.report.bytes.items) e r
 
 -- and is then on its way to it
@@ -147,6 +147,7 @@ pub record ReadsTo (d : Domain) (N : Labels) (P : Problem) (text : List ℕ) (st
       → (h' : List Part) × Readied N P (plan_of d lines_read false) h' run
   pub inside : from ≤ length text
   pub few : number ≤ from + 1
+  pub counted : number ≡ length lines_read + 1
 
 pub reads_none : (d : Domain) (N : Labels) (P : Problem) (text : List ℕ) (run : Run) → CanGoOn P run.timeline → run.timeline.now.running ≡ None → ReadsTo d N P text run 1 0 run
 reads_none d N P text run c m = record {
@@ -156,7 +157,12 @@ reads_none d N P text run c m = record {
   ready = λ h r. (h, r);
   inside = omega arith;
   few = omega arith;
+  counted = refl;
 }
+
+lines_with : (ls : List Line) (l : Line) → length (ls ++ l ∷ []) ≡ length ls + 1
+lines_with [] l = refl
+lines_with (x ∷ ls) l = let i = lines_with ls l in omega arith
 
 pub reads_more : (d : Domain) (N : Labels) (P : Problem) (text : List ℕ) (start run new : Run) (number from : ℕ) (x : Line × ℕ) → ReadsTo d N P text start number from run → IsLineAt Timed number text from x → PlaysLine d N P x.0 run new → ReadsTo d N P text start (number + 1) x.1 new
 reads_more d N P text start run new number from x r l p = record {
@@ -169,24 +175,26 @@ reads_more d N P text start run new number from x r l p = record {
       (b.0, subst (λ M. Readied N P M b.0 new) (sym (plan_of-append d r.lines_read x.0 false)) b.1);
   inside = l.inside;
   few = (let a = l.rises in let b = r.few in omega arith);
+  counted = (let k = lines_with r.lines_read x.0 in let c = r.counted in omega arith);
 }
 
 pub reads_on : (d : Domain) (N : Labels) (P : Problem) (text : List ℕ) (start run new : Run) (number from : ℕ) (o : Option (Line × ℕ)) (read : Line) (next : ℕ) → o ≡ Some (read, next) → ReadsTo d N P text start number from run → IfSome o (IsLineAt Timed number text from) → PlaysLine d N P read run new → ReadsTo d N P text start (number + 1) next new
 reads_on d N P text start run new number from o read next e r l p =
     reads_more d N P text start run new number from (read, next) r (subst (λ x. IfSome x (IsLineAt Timed number text from)) e l) p
 
-pub reads_all : (d : Domain) (N : Labels) (P : Problem) (text : List ℕ) (start run : Run) (number from : ℕ) → ReadsTo d N P text start number from run → from ≡ length text → ReadsAll d N P text start run
+pub reads_all : (d : Domain) (N : Labels) (P : Problem) (text : List ℕ) (start run : Run) (number from : ℕ) → ReadsTo d N P text start number from run → from ≡ length text → ReadsAll d N P text start run number
 reads_all d N P text start run number from r e = record {
   rests = r.rests;
   lines = r.lines_read;
+  number_is = r.counted;
   read = r.said ∙ ap (λ k. map Ok r.lines_read ++ numbered Timed number (lines_of (drop k text))) e
       ∙ ap (λ t. map Ok r.lines_read ++ numbered Timed number (lines_of t)) (drop-length text) ∙ append-nil (map Ok r.lines_read);
   ready = r.ready;
 }
 
 -- the text is played to its end
-pub plays_all : (d : Domain) (N : Labels) (P : Problem) (text : List ℕ) (old mid new : Run) → ReadsAll d N P text old mid → Closes N P mid new → PlaysAll d N P text old new
-plays_all d N P text old mid new r c = record {
+pub plays_all : (d : Domain) (N : Labels) (P : Problem) (text : List ℕ) (old mid new : Run) (number : ℕ) → ReadsAll d N P text old mid number → Closes N P mid new → PlaysAll d N P text old new
+plays_all d N P text old mid new number r c = record {
   lines = r.lines;
   read = r.read;
   ends = λ h k.

@@ -1,10 +1,15 @@
 -- Which verdict a refusal is.
+use Rattle.std.specs.Prelude.{◌≡◌, ℕ, List}
 use Rattle.plus_model.specs.Terms.{Problem}
-use Rattle.plus_number.specs.declared.frac.Frac64.{Frac64}
+use Rattle.plus_state.specs.declared.outcome.Breach.TheVariants as breaches
+use Rattle.plus_ground.specs.declared.faults.InstanceFault.{InstanceFault}
+use Rattle.plus_ground.specs.declared.faults.InstanceFault.TheVariants as instances
 use Rattle.plus_plan.specs.declared.faults.PlanFault.{PlanFault}
 use Rattle.plus_plan.specs.declared.faults.PlanFault.TheVariants as faults
 use Rattle.plus_timeline.specs.declared.stop.Stop.{Stop}
 use Rattle.plus_timeline.specs.declared.stop.Stop.TheVariants as stops
+use Rattle.plus_report.specs.declared.verdicts.Verdict.{Verdict}
+use Rattle.plus_number.specs.declared.frac.Frac64.{Frac64}
 use Rattle.plus_report.specs.declared.verdicts.Verdict.TheVariants.{Valid, Invalid, Beyond, Other}
 use Rattle.plus_report.specs.declared.refusals.Early.TheVariants.{BadLine, LineTooLong}
 use Rattle.plus_report.specs.Verdicts.{BreachFits, LimitFits}
@@ -32,3 +37,15 @@ NamesOf P Memory = Unit {0}
 
 pub record HaltFits (P : Problem) (halt : Halt) : Type 0 where
   pub names : NamesOf P halt
+
+-- the verdict on the call of a line that names no action: its number, and the name
+abbrev pub CallVerdict : InstanceFault → ℕ → List ℕ → Verdict Frac64 → Type 0
+CallVerdict instances.UnknownAction line name v = v ≡ Invalid (breaches.UnknownAction line name)
+CallVerdict instances.WrongArguments line name v = v ≡ Invalid (breaches.WrongArguments line name)
+CallVerdict instances.TooManyNodes line name v = ⊥
+CallVerdict (instances.Literal span) line name v = ⊥
+CallVerdict instances.Memory line name v = ⊥
+
+abbrev pub CallHalts : InstanceFault → ℕ → List ℕ → Halt → Type 0
+CallHalts fault line name (Refused v) = CallVerdict fault line name v
+CallHalts fault line name Memory = Unit {0}

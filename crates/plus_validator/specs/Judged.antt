@@ -1,5 +1,5 @@
 -- The report and the verdict of a plan text.
-use Rattle.std.specs.Prelude.{◌≡◌, ℕ, Bool, false, List, Result, Ok, Err}
+use Rattle.std.specs.Prelude.{◌≡◌, ◌≢◌, ℕ, Bool, false, List, Result, Ok, Err}
 use Rattle.plus_number.specs.declared.frac.Frac64.{Frac64}
 use Rattle.plus_tree.specs.declared.trees.Domain.{Domain}
 use Rattle.plus_tree.specs.declared.trees.Problem.{Problem}
@@ -11,6 +11,7 @@ use Rattle.plus_validator.specs.declared.judge.Judgement.{Judgement}
 use Rattle.plus_validator.specs.declared.judge.Outcome.{Outcome}
 use Rattle.plus_validator.specs.declared.judge.Outcome.TheVariants as outcomes
 use Rattle.plus_validator.specs.Accepted.{IsAccepted}
+use Rattle.plus_validator.specs.Refused.{IsRefused}
 
 -- what was played gives this verdict
 abbrev pub GivesVerdict : Result (Unit {0}) Halt → Verdict Frac64 → Type 0
@@ -36,4 +37,5 @@ IsPlain outcomes.NoMemory = ⊥
 -- the outcome is so, and the bytes are the report and the verdict's line
 pub record IsJudged (d : Domain) (p : Problem) (most : ℕ) (text : List ℕ) (goes_on : Bool) (j : Judgement) : Type 0 where
   pub valid : j.outcome ≡ outcomes.Valid → AcceptsWhole d p most text goes_on j.bytes.items
+  pub refused : j.outcome ≢ outcomes.Valid → IsRefused d p most text goes_on j.outcome j.bytes.items
   pub plain : IsPlain j.outcome

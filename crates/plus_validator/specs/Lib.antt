@@ -6,5 +6,7 @@ pub mod Running
 pub mod Playing
 pub mod Halts
 pub mod Outcomes
+pub mod Refused
+pub mod Stopped
 pub mod Judged
 pub mod Validates

@@ -1,5 +1,5 @@
 -- What the lines of a plan text do to a run.
-use Rattle.std.specs.Prelude.{◌≡◌, ℕ, suc, ◌≤◌, Bool, true, false, List, [], ◌++◌, length, map, Some, None, Ok}
+use Rattle.std.specs.Prelude.{◌≡◌, ℕ, suc, ◌+◌, ◌≤◌, Bool, true, false, List, [], ◌++◌, length, map, Some, None, Ok}
 use Rattle.plus_fraction.specs.Fraction.{◌≤ℚ◌}
 use Rattle.plus_model.specs.Terms.{Problem}
 use Rattle.plus_model.specs.Plan.{Called, Plan, ActLine}
@@ -66,10 +66,11 @@ pub record PlaysLine (d : Domain) (N : Labels) (P : Problem) (line : Line) (old 
       (L : Plan) (h : List Part) → Readied N P L h old
       → (h' : List Part) × Readied N P (record { lines = L.lines ++ line_meant d line; closed = L.closed }) h' new
 
--- the lines of a text are played
-pub record ReadsAll (d : Domain) (N : Labels) (P : Problem) (text : List ℕ) (old new : Run) : Type 0 where
+-- the lines of a text are played, and the next would have this number
+pub record ReadsAll (d : Domain) (N : Labels) (P : Problem) (text : List ℕ) (old new : Run) (number : ℕ) : Type 0 where
   pub rests : IsResting P old.timeline.most new
   pub lines : List Line
+  pub number_is : number ≡ length lines + 1
   pub read : plan_lines Timed text ≡ map Ok lines
   pub ready :
       (h : List Part) → Readied N P (plan_of d [] false) h old

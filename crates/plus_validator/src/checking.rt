@@ -1,7 +1,9 @@
 //! From the bytes of a plan to its report and its verdict.
-ghost use Rattle.std.specs.Prelude.{◌≡◌, ◌≤◌, false, length, IfSome, IfOk, IfErr};
+ghost use Rattle.std.specs.Prelude.{◌≡◌, ◌⊎◌, ◌≤◌, length, IfSome, IfOk, IfErr};
 ghost use Rattle.plus_io.specs.Files.{KeepsFiles};
-ghost use Rattle.plus_validator.specs.Validates.{Accepts, ReadsNot, RefusesPair};
+ghost use Rattle.plus_validator.specs.Validates.{Accepts, Refuses, BreaksOff, RefusesPair, RefusesPairInPart, IsRefusal, IsRead, ReadsNot, EndsUngrounded, kind_meant, file_meant};
+ghost use Rattle.plus_ground.specs.Refusals.{RefusesGround};
+ghost use Rattle.plus_tree.specs.declared.trees.Domain.{Domain};
 ghost use Rattle.plus_io.specs.Faults.{Rose};
 
 use crate::judge::{Outcome, PlanText, judge};
@@ -15,7 +17,9 @@ use std::alloc::Global;
 /// The most bytes of a plan text.
 const TEXT_LIMIT: usize = 1048576;
 
-fn kind_of(count: Count) -> Kinds {
+fn kind_of(count: Count) -> Kinds
+    ensures { result ≡ kind_meant count }
+{
     match count {
         Count::Objects => Kinds::Objects,
         Count::Atoms => Kinds::Atoms,
@@ -27,7 +31,9 @@ fn kind_of(count: Count) -> Kinds {
     }
 }
 
-fn text_of(file: File) -> Text {
+fn text_of(file: File) -> Text
+    ensures { result ≡ file_meant file }
+{
     match file {
         File::Domain => Text::Domain,
         File::Problem => Text::Problem,
@@ -36,7 +42,8 @@ fn text_of(file: File) -> Text {
 
 // Writes why the pair is not grounded.
 fn refuse<O: Sink>(out: &mut O, fault: GroundFault) -> Outcome
-    ensures refused { RefusesPair (O.faults out.old) (O.faults out.new) (O.taken out.old) (O.taken out.new) result }
+    ensures refused { (d : Domain) → RefusesGround d fault →
+        EndsUngrounded d (O.faults out.old) (O.faults out.new) (O.taken out.old) (O.taken out.new) result }
     ensures no_fall { O.faults out.old ≤ O.faults out.new }
 {
     let early = match fault {
@@ -59,7 +66,7 @@ fn refuse<O: Sink>(out: &mut O, fault: GroundFault) -> Outcome
 
 // Reads the plan text.
 fn read_text<S: Shelf>(alloc: Global, shelf: &mut S, plan: &str) -> Result<PlanText, Outcome>
-    ensures whole { IfOk result (λ t. t.goes_on ≡ false → IfSome (S.bytes shelf.old plan.now) (λ text. t.bytes.items ≡ text)) }
+    ensures read { IfOk result (λ t. IfSome (S.bytes shelf.old plan.now) (λ bytes. IsRead bytes t.bytes.items t.goes_on)) }
     ensures few { IfOk result (λ t. length t.bytes.items ≤ 1048576) }
     // The shelf failed, or memory is wanting.
     ensures refused { IfErr result (ReadsNot (S.faults shelf.old) (S.faults shelf.new)) }
@@ -94,11 +101,20 @@ pub fn validate<S: Shelf, O: Sink>(
     requires few { happenings ≤ 1000000 }
     ensures valid { result ≡ Outcome.Valid → IfSome (S.bytes shelf.old plan.now) (λ text.
         Accepts typed.now.domain typed.now.problem happenings text (O.taken out.old) (O.taken out.new)) }
+    // The pair is not grounded, or the plan is refused.
+    ensures refused { IsRefusal result →
+        ((result ≡ Outcome.Beyond) × RefusesPair typed.now.domain (O.taken out.old) (O.taken out.new))
+        ⊎ IfSome (S.bytes shelf.old plan.now) (λ text.
+        Refuses typed.now.domain typed.now.problem happenings text result (O.taken out.old) (O.taken out.new)) }
 
-    // A fault is answered only where it came.
+    // A fault is answered only where it came, and leaves a part of what was to be written.
     ensures read_fault { result ≡ Outcome.ReadFault →
         Rose (S.faults shelf.old) (S.faults shelf.new) × (O.taken out.new ≡ O.taken out.old) }
-    ensures write_fault { result ≡ Outcome.WriteFault → Rose (O.faults out.old) (O.faults out.new) }
+    ensures write_fault { result ≡ Outcome.WriteFault →
+        Rose (O.faults out.old) (O.faults out.new)
+        × (RefusesPairInPart typed.now.domain (O.taken out.old) (O.taken out.new)
+        ⊎ IfSome (S.bytes shelf.old plan.now) (λ text.
+        BreaksOff typed.now.domain typed.now.problem happenings text (O.taken out.old) (O.taken out.new))) }
     ensures no_memory { result ≡ Outcome.NoMemory → O.taken out.new ≡ O.taken out.old }
 
     ensures keeps { KeepsFiles S.names S.bytes S.faults shelf.old shelf.new }

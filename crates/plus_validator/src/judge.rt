@@ -1,5 +1,5 @@
 //! The report and the verdict of a plan text.
-ghost use Rattle.std.specs.Prelude.{◌≡◌, ◌≤◌, None, length, OnOk, IfOk, IfErr};
+ghost use Rattle.std.specs.Prelude.{◌≡◌, ◌≤◌, None, [], true, false, length, drop, take, OnOk, IfOk, IfErr};
 ghost use Rattle.plus_state.specs.View.{problem_of, labels_of};
 ghost use Rattle.plus_state.specs.Fits.{ProblemFits};
 ghost use Rattle.plus_number.specs.Frac.{fraction_of};
@@ -9,6 +9,8 @@ ghost use Rattle.plus_validator.specs.Standing.{CanGoOn};
 ghost use Rattle.plus_validator.specs.Halts.{HaltFits};
 ghost use Rattle.plus_validator.specs.Judged.{IsJudged, GivesVerdict};
 ghost use Rattle.plus_validator.specs.Outcomes.{outcome_of};
+ghost use Rattle.plus_validator.specs.Refused.{IsCut, cut_verdict};
+ghost use Rattle.plus_validator.specs.Stopped.{HaltsInText, HaltsInPlan};
 
 use crate::halt::Halt;
 use crate::run::Run;
@@ -68,6 +70,8 @@ fn play(
     requires few { length text.now ≤ 1048576 }
     ensures plays { OnOk result (PlaysAll typed.now.domain (labels_of ground.now)
         (problem_of fraction_of ground.now) text.now run.old run.new) }
+    ensures stops { IfErr result (HaltsInText typed.now.domain (labels_of ground.now)
+        (problem_of fraction_of ground.now) false text.now [] run.old run.new) }
     ensures fits { IfErr result (HaltFits (problem_of fraction_of ground.now)) }
 {
     run.text(alloc, typed, ground, text)?;
@@ -77,7 +81,8 @@ fn play(
 
 // Where the last line begins that may go on: behind the last LF.
 fn whole_lines(text: &[u8]) -> usize
-    ensures { result ≤ length text.now }
+    ensures within { result ≤ length text.now }
+    ensures cut { IsCut text.now (take result text.now) (drop result text.now) }
 {
     let mut end = text.len();
     while end > 0 && text[end - 1] != b'\n' {
@@ -88,7 +93,8 @@ fn whole_lines(text: &[u8]) -> usize
 
 // The refusal of a text that goes on behind the limit, all of whose whole lines are played.
 fn too_long(number: u32, rest: usize) -> Halt
-    ensures { (P : Problem) → HaltFits P result }
+    ensures says { result ≡ Halt.Refused (Verdict.Other (cut_verdict number rest)) }
+    ensures fits { (P : Problem) → HaltFits P result }
 {
     let early = if rest > LINE_LIMIT {
         Early::LineTooLong { line: number }
@@ -111,7 +117,9 @@ fn play_cut(
     requires can { CanGoOn (problem_of fraction_of ground.now) run.old.timeline }
     requires moment { run.old.timeline.now.running ≡ None }
     requires few { length text.now ≤ 1048576 }
-    ensures { HaltFits (problem_of fraction_of ground.now) result }
+    ensures stops { HaltsInPlan typed.now.domain (labels_of ground.now)
+        (problem_of fraction_of ground.now) text.now true run.old run.new result }
+    ensures fits { HaltFits (problem_of fraction_of ground.now) result }
 {
     let end = whole_lines(text);
     match run.text(alloc, typed, ground, &text[..end]) {
@@ -133,6 +141,8 @@ fn play_text(
     requires moment { run.old.timeline.now.running ≡ None }
     requires few { length text.now.bytes.items ≤ 1048576 }
     ensures plays { OnOk result (PlaysWhole typed.now.domain (labels_of ground.now)
+        (problem_of fraction_of ground.now) text.now.bytes.items text.now.goes_on run.old run.new) }
+    ensures stops { IfErr result (HaltsInPlan typed.now.domain (labels_of ground.now)
         (problem_of fraction_of ground.now) text.now.bytes.items text.now.goes_on run.old run.new) }
     ensures fits { IfErr result (HaltFits (problem_of fraction_of ground.now)) }
 {

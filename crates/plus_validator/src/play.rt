@@ -7,8 +7,9 @@ ghost use Rattle.plus_plan.specs.Answers.{HasBottom};
 ghost use Rattle.plus_state.specs.View.{problem_of, labels_of};
 ghost use Rattle.plus_timeline.specs.Finish.{IsPaused};
 ghost use Rattle.plus_ground.specs.Expansion.{called_of};
-ghost use Rattle.plus_validator.specs.Halts.{HaltFits};
+ghost use Rattle.plus_validator.specs.Halts.{CallHalts, HaltFits};
 ghost use Rattle.plus_validator.specs.Standing.{CanGoOn};
+ghost use Rattle.plus_validator.specs.Stopped.{HaltsAtMoment, HaltsInAct, HaltsInLine, HaltsInLines, HaltsAtEnd};
 ghost use Rattle.plus_validator.specs.Playing.{IsGroundOf, IsInTime, ActsOnce, PlaysLine, Closes, ReadsAll};
 
 use crate::halt::Halt;
@@ -45,7 +46,8 @@ fn broken(breach: Breach<Frac64>) -> Halt
 
 // Why an action cannot be called.
 fn refused_call(alloc: Global, fault: InstanceFault, line: u32, call: &Call) -> Halt
-    ensures { (P : Problem) → HaltFits P result }
+    ensures says { CallHalts fault line call.now.name result }
+    ensures fits { (P : Problem) → HaltFits P result }
 {
     match fault {
         InstanceFault::UnknownAction => match Label::new(alloc, call.name.bytes()) {
@@ -74,6 +76,7 @@ impl Run {
     fn moment(&self, line: u32, time: &Time) -> Result<Frac64, Halt>
         requires { 0 < time.now.bottom }
         ensures ok { IfOk result (IsInTime self.now time.now) }
+        ensures stops { IfErr result (HaltsAtMoment line time.now self.now) }
         ensures fits { IfErr result (λ halt. (P : Problem) → HaltFits P halt) }
     {
         if self.ended {
@@ -108,6 +111,8 @@ impl Run {
         requires paused { IsPaused self.old.timeline }
         ensures acts { OnOk result (ActsOnce (labels_of ground.now) (problem_of fraction_of ground.now)
             (called_of typed.now.domain call.now.name call.now.args) self.old self.new) }
+        ensures stops { IfErr result (HaltsInAct (labels_of ground.now) (problem_of fraction_of ground.now)
+            line (called_of typed.now.domain call.now.name call.now.args) self.old self.new) }
         ensures fits { IfErr result (HaltFits (problem_of fraction_of ground.now)) }
     {
         let action = match instance::<Frac64>(alloc, typed, call) {
@@ -139,6 +144,8 @@ impl Run {
         requires bottom { HasBottom read.now }
         ensures plays { OnOk result (PlaysLine typed.now.domain (labels_of ground.now)
             (problem_of fraction_of ground.now) read.now self.old self.new) }
+        ensures stops { IfErr result (HaltsInLine typed.now.domain (labels_of ground.now)
+            (problem_of fraction_of ground.now) read.now self.old self.new) }
         ensures fits { IfErr result (HaltFits (problem_of fraction_of ground.now)) }
     {
         match read {
@@ -165,6 +172,8 @@ impl Run {
         requires moment { self.old.timeline.now.running ≡ None }
         ensures closes { OnOk result (Closes (labels_of ground.now)
             (problem_of fraction_of ground.now) self.old self.new) }
+        ensures stops { IfErr result (HaltsAtEnd (labels_of ground.now)
+            (problem_of fraction_of ground.now) self.old self.new) }
         ensures fits { IfErr result (HaltFits (problem_of fraction_of ground.now)) }
     {
         let now = self.timeline.time();
@@ -185,7 +194,9 @@ impl Run {
         requires can { CanGoOn (problem_of fraction_of ground.now) self.old.timeline }
         requires moment { self.old.timeline.now.running ≡ None }
         requires few { length text.now ≤ 1048576 }
-        ensures reads { OnOk result (ReadsAll typed.now.domain (labels_of ground.now)
+        ensures reads { IfOk result (ReadsAll typed.now.domain (labels_of ground.now)
+            (problem_of fraction_of ground.now) text.now self.old self.new) }
+        ensures stops { IfErr result (HaltsInLines typed.now.domain (labels_of ground.now)
             (problem_of fraction_of ground.now) text.now self.old self.new) }
         ensures fits { IfErr result (HaltFits (problem_of fraction_of ground.now)) }
     {

@@ -6,6 +6,7 @@ ghost use Rattle.plus_state.specs.Fits.{ProblemFits};
 ghost use Rattle.plus_timeline.specs.Still.{IsStill};
 ghost use Rattle.plus_validator.specs.Running.{Steps, Reaches};
 ghost use Rattle.plus_validator.specs.Halts.{HaltFits};
+ghost use Rattle.plus_validator.specs.Stopped.{HaltsOnWay};
 ghost use Rattle.plus_validator.specs.Playing.{Begins};
 ghost use Rattle.plus_validator.specs.Standing.{CanReach, IsShown, next_text, is_there, CanShow};
 
@@ -91,6 +92,8 @@ impl Run {
         requires can { CanReach (problem_of fraction_of ground.now) (fraction_of until) self.old.timeline }
         ensures steps { IfOk result (Steps (labels_of ground.now) (problem_of fraction_of ground.now)
             (fraction_of until) self.old self.new) }
+        ensures stops { IfErr result (HaltsOnWay (labels_of ground.now) (problem_of fraction_of ground.now)
+            (fraction_of until) self.old self.new) }
         ensures fits { IfErr result (HaltFits (problem_of fraction_of ground.now)) }
     {
         let next = self.timeline.advance(ground, until)?;
@@ -102,6 +105,8 @@ impl Run {
     pub fn reach(&mut self, ground: &Ground<Frac64>, until: Frac64) -> Result<(), Halt>
         requires can { CanReach (problem_of fraction_of ground.now) (fraction_of until) self.old.timeline }
         ensures reaches { OnOk result (Reaches (labels_of ground.now) (problem_of fraction_of ground.now)
+            (fraction_of until) self.old self.new) }
+        ensures stops { IfErr result (HaltsOnWay (labels_of ground.now) (problem_of fraction_of ground.now)
             (fraction_of until) self.old self.new) }
         ensures fits { IfErr result (HaltFits (problem_of fraction_of ground.now)) }
     {

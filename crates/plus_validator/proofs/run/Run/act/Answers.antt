@@ -10,6 +10,8 @@ use Rattle.plus_types.specs.Faults.{predicate_names}
 use Rattle.plus_validator.specs.declared.halt.Halt.{Halt}
 use Rattle.plus_validator.specs.Halts.{stop_halt, HaltFits}
 use Rattle.plus_validator.proofs.Halting.{from_err, act_halts}
+use Rattle.plus_validator.specs.Stopped.{HaltsInAct}
+use Rattle.plus_validator.proofs.Stopping.{call_halts_in, act_halts_in}
 use Rattle.plus_validator.proofs.run.Run.act.Goals as goal
 
 pub returns-clause-acts : goal.returns-clause-acts
@@ -23,7 +25,7 @@ returns-clause-acts c =
     c.act.new.self.before c.act.new.self.now.state c.in_ok-write_act.ensures.outcome c.before-2.ensures.state c.state.ensures.state)
 
 pub returns-in-Err-clause-fits : goal.returns-in-Err-clause-fits
-returns-in-Err-clause-fits c = c.refused_call.ensures (problem_of fraction_of c.args.ground.now)
+returns-in-Err-clause-fits c = c.refused_call.ensures.fits (problem_of fraction_of c.args.ground.now)
 
 pub returns-in_err-act-clause-fits : goal.returns-in_err-act-clause-fits
 returns-in_err-act-clause-fits c =
@@ -32,3 +34,20 @@ returns-in_err-act-clause-fits c =
     from_err c.from_residual.result (λ (h : Halt). h ≡ stop_halt stop) (HaltFits P) c.from_residual.ensures.1
     (λ h e. act_halts P (action_of fraction_of c.in-Ok.action) c.args.line c.args.self.now.timeline stop h (length (predicate_names c.args.typed.now.domain))
     c.in-Ok.ensures.fits.1 e c.in_err-act.ensures.breach c.in_err-act.ensures.limit)
+
+pub returns-in-Err-clause-stops : goal.returns-in-Err-clause-stops
+returns-in-Err-clause-stops c =
+    call_halts_in (labels_of c.args.ground.now) (problem_of fraction_of c.args.ground.now) c.args.line
+    (called_of c.args.typed.now.domain c.args.call.now.name c.args.call.now.args) c.args.call.now.name c.in-Err.fault c.args.self.now c.refused_call.result
+    c.requires.can c.in-Err.ensures.called c.refused_call.ensures.says
+
+pub returns-in_err-act-clause-stops : goal.returns-in_err-act-clause-stops
+returns-in_err-act-clause-stops c =
+    let N = labels_of c.args.ground.now in
+    let P = problem_of fraction_of c.args.ground.now in
+    let call = called_of c.args.typed.now.domain c.args.call.now.name c.args.call.now.args in
+    let new : Run = record { timeline = c.act.new.self; report = c.args.self.now.report; ended = c.args.self.now.ended } in
+    let stop = c.in_err-act.field-0.0 in
+    from_err c.from_residual.result (λ (h : Halt). h ≡ stop_halt stop) (HaltsInAct N P c.args.line call c.args.self.now new) c.from_residual.ensures.1
+    (λ h e. act_halts_in N P c.args.line call (action_of fraction_of c.in-Ok.action) c.args.self.now new stop h c.requires.can c.in-Ok.ensures.called e
+    c.in_err-act.ensures.breach c.in_err-act.ensures.limit refl)

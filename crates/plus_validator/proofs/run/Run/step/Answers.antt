@@ -8,6 +8,8 @@ use Rattle.plus_validator.proofs.Runs.{step_says}
 use Rattle.plus_validator.specs.declared.halt.Halt.{Halt}
 use Rattle.plus_validator.specs.Halts.{stop_halt, HaltFits}
 use Rattle.plus_validator.proofs.Halting.{from_err, advance_halts}
+use Rattle.plus_validator.specs.Stopped.{HaltsOnWay}
+use Rattle.plus_validator.proofs.Stopping.{advance_halts_on}
 use Rattle.plus_validator.proofs.run.Run.step.Goals as goal
 
 pub write_next-requires-clause-shown : goal.write_next-requires-clause-shown
@@ -29,3 +31,13 @@ returns-in_err-next-clause-fits c =
     let stop = c.in_err-next.field-0.0 in
     from_err c.from_residual.result (λ (h : Halt). h ≡ stop_halt stop) (HaltFits P) c.from_residual.ensures.1
     (λ h e. advance_halts P (fraction_of c.args.until) c.args.self.now.timeline stop h c.requires.can.goes.serves.still e c.in_err-next.ensures.breach c.in_err-next.ensures.limit)
+
+pub returns-in_err-next-clause-stops : goal.returns-in_err-next-clause-stops
+returns-in_err-next-clause-stops c =
+    let N = labels_of c.args.ground.now in
+    let P = problem_of fraction_of c.args.ground.now in
+    let u = fraction_of c.args.until in
+    let new : Run = record { timeline = c.advance.new.self; report = c.args.self.now.report; ended = c.args.self.now.ended } in
+    let stop = c.in_err-next.field-0.0 in
+    from_err c.from_residual.result (λ (h : Halt). h ≡ stop_halt stop) (HaltsOnWay N P u c.args.self.now new) c.from_residual.ensures.1
+    (λ h e. advance_halts_on N P u c.args.self.now new stop h c.requires.can e c.in_err-next.ensures.breach c.in_err-next.ensures.limit refl)

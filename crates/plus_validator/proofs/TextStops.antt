@@ -1,0 +1,295 @@
+-- A run that halts in a text: the plan is refused.
+use Rattle.std.proofs.Common.{◌≡◌, ℕ, ◌+◌, Bool, true, false, List, [], ◌∷◌, ◌++◌, refl, ap, sym, subst, ◌∙◌, inl, inr, append_assoc, append-nil, drop}
+use Rattle.std.specs.Prelude.{◌≢◌, Option, Some, None, Result, Ok, Err, IfSome, IsSomeAnd, length, map}
+use Rattle.plus_model.specs.Terms.{Problem}
+use Rattle.plus_model.specs.Plan as model
+use Rattle.plus_model.specs.Plan.{Plan}
+use Rattle.plus_model.specs.History.{Part}
+use Rattle.plus_model.specs.Trajectory.{Prefix, Trajectory, view_of}
+use Rattle.plus_model.specs.Breach as breach
+use Rattle.plus_model.specs.Breach.{Breaks, BreaksBy, LineBreach}
+use Rattle.plus_model.specs.Laws.{IsLongest, GoesOnFrom}
+use Rattle.plus_model.proofs.Final.{breach_is_final, breach_is_no_trajectory}
+use Rattle.plus_model.proofs.LineFinal.{line_breach_is_final}
+use Rattle.plus_model.proofs.Longest.{breach_is_longest, worked_is_longest, unbegun_is_longest}
+use Rattle.plus_number.specs.declared.frac.Frac64.{Frac64}
+use Rattle.plus_number.specs.Frac.{fraction_of}
+use Rattle.plus_state.specs.View.{Labels}
+use Rattle.plus_state.specs.declared.outcome.Breach.{Breach}
+use Rattle.plus_state.specs.declared.outcome.Breach.TheVariants as breaches
+use Rattle.plus_tree.specs.declared.trees.Domain.{Domain}
+use Rattle.plus_plan.specs.declared.forms.Time.{Time}
+use Rattle.plus_plan.specs.declared.forms.Line.{Line}
+use Rattle.plus_plan.specs.declared.forms.PlanForm.TheVariants.{Timed}
+use Rattle.plus_plan.specs.declared.faults.PlanFault.{PlanFault}
+use Rattle.plus_plan.specs.declared.faults.PlanFault.TheVariants as faults
+use Rattle.plus_plan.specs.Cut.{lines_of, next_line}
+use Rattle.plus_plan.specs.Lines.{numbered}
+use Rattle.plus_plan.specs.Answers.{IsLineAt, IsRefusedAt}
+use Rattle.plus_timeline.specs.Laws.{breach_of}
+use Rattle.plus_report.specs.declared.verdicts.Verdict.{Verdict}
+use Rattle.plus_report.specs.declared.verdicts.Verdict.TheVariants.{Valid, Invalid, Beyond, Other}
+use Rattle.plus_report.specs.declared.refusals.Early.TheVariants.{BadLine, LineTooLong}
+use Rattle.plus_validator.specs.declared.halt.Halt.{Halt}
+use Rattle.plus_validator.specs.declared.halt.Halt.TheVariants.{Refused, Memory}
+use Rattle.plus_validator.specs.declared.run.Run.{Run}
+use Rattle.plus_validator.specs.Halts.{line_halt}
+use Rattle.plus_validator.specs.Plans.{line_meant, lines_meant, plan_of}
+use Rattle.plus_validator.specs.Standing.{CanGoOn}
+use Rattle.plus_validator.specs.Playing.{Readied, ReadsAll}
+use Rattle.plus_validator.specs.Refused.{Stands, NamesFault, IsWaiting, TimeFault, after_end, no_value, goes_back, cut_verdict, NonePlays, BreachRefutes, Refutes, IsNoLimit, number_in}
+use Rattle.plus_validator.specs.Stopped.{IsReported, IsStoppedIn, StopsOnWay, StopsInLine, HaltsInLine, HaltsAtEnd, IsStoppedInText, StopsInText, HaltsInLines, HaltsInText}
+use Rattle.plus_validator.proofs.Played.{ReadsTo}
+use Rattle.plus_validator.proofs.Texts.{plan_of-append}
+use Rattle.plus_validator.proofs.Stopping.{reported}
+use Rattle.plus_validator.proofs.Waiting.{waits}
+
+-- ---- no prefix is longer
+
+pub waiting_longest : (d : Domain) (P : Problem) (ls : List Line) (h : List Part) → Prefix P (plan_of d ls false) h → IsWaiting P (plan_of d ls false) h → IsLongest P (plan_of d ls false) h
+waiting_longest d P ls h p (inl n) = unbegun_is_longest P (plan_of d ls false) h p (λ b. elim b [ inl s ↦ s n | inr t ↦ (let e : false ≡ true = t in cc e) ])
+waiting_longest d P ls h p (inr w) = worked_is_longest P (plan_of d ls false) h p w
+
+breach_longest : (P : Problem) (L : Plan) (h : List Part) (o : Option breach.Breach) → IsSomeAnd o (Breaks P L h) → IsLongest P L h
+breach_longest P L h None s = absurd s
+breach_longest P L h (Some b) s = breach_is_longest P L h b s
+
+stands_longest : (P : Problem) (L : Plan) (most : ℕ) (h : List Part) (v : Verdict Frac64) → Stands P L most h v → IsNoLimit v → IsLongest P L h
+stands_longest P L most h Valid s n = absurd s
+stands_longest P L most h (Invalid b) s n = breach_longest P L h _ s
+stands_longest P L most h (Beyond l) s n = absurd n
+stands_longest P L most h (Other e) s n = absurd s
+
+-- ---- no plan that begins so has a trajectory
+
+lines_meant-more : (d : Domain) (xs ys : List Line) → lines_meant d (xs ++ ys) ≡ lines_meant d xs ++ lines_meant d ys
+lines_meant-more d [] ys = refl
+lines_meant-more d (x ∷ xs) ys = ap (λ t. line_meant d x ++ t) (lines_meant-more d xs ys) ∙ sym (append_assoc (line_meant d x) (lines_meant d xs) (lines_meant d ys))
+
+goes_on : (d : Domain) (ls more : List Line) (c c' : Bool) → GoesOnFrom (plan_of d ls c) (plan_of d (ls ++ more) c')
+goes_on d ls more c c' = record { more = lines_meant d more; lines = lines_meant-more d ls more }
+
+-- where no plan plays, the verdict tells no more than that
+refutes : (d : Domain) (P : Problem) (ls : List Line) (v : Verdict Frac64) → NonePlays d P ls → Refutes d P ls v
+refutes d P ls Valid n = tt
+refutes d P ls (Beyond l) n = tt
+refutes d P ls (Other e) n = tt
+refutes d P ls (Invalid breaches.Goal) n = λ h t. n [] true h (subst (λ (ks : List Line). Trajectory P (plan_of d ks true) h) (sym (append-nil ls)) t)
+refutes d P ls (Invalid (breaches.UnknownAction line name)) n = n
+refutes d P ls (Invalid (breaches.WrongArguments line name)) n = n
+refutes d P ls (Invalid (breaches.Precondition line whose)) n = n
+refutes d P ls (Invalid (breaches.TimeGoesBack line)) n = n
+refutes d P ls (Invalid (breaches.AfterEnd line)) n = n
+refutes d P ls (Invalid (breaches.Conflict f)) n = n
+refutes d P ls (Invalid (breaches.NoValue f)) n = n
+refutes d P ls (Invalid (breaches.Repeats x)) n = n
+refutes d P ls (Invalid (breaches.Unsettled x)) n = n
+refutes d P ls (Invalid (breaches.Coupled x y)) n = n
+refutes d P ls (Invalid (breaches.NoFirstMoment x t)) n = n
+
+not_goal : (P : Problem) (L : Plan) (h : List Part) (b : breach.Breach) → L.closed ≡ false → Breaks P L h b → b ≢ breach.Goal
+not_goal P L h b c s e =
+    let k : L.closed ≡ true = (subst (Breaks P L h) e s).breach.stands.0 in
+    let f : false ≡ true = sym c ∙ k in
+    cc f
+
+none_after_breach : (d : Domain) (P : Problem) (ls : List Line) (h : List Part) (o : Option breach.Breach) → IsSomeAnd o (Breaks P (plan_of d ls false) h) → NonePlays d P ls
+none_after_breach d P ls h None s = absurd s
+none_after_breach d P ls h (Some b) s =
+    λ more closed h' t. breach_is_final P (plan_of d ls false) h b s (not_goal P (plan_of d ls false) h b refl s) (plan_of d (ls ++ more) closed) h' (goes_on d ls more false closed) t
+
+-- of lines that are not all
+stands_refutes : (d : Domain) (P : Problem) (ls : List Line) (most : ℕ) (h : List Part) (v : Verdict Frac64) → Stands P (plan_of d ls false) most h v → Refutes d P ls v
+stands_refutes d P ls most h Valid s = absurd s
+stands_refutes d P ls most h (Invalid b) s = refutes d P ls (Invalid b) (none_after_breach d P ls h _ s)
+stands_refutes d P ls most h (Beyond l) s = tt
+stands_refutes d P ls most h (Other e) s = tt
+
+none_plays_on : (d : Domain) (P : Problem) (ls : List Line) (h : List Part) (b : breach.Breach) → Breaks P (plan_of d ls true) h b → b ≢ breach.Goal → NonePlays d P ls
+none_plays_on d P ls h b s n = λ more closed h' t. breach_is_final P (plan_of d ls true) h b s n (plan_of d (ls ++ more) closed) h' (goes_on d ls more true closed) t
+
+-- of all lines
+end_breach : (d : Domain) (P : Problem) (ls : List Line) (h : List Part) (acted : ℕ) (b : Breach Frac64) → IsSomeAnd (breach_of fraction_of acted b) (Breaks P (plan_of d ls true) h) → BreachRefutes d P ls b
+end_breach d P ls h acted (breaches.UnknownAction line name) s = none_plays_on d P ls h (breach.UnknownAction acted name) s (λ e. cc e)
+end_breach d P ls h acted (breaches.WrongArguments line name) s = none_plays_on d P ls h (breach.WrongArguments acted name) s (λ e. cc e)
+end_breach d P ls h acted (breaches.Precondition line whose) s = none_plays_on d P ls h (breach.Precondition acted) s (λ e. cc e)
+end_breach d P ls h acted (breaches.TimeGoesBack line) s = absurd s
+end_breach d P ls h acted (breaches.AfterEnd line) s = absurd s
+end_breach d P ls h acted (breaches.Conflict f) s = none_plays_on d P ls h (breach.Conflict f.0) s (λ e. cc e)
+end_breach d P ls h acted (breaches.NoValue f) s = none_plays_on d P ls h (breach.NoValue f.0) s (λ e. cc e)
+end_breach d P ls h acted (breaches.Repeats x) s = none_plays_on d P ls h (breach.Repeats x.0) s (λ e. cc e)
+end_breach d P ls h acted (breaches.Unsettled x) s = none_plays_on d P ls h (breach.Unsettled x.0) s (λ e. cc e)
+end_breach d P ls h acted (breaches.Coupled x y) s = none_plays_on d P ls h (breach.Coupled x.0 y.0) s (λ e. cc e)
+end_breach d P ls h acted (breaches.NoFirstMoment x t) s = none_plays_on d P ls h (breach.NoFirstMoment x.0 (fraction_of t)) s (λ e. cc e)
+end_breach d P ls h acted breaches.Goal s = λ h' t. breach_is_no_trajectory P (plan_of d ls true) h h' breach.Goal s t
+
+end_refutes : (d : Domain) (P : Problem) (ls : List Line) (most : ℕ) (h : List Part) (v : Verdict Frac64) → Stands P (plan_of d ls true) most h v → Refutes d P ls v
+end_refutes d P ls most h Valid s = absurd s
+end_refutes d P ls most h (Invalid b) s = end_breach d P ls h (view_of P h).acted b s
+end_refutes d P ls most h (Beyond l) s = tt
+end_refutes d P ls most h (Other e) s = tt
+
+-- of a line that cannot be played
+none_after_line : (d : Domain) (P : Problem) (ls : List Line) (line : Line) (h : List Part) (meant : model.Line) (b : LineBreach) → line_meant d line ≡ meant ∷ [] → BreaksBy P (plan_of d ls false) h meant b → NonePlays d P (ls ++ line ∷ [])
+none_after_line d P ls line h meant b e s =
+    λ more closed h' t.
+    line_breach_is_final P (plan_of d ls false) h meant b s (plan_of d ((ls ++ line ∷ []) ++ more) closed) h' (lines_meant d more)
+    (lines_meant-more d (ls ++ line ∷ []) more ∙ ap (λ ks. ks ++ lines_meant d more) (lines_meant-more d ls (line ∷ []) ∙ ap (λ ks. lines_meant d ls ++ ks) (append-nil (line_meant d line) ∙ e))
+    ∙ append_assoc (lines_meant d ls) (meant ∷ []) (lines_meant d more))
+    t
+
+time_refutes : (d : Domain) (P : Problem) (ls : List Line) (line : Line) (h : List Part) (meant : model.Line) (time : Time) (n : ℕ) (v : Verdict Frac64) → line_meant d line ≡ meant ∷ [] → TimeFault P (plan_of d ls false) h n meant time v → Refutes d P (ls ++ line ∷ []) v
+time_refutes d P ls line h meant time n v e (after_end b k) = refutes d P (ls ++ line ∷ []) v (none_after_line d P ls line h meant breach.AfterEnd e b)
+time_refutes d P ls line h meant time n v e (no_value b f k) = subst (Refutes d P (ls ++ line ∷ [])) (sym k) tt
+time_refutes d P ls line h meant time n v e (goes_back b f k) = refutes d P (ls ++ line ∷ []) v (none_after_line d P ls line h meant breach.TimeGoesBack e b)
+
+-- ---- what the run leaves
+
+-- the report is that of the lines read, which are worked
+waiting_report : (d : Domain) (N : Labels) (P : Problem) (ls : List Line) (most : ℕ) (h : List Part) (run : Run) → CanGoOn P run.timeline → run.timeline.most ≡ most → Readied N P (plan_of d ls false) h run → IsReported N P (plan_of d ls false) most h run.report.bytes.items
+waiting_report d N P ls most h run c m r =
+    subst (λ k. IsReported N P (plan_of d ls false) k h run.report.bytes.items) m
+    (reported N P (plan_of d ls false) h run.timeline run.report.bytes.items run.report.bytes.items r.played c.within refl)
+
+module _ (d : Domain) (N : Labels) (P : Problem) (text : List ℕ) (start run : Run) (number from : ℕ) (r : ReadsTo d N P text start number from run) where
+  -- the verdict on a next line that is none
+  none_next : (fault : PlanFault) (v : Verdict Frac64) (more : Bool) (piece : List ℕ) (h : List Part) → numbered Timed number (lines_of (drop from text)) ≡ Err fault ∷ numbered Timed (number + 1) (lines_of (drop (next_line text from) text)) → NamesFault fault v → Refutes d P (r.lines_read ++ []) v → Readied N P (plan_of d [] false) h start → IsStoppedInText d N P start.timeline.most more text piece run.report.bytes.items v
+  none_next fault v more piece h e n f ready =
+      let a = r.ready h ready in
+      let w = waiting_report d N P r.lines_read start.timeline.most a.0 run r.rests.can r.rests.most_is a.1 in
+      record {
+        refusal = record {
+          before = r.lines_read;
+          rest = Err fault ∷ numbered Timed (number + 1) (lines_of (drop (next_line text from) text));
+          read = r.said ∙ ap (λ t. map Ok r.lines_read ++ t) e;
+          plan = plan_of d r.lines_read false;
+          history = a.0;
+          prefix = w.prefix;
+          few = w.few;
+          cause = record { lines = refl; waits = waits N P (plan_of d r.lines_read false) a.0 run a.1; names = n };
+          longest = λ _. waiting_longest d P r.lines_read a.0 w.prefix (waits N P (plan_of d r.lines_read false) a.0 run a.1);
+          final = f;
+        };
+        written = w.written;
+      }
+
+  bad_stops : (fault : PlanFault) (more : Bool) (piece : List ℕ) (h : List Part) → IsRefusedAt Timed number text from fault → Readied N P (plan_of d [] false) h start → StopsInText d N P start.timeline.most more text piece run.report.bytes.items (line_halt fault)
+  bad_stops (faults.NotLine n begin last) more piece h f ready =
+      none_next (faults.NotLine n begin last) (Other (BadLine n begin last)) more piece h
+      (f.said ∙ ap (λ (x : Result Line PlanFault). x ∷ numbered Timed (number + 1) (lines_of (drop (next_line text from) text))) f.read) refl tt ready
+  bad_stops (faults.LineTooLong n) more piece h f ready =
+      none_next (faults.LineTooLong n) (Other (LineTooLong n)) more piece h
+      (f.said ∙ ap (λ (x : Result Line PlanFault). x ∷ numbered Timed (number + 1) (lines_of (drop (next_line text from) text))) f.read) refl tt ready
+  bad_stops faults.Memory more piece h f ready = tt
+
+  pub halts_at_bad_line : (fault : PlanFault) (halt : Halt) → IsRefusedAt Timed number text from fault → halt ≡ line_halt fault → HaltsInLines d N P text start run halt
+  halts_at_bad_line fault halt f e = record {
+    stops = λ more piece h ready.
+        subst (StopsInText d N P start.timeline.most more text piece run.report.bytes.items) (sym e) (bad_stops fault more piece h f ready);
+  }
+
+  line_stops : (new : Run) (x : Line × ℕ) (halt : Halt) (more : Bool) (piece : List ℕ) → IsLineAt Timed number text from x → StopsInLine d N P (plan_of d r.lines_read false) start.timeline.most x.0 new.report.bytes.items halt → StopsInText d N P start.timeline.most more text piece new.report.bytes.items halt
+  line_stops new x Memory more piece l s = tt
+  line_stops new x (Refused v) more piece l (inl b) = record {
+    refusal = record {
+      before = r.lines_read;
+      rest = Ok x.0 ∷ numbered Timed (number + 1) (lines_of (drop x.1 text));
+      read = r.said ∙ ap (λ t. map Ok r.lines_read ++ t) l.said;
+      plan = plan_of d r.lines_read false;
+      history = b.history;
+      prefix = b.reported.prefix;
+      few = b.reported.few;
+      cause = inl (record { lines = refl; waits = b.waits; meant = b.meant; meant_is = b.meant_is; time = b.time; time_is = b.time_is; why = b.why });
+      longest = λ _. waiting_longest d P r.lines_read b.history b.reported.prefix b.waits;
+      final = time_refutes d P r.lines_read x.0 b.history b.meant b.time (number_in x.0) v b.meant_is b.why;
+    };
+    written = b.reported.written;
+  }
+  line_stops new x (Refused v) more piece l (inr b) =
+      let k = subst (λ (M : Plan). IsStoppedIn N P M start.timeline.most (number_in x.0) new.report.bytes.items v) (sym (plan_of-append d r.lines_read x.0 false)) b in
+      record {
+        refusal = record {
+          before = r.lines_read;
+          rest = Ok x.0 ∷ numbered Timed (number + 1) (lines_of (drop x.1 text));
+          read = r.said ∙ ap (λ t. map Ok r.lines_read ++ t) l.said;
+          plan = plan_of d (r.lines_read ++ x.0 ∷ []) false;
+          history = k.stopped.history;
+          prefix = k.stopped.reported.prefix;
+          few = k.stopped.reported.few;
+          cause = inr (record { lines = refl; stands = k.stopped.stands; names = k.names });
+          longest = stands_longest P (plan_of d (r.lines_read ++ x.0 ∷ []) false) start.timeline.most k.stopped.history v k.stopped.stands;
+          final = stands_refutes d P (r.lines_read ++ x.0 ∷ []) start.timeline.most k.stopped.history v k.stopped.stands;
+        };
+        written = k.stopped.reported.written;
+      }
+
+  halts_in : (new : Run) (x : Line × ℕ) (halt : Halt) → IsLineAt Timed number text from x → HaltsInLine d N P x.0 run new halt → HaltsInLines d N P text start new halt
+  halts_in new x halt l s = record {
+    stops = λ more piece h ready.
+        let a = r.ready h ready in
+        line_stops new x halt more piece l
+        (subst (λ m. StopsInLine d N P (plan_of d r.lines_read false) m x.0 new.report.bytes.items halt) r.rests.most_is (s.stops (plan_of d r.lines_read false) a.0 a.1));
+  }
+
+  pub halts_at_line : (new : Run) (o : Option (Line × ℕ)) (read : Line) (next : ℕ) (halt : Halt) → o ≡ Some (read, next) → IfSome o (IsLineAt Timed number text from) → HaltsInLine d N P read run new halt → HaltsInLines d N P text start new halt
+  halts_at_line new o read next halt e l s = halts_in new (read, next) halt (subst (λ x. IfSome x (IsLineAt Timed number text from)) e l) s
+
+-- ---- all lines are worked
+
+module _ (d : Domain) (N : Labels) (P : Problem) (text : List ℕ) (old mid : Run) (number : ℕ) (r : ReadsAll d N P text old mid number) where
+  end_stops : (report : List ℕ) (halt : Halt) → StopsOnWay N P (plan_of d r.lines true) old.timeline.most report halt → StopsInText d N P old.timeline.most false text [] report halt
+  end_stops report Memory s = tt
+  end_stops report (Refused v) s = record {
+    refusal = record {
+      before = r.lines;
+      rest = [];
+      read = r.read ∙ sym (append-nil (map Ok r.lines));
+      plan = plan_of d r.lines true;
+      history = s.stopped.history;
+      prefix = s.stopped.reported.prefix;
+      few = s.stopped.reported.few;
+      cause = record { lines = refl; stands = s.stopped.stands; names = s.names };
+      longest = stands_longest P (plan_of d r.lines true) old.timeline.most s.stopped.history v s.stopped.stands;
+      final = subst (λ (ls : List Line). Refutes d P ls v) (sym (append-nil r.lines)) (end_refutes d P r.lines old.timeline.most s.stopped.history v s.stopped.stands);
+    };
+    written = s.stopped.reported.written;
+  }
+
+  -- the text is at its end
+  pub halts_after_all : (new : Run) (halt : Halt) → HaltsAtEnd N P mid new halt → HaltsInText d N P false text [] old new halt
+  halts_after_all new halt s = record {
+    stops = λ h ready.
+        let a = r.ready h ready in
+        end_stops new.report.bytes.items halt
+        (subst (λ m. StopsOnWay N P (plan_of d r.lines true) m new.report.bytes.items halt) r.rests.most_is (s.stops (plan_of d r.lines false) a.0 a.1));
+  }
+
+  -- the text goes on
+  pub halts_at_cut : (piece : List ℕ) (halt : Halt) → halt ≡ Refused (Other (cut_verdict number (length piece))) → HaltsInText d N P true text piece old mid halt
+  halts_at_cut piece halt e = record {
+    stops = λ h ready.
+        let a = r.ready h ready in
+        let w = waiting_report d N P r.lines old.timeline.most a.0 mid r.rests.can r.rests.most_is a.1 in
+        subst (StopsInText d N P old.timeline.most true text piece mid.report.bytes.items) (sym e) (record {
+          refusal = record {
+            before = r.lines;
+            rest = [];
+            read = r.read ∙ sym (append-nil (map Ok r.lines));
+            plan = plan_of d r.lines false;
+            history = a.0;
+            prefix = w.prefix;
+            few = w.few;
+            cause = record {
+              lines = refl;
+              waits = waits N P (plan_of d r.lines false) a.0 mid a.1;
+              is = ap (λ n. Other (cut_verdict n (length piece))) r.number_is;
+            };
+            longest = λ _. waiting_longest d P r.lines a.0 w.prefix (waits N P (plan_of d r.lines false) a.0 mid a.1);
+            final = tt;
+          };
+          written = w.written;
+        });
+  }
+
+pub lines_halt : (d : Domain) (N : Labels) (P : Problem) (text : List ℕ) (old new : Run) (more : Bool) (piece : List ℕ) (halt : Halt) → HaltsInLines d N P text old new halt → HaltsInText d N P more text piece old new halt
+lines_halt d N P text old new more piece halt s = record { stops = λ h ready. s.stops more piece h ready }
