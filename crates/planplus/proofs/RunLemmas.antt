@@ -2,7 +2,6 @@
 use Rattle.std.proofs.Common.{◌≡◌, ◌⊎◌, ℕ, List, [], ◌∷◌, Option, Some, None, subst, sym, ◌∙◌, refl, rules, IsTrue, inl, inr}
 use Rattle.std.specs.Prelude.{IfSome}
 use Rattle.plus_io.specs.Faults.{Rose}
-use Rattle.plus_io.specs.Taken.{Took, TookPart}
 use Rattle.plus_tree.specs.declared.trees.Domain.{Domain}
 use Rattle.plus_tree.specs.declared.trees.Problem.{Problem}
 use Rattle.plus_types.specs.Faults.{faults_of, is_empty, is_well_typed}
@@ -14,7 +13,7 @@ use Rattle.plus_validator.specs.declared.judge.Outcome.TheVariants as outcomes
 use Rattle.plus_validator.specs.Validates.{Accepts, IsRefusal, Refuses, BreaksOff, RefusesPair, RefusesPairInPart}
 use Rattle.planplus.specs.declared.run.Status.{Status}
 use Rattle.planplus.specs.declared.run.Status.TheVariants as s
-use Rattle.planplus.specs.Pair.{PairRefused, SpellsPair}
+use Rattle.planplus.specs.Pair.{PairRefused}
 use Rattle.planplus.specs.Reads.{ReadsPair}
 use Rattle.planplus.specs.Headline.{SpellsWellTyped, IsValidRun, IsRefusedRun, for_pair, for_ground, for_plan, IsBrokenRun, in_pair, in_ground, in_plan, OnRefusal, Writes, early_status, status_of}
 
