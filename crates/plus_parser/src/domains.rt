@@ -80,6 +80,7 @@ fn predicate(
     let last = reader.close(Later::Variable, room - 1)?;
     Ok(Head {
         name: head.spelled(alloc)?,
+        params: Members::new(alloc),
         span: around(front, last.span),
     })
 }
@@ -223,6 +224,7 @@ fn schema(
     let (keys, last) = keys(alloc, reader, room)?;
     Ok(Schema {
         name: name.spelled(alloc)?,
+        params: Members::new(alloc),
         condition: or_all(alloc, keys.condition),
         effect: or_nothing(alloc, keys.effect),
         span: around(front, last),
@@ -364,8 +366,13 @@ pub fn domain(alloc: Global, reader: &mut Reader<'_>) -> Result<Domain, TextFaul
     Ok(Domain {
         name,
         requirements: or_none(alloc, parts.requirements),
+        types: Members::new(alloc),
+        constants: Members::new(alloc),
         predicates: or_none(alloc, parts.predicates),
+        functions: Members::new(alloc),
         actions: parts.actions,
+        processes: Members::new(alloc),
+        events: Members::new(alloc),
         span: around(start, last),
     })
 }
