@@ -163,6 +163,26 @@ fn key(
     }
 }
 
+// The parts of an action up to its closing parenthesis, which are added to what was found.
+fn keys_into(
+    alloc: Global,
+    reader: &mut Reader<'_>,
+    room: u8,
+    found: &mut Keys,
+) -> Result<Span, TextFault>
+    ensures gives { Gives (λ last. (found.new, last)) reader.new result
+        (until_close (key_step room) room (length reader.old) found.old reader.old) }
+    ensures shorter { OnOk result (length reader.new < length reader.old) }
+{
+    'found: loop {
+        let token = reader.next(room)?;
+        if is_close(token.kind) {
+            return Ok(token.span);
+        }
+        key(alloc, reader, room, found, &token)?;
+    }
+}
+
 // The parts of an action up to its closing parenthesis.
 fn keys(alloc: Global, reader: &mut Reader<'_>, room: u8) -> Result<(Keys, Span), TextFault>
     ensures gives { Gives (λ x. x) reader.new result
@@ -174,13 +194,8 @@ fn keys(alloc: Global, reader: &mut Reader<'_>, room: u8) -> Result<(Keys, Span)
         condition: None,
         effect: None,
     };
-    'found: loop {
-        let token = reader.next(room)?;
-        if is_close(token.kind) {
-            return Ok((found, token.span));
-        }
-        key(alloc, reader, room, &mut found, &token)?;
-    }
+    let last = keys_into(alloc, reader, room, &mut found)?;
+    Ok((found, last))
 }
 
 const NOWHERE: Span = Span { start: 0, end: 0 };
