@@ -63,6 +63,7 @@ word_of wrongs.Shadowed = words.ShadowedVariable
 word_of wrongs.TypeLoop = words.TypeLoop
 word_of wrongs.RateForm = words.RateForm
 word_of wrongs.DomainName = words.DomainName
+word_of wrongs.NotBuilt = words.NotBuilt
 
 -- a pair that is not well typed is refused so
 abbrev pub type_refusal : TypeFault → Refusal

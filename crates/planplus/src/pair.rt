@@ -88,6 +88,7 @@ fn word_for(wrong: Wrong) -> Word
         Wrong::TypeLoop => Word::TypeLoop,
         Wrong::RateForm => Word::RateForm,
         Wrong::DomainName => Word::DomainName,
+        Wrong::NotBuilt => Word::NotBuilt,
     }
 }
 

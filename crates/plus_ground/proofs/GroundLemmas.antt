@@ -3,13 +3,14 @@ use Rattle.std.proofs.Common.{◌≡◌, ℕ, zero, suc, ◌+◌, ◌<◌, ◌�
 use Rattle.std.proofs.lemmas.Bool.Decides.{nat_tests}
 use Rattle.std.specs.List.{position_or_len}
 use Rattle.std.specs.Str.{bytes_eq}
-use Rattle.plus_model.specs.Terms.{Condition, Always, Effect, Action, Process, Event, Timed}
+use Rattle.plus_model.specs.Terms.{Condition, Effect, Action, Process, Event, Timed}
 use Rattle.plus_model.specs.Plan as plan
 use Rattle.plus_state.specs.Fits.{Fits, EffectFits, AllEffectsFit, ActionFits, ProcessFits, EventFits, StateFits, ProblemFits}
 use Rattle.plus_state.specs.Tests.{joined}
 use Rattle.plus_tree.specs.declared.trees.Schema.{Schema}
 use Rattle.plus_tree.specs.declared.trees.Domain.{Domain}
 use Rattle.plus_tree.specs.declared.trees.Problem.{Problem}
+use Rattle.plus_tree.specs.declared.names.Span.{Span}
 use Rattle.plus_tree.specs.declared.trees.LeafNode.{LeafNode}
 use Rattle.plus_tree.specs.declared.trees.LeafNode.TheVariants.{Add, Delete}
 use Rattle.plus_tree.specs.Cond.{Cond, Conds, c_all, c_not, c_atom, no_conds, more_conds}
@@ -17,8 +18,9 @@ use Rattle.plus_tree.specs.Effect as effects
 use Rattle.plus_tree.specs.Effect.{Effects, e_all, e_leaf, no_effects, more_effects}
 use Rattle.plus_types.specs.declared.faults.File.{File}
 use Rattle.plus_types.specs.declared.faults.File.TheVariants as files
-use Rattle.plus_types.specs.Faults.{use_faults, written_use, cond_faults, conds_faults, effect_faults, effects_faults, schema_faults, action_faults, predicate_faults, domain_name_faults, init_faults, predicate_names, action_names, faults_of, is_empty, is_well_typed}
-use Rattle.plus_ground.specs.Expansion.{number_of, meaning_of, meanings_of, effects_meant, all_effects_meant, write_meant, action_meant, expanded, called_of, initial_numbers}
+use Rattle.plus_types.specs.declared.faults.TypeFault.{TypeFault}
+use Rattle.plus_types.specs.Faults.{node_faults, cond_faults, conds_faults, effect_faults, effects_faults, schema_faults, action_faults, predicate_faults, domain_name_faults, object_faults, section_faults, init_faults, predicate_names, action_names, faults_of, is_empty, is_well_typed}
+use Rattle.plus_ground.specs.Expansion.{number_of, meaning_of, meanings_of, effects_meant, all_effects_meant, leaf_meant, action_meant, expanded, called_of, initial_numbers}
 use Rattle.plus_ground.specs.Refusals.{NamesAction}
 use Rattle.plus_ground.proofs.FormsLemmas.{missing_is_length}
 use Rattle.std.proofs.lemmas.List.{length-map}
@@ -40,6 +42,7 @@ mutual
   cond_fits names file positive (c_all cs s) e = conds_fit names file positive cs e
   cond_fits names file positive (c_not c s) e = cond_fits names file (not positive) c e
   cond_fits names file positive (c_atom u s) e = known_place names file u e
+  cond_fits names file positive _ e = tt
 
   pub conds_fit : (names : List (List ℕ)) (file : File) (positive : Bool) (cs : Conds) → conds_faults names file cs ≡ [] → Fits (length names) 0 (joined positive (meanings_of names positive cs))
   conds_fit names file positive no_conds e = none_fits (length names) positive
@@ -51,15 +54,17 @@ effects_append : (n : ℕ) (xs ys : List Effect) → AllEffectsFit n 0 xs → Al
 effects_append n [] ys f g = g
 effects_append n (x ∷ xs) ys f g = (f.0, effects_append n xs ys f.1 g)
 
-leaf_fits : (names : List (List ℕ)) (l : LeafNode) → use_faults names files.Domain (written_use l) ≡ [] → AllEffectsFit (length names) 0 (record { guard = Always; write = write_meant names l } ∷ [])
-leaf_fits names (Add u) h = ((tt, known_place names files.Domain u h), tt)
-leaf_fits names (Delete u) h = ((tt, known_place names files.Domain u h), tt)
+leaf_fits : (names : List (List ℕ)) (l : LeafNode) (s : Span) → node_faults names l s ≡ [] → AllEffectsFit (length names) 0 (leaf_meant names l)
+leaf_fits names (Add u) s h = ((tt, known_place names files.Domain u h), tt)
+leaf_fits names (Delete u) s h = ((tt, known_place names files.Domain u h), tt)
+leaf_fits names _ s h = tt
 
 -- so does an effect
 mutual
   pub effect_fits : (names : List (List ℕ)) (e : effects.Effect) → effect_faults names e ≡ [] → AllEffectsFit (length names) 0 (effects_meant names e)
   effect_fits names (e_all es s) h = effects_fit names es h
-  effect_fits names (e_leaf l s) h = leaf_fits names l.node h
+  effect_fits names (e_leaf l s) h = leaf_fits names l.node l.span h
+  effect_fits names _ h = tt
 
   pub effects_fit : (names : List (List ℕ)) (es : Effects) → effects_faults names es ≡ [] → AllEffectsFit (length names) 0 (all_effects_meant names es)
   effects_fit names no_effects h = tt
@@ -75,16 +80,27 @@ no_faults d p w = go (faults_of d p) w
     go [] w = refl
     go (x ∷ xs) w = absurd (search rules)
 
+-- the faults behind those of the predicates
+abbrev late_faults : Domain → Problem → List TypeFault
+late_faults d p = init_faults (predicate_names d) p.init ++ cond_faults (predicate_names d) files.Problem p.goal
+
+behind_predicates : (d : Domain) (p : Problem) → IsTrue (is_well_typed d p) → action_faults (predicate_names d) [] d.actions ++ (domain_name_faults d p ++ (object_faults p ++ late_faults d p)) ≡ []
+behind_predicates d p w = rest_none (predicate_faults [] d.predicates) _ (rest_none (section_faults d) _ (no_faults d p w))
+
+behind_objects : (d : Domain) (p : Problem) → IsTrue (is_well_typed d p) → late_faults d p ≡ []
+behind_objects d p w =
+    rest_none (object_faults p) _ (rest_none (domain_name_faults d p) _ (rest_none (action_faults (predicate_names d) [] d.actions) _ (behind_predicates d p w)))
+
 actions_none : (d : Domain) (p : Problem) → IsTrue (is_well_typed d p) → action_faults (predicate_names d) [] d.actions ≡ []
-actions_none d p w = first_none _ _ (rest_none (predicate_faults [] d.predicates) _ (no_faults d p w))
+actions_none d p w = first_none _ _ (behind_predicates d p w)
 
 init_none : (d : Domain) (p : Problem) → IsTrue (is_well_typed d p) → init_faults (predicate_names d) p.init ≡ []
 init_none d p w =
-    first_none _ _ (rest_none (domain_name_faults d p) _ (rest_none (action_faults (predicate_names d) [] d.actions) _ (rest_none (predicate_faults [] d.predicates) _ (no_faults d p w))))
+    first_none _ _ (behind_objects d p w)
 
 goal_none : (d : Domain) (p : Problem) → IsTrue (is_well_typed d p) → cond_faults (predicate_names d) files.Problem p.goal ≡ []
 goal_none d p w =
-    rest_none (init_faults (predicate_names d) p.init) _ (rest_none (domain_name_faults d p) _ (rest_none (action_faults (predicate_names d) [] d.actions) _ (rest_none (predicate_faults [] d.predicates) _ (no_faults d p w))))
+    rest_none (init_faults (predicate_names d) p.init) _ (behind_objects d p w)
 
 -- a table of the predicates has no fault in the initial atoms
 pub init_of_table : (d : Domain) (p : Problem) (names : List (List ℕ)) → names ≡ predicate_names d → IsTrue (is_well_typed d p) → init_faults names p.init ≡ []
@@ -109,7 +125,7 @@ expanded_fits d p w n = record {
 pub schema_fits : (names earlier : List (List ℕ)) (a : Schema) → schema_faults names earlier a ≡ [] → ActionFits (length names) 0 (action_meant names a)
 unfolding schema_faults
 schema_fits names earlier a e =
-    let rest = rest_none _ _ e in
+    let rest = rest_none _ _ (rest_none _ _ e) in
     (cond_fits names files.Domain true a.condition (first_none _ _ rest), effect_fits names a.effect (rest_none _ _ rest))
 
 pub schemas_fit : (names earlier : List (List ℕ)) (xs : List Schema) (i : ℕ) (a : Schema) → action_faults names earlier xs ≡ [] → slice_get xs i ≡ Some a → ActionFits (length names) 0 (action_meant names a)

@@ -6,7 +6,7 @@ ghost use Rattle.plus_model.specs.Plan.{Instance};
 ghost use Rattle.plus_state.specs.View.{problem_of, labels_of, action_of};
 ghost use Rattle.plus_state.specs.Fits.{ProblemFits, ActionFits};
 ghost use Rattle.plus_types.specs.Faults.{init_faults, predicate_names, action_names, is_empty};
-ghost use Rattle.plus_ground.specs.Expansion.{initial_state, expanded, labels_meant, label_of, called_of};
+ghost use Rattle.plus_ground.specs.Expansion.{initial_state, entered, HasPlace, expanded, labels_meant, label_of, called_of};
 ghost use Rattle.plus_ground.specs.Refusals.{NamesAction, RefusesGround, RefusesCall};
 
 use crate::faults::{Count, GroundFault, InstanceFault};
@@ -30,6 +30,19 @@ fn atom_labels(alloc: Global, heads: &[Head]) -> Result<Vec<Label>, AllocError>
     Ok(labels)
 }
 
+// Enters a member of `:init`.
+fn enter<Q: Exact>(names: &Names, member: &Init, state: &mut State<Q>)
+    requires few { length names.now < 2 ^ 32 }
+    requires within { HasPlace names.now member.now state.old }
+    ensures { state.new ≡ entered names.now member.now state.old }
+{
+    match member {
+        Init::Holds(used) => state.put(atom_id(names, used), true),
+        // Stand in no well-typed pair yet.
+        Init::Absent(_, _) | Init::Value(_, _, _) => {}
+    }
+}
+
 #[tactic(auto, using(crate::proofs::InitialLemmas::initially))]
 fn initial<Q: Exact>(alloc: Global, names: &Names, inits: &[Init]) -> Result<State<Q>, AllocError>
     requires few { length names.now < 2 ^ 32 }
@@ -38,9 +51,7 @@ fn initial<Q: Exact>(alloc: Global, names: &Names, inits: &[Init]) -> Result<Sta
 {
     let mut state = State::new(alloc, names.len() as u32, 0)?;
     'members: for member in inits {
-        match member {
-            Init::Holds(used) => state.put(atom_id(names, used), true),
-        }
+        enter(names, member, &mut state);
     }
     Ok(state)
 }

@@ -4,7 +4,7 @@ ghost use Rattle.std.specs.Prelude.{◌≡◌, ◌<◌, ◌^◌, ◌++◌, true,
 ghost use Rattle.plus_state.specs.View.{condition_of, write_of, effect_of, action_of};
 ghost use Rattle.plus_model.specs.Terms.{Always};
 ghost use Rattle.plus_state.specs.Tests.{joined};
-ghost use Rattle.plus_ground.specs.Expansion.{number_of, meaning_of, write_meant, effects_meant, action_meant, label_of};
+ghost use Rattle.plus_ground.specs.Expansion.{number_of, meaning_of, unguarded, leaf_meant, effects_meant, action_meant, label_of};
 
 use plus_number::exact::Exact;
 use plus_state::{Action, AtomId, Cond, Effect, Label, Write};
@@ -60,27 +60,60 @@ pub fn condition<Q: Exact>(
             atom: atom_id(names, used),
             positive,
         }),
+        // Stands in no well-typed pair yet.
+        CondNode::Any(_)
+        | CondNode::Imply(_, _)
+        | CondNode::ForAll(_, _)
+        | CondNode::Exists(_, _)
+        | CondNode::Same(_, _)
+        | CondNode::Compare(_, _, _) => Ok(always(alloc)),
     }
 }
 
-fn write<Q: Exact>(names: &Names, leaf: &LeafNode) -> Write<Q>
-    requires { length names.now < 2 ^ 32 }
-    ensures { write_of Q.value result ≡ write_meant names.now leaf.now }
+// The condition that always holds.
+#[tactic(auto, using(crate::proofs::FormsLemmas::no_members))]
+fn always<Q: Exact>(alloc: Global) -> Cond<Q>
+    ensures { condition_of Q.value result ≡ Always }
 {
-    match leaf {
-        LeafNode::Add(used) => Write::Add(atom_id(names, used)),
-        LeafNode::Delete(used) => Write::Delete(atom_id(names, used)),
-    }
+    Cond::All(Vec::new(alloc))
 }
 
 // One write, without a guard.
-#[tactic(auto, using(crate::proofs::FormsLemmas::no_members))]
 fn unguarded<Q: Exact>(alloc: Global, write: Write<Q>) -> Effect<Q>
-    ensures { effect_of Q.value result ≡ record { guard = Always; write = write_of Q.value write } }
+    ensures { effect_of Q.value result ≡ unguarded (write_of Q.value write) }
 {
     Effect {
-        guard: Cond::All(Vec::new(alloc)),
+        guard: always(alloc),
         write,
+    }
+}
+
+// Adds what a write does.
+fn leaf<Q: Exact>(
+    alloc: Global,
+    names: &Names,
+    leaf: &LeafNode,
+    into: &mut Vec<Effect<Q>>,
+) -> Result<(), AllocError>
+    requires { length names.now < 2 ^ 32 }
+    ensures { OnOk result (map (effect_of Q.value) into.new.items
+        ≡ map (effect_of Q.value) into.old.items ++ leaf_meant names.now leaf.now) }
+{
+    match leaf {
+        LeafNode::Add(used) => {
+            into.push(unguarded(alloc, Write::Add(atom_id(names, used))))?;
+            Ok(())
+        }
+        LeafNode::Delete(used) => {
+            into.push(unguarded(alloc, Write::Delete(atom_id(names, used))))?;
+            Ok(())
+        }
+        // Stands in no well-typed pair yet.
+        LeafNode::Assign(_, _)
+        | LeafNode::Increase(_, _)
+        | LeafNode::Decrease(_, _)
+        | LeafNode::ScaleUp(_, _)
+        | LeafNode::ScaleDown(_, _) => Ok(()),
     }
 }
 
@@ -102,10 +135,9 @@ pub fn effects<Q: Exact>(
             }
             Ok(())
         }
-        EffectNode::Leaf(leaf) => {
-            into.push(unguarded(alloc, write(names, &leaf.node)))?;
-            Ok(())
-        }
+        EffectNode::Leaf(write) => leaf(alloc, names, &write.node, into),
+        // Stands in no well-typed pair yet.
+        EffectNode::ForAll(_, _) | EffectNode::When(_, _) => Ok(()),
     }
 }
 

@@ -8,7 +8,7 @@ use Rattle.plus_tokens.specs.declared.token.Kind.TheVariants as kinds
 use Rattle.plus_tokens.specs.declared.token.Op.{Op}
 use Rattle.plus_tokens.specs.declared.token.Op.TheVariants as ops
 use Rattle.plus_tree.specs.declared.names.Span.{Span}
-use Rattle.plus_tree.specs.declared.trees.Use.{Use}
+use Rattle.plus_tree.specs.declared.terms.Use.{Use}
 use Rattle.plus_tree.specs.Cond.{Cond, c_all, c_not, c_atom, Conds, no_conds, more_conds, conds_of}
 use Rattle.plus_parser.specs.declared.words.HeadWord.{HeadWord}
 use Rattle.plus_parser.specs.declared.words.HeadWord.TheVariants.{Nothing, And, Not, ForAll, OfCondition, OfEffect, Plain, Other}
@@ -153,11 +153,11 @@ use_again later room front head k rest e = ap (λ (r : Read Piece). r >>= λ k. 
 
 pub use_spelled : (u : Use) (s : Span) (head k first : Piece) → u ≡ use_of head (around s k.span) → IsPlain head → IsOpen first → IsClose k → first.span ≡ s → SpellsUse u (first ∷ head ∷ k ∷ [])
 use_spelled u s head k first e plain opens close place =
-    (head, plain, record { first = first; last = k; opens = opens; closes = close; place = ap (λ (v : Use). v.span) e ∙ (λ i. around (sym place i) k.span); whole = refl }, ap (λ (v : Use). v.head) e)
+    (head, plain, record { first = first; last = k; opens = opens; closes = close; place = ap (λ (v : Use). v.span) e ∙ (λ i. around (sym place i) k.span); whole = refl }, ap (λ (v : Use). v.head) e, ap (λ (v : Use). v.args) e)
 
 -- what is spelled as a use is this use
 pub use_made : (u : Use) (ts : List Piece) → (h : SpellsUse u ts) → use_of h.0 (around h.2.first.span h.2.last.span) ≡ u
-use_made u ts h = λ i. record { head = sym h.3 i; span = sym h.2.place i }
+use_made u ts h = λ i. record { head = sym h.3 i; args = sym h.4 i; span = sym h.2.place i }
 
 -- ---- conditions
 
@@ -182,6 +182,7 @@ pub cond_begins : (room : ℕ) → Begins SpellsCond room
 cond_begins room (c_all cs s) ts h = let w = h.1 in (w.first, h.0 ++ w.last ∷ [], w.opens, w.whole)
 cond_begins room (c_not c s) ts h = let w = h.3 in (w.first, (h.0 ∷ h.1) ++ w.last ∷ [], w.opens, w.whole)
 cond_begins room (c_atom u s) ts h = let w = h.1.2 in (w.first, (h.1.0 ∷ []) ++ w.last ∷ [], w.opens, w.whole)
+cond_begins room _ ts h = absurd h
 
 body_takes : (room : ℕ) (read : Former Cond) → FormTakes SpellsCond room read → FormTakes SpellsCond (suc room) (cond_body room read)
 unfolding cond_body
@@ -295,6 +296,7 @@ body_again room read again (c_atom u s) ts first inner rest h e ev =
     plain_step room read w.first.span (tok a ∷ tok w.last ∷ rest) (tok w.last ∷ rest) rest a made (name_again room a (tok w.last ∷ rest) (plain_name a h.1.1)) (plain_head a h.1.1) (use_again laters.Term room w.first.span a w.last rest w.closes)
     ∙ ap (λ (v : Use). Ok (c_atom v v.span, rest)) (use_made u ts h.1)
     ∙ ap (λ (place : Span). Ok (c_atom u place, rest)) (sym h.0))
+body_again room read again _ ts first inner rest h e ev = absurd h
 
 pub cond_again : (room : ℕ) → FormAgain SpellsCond room (cond_at room)
 unfolding cond_at

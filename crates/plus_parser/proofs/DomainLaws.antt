@@ -78,7 +78,7 @@ requirement_again room s s' x ts rest h ev a =
 predicate_takes : (room : ℕ) → FormTakes SpellsHead room (predicate_at room)
 unfolding predicate_at
 predicate_takes room s items h rest some e =
-    let made = λ (n : Piece) (k : Span). let x : Head = record { name = spelled_of n; span = around s k } in x in
+    let made = λ (n : Piece) (k : Span). let x : Head = record { name = spelled_of n; params = []; span = around s k } in x in
     let a = bind_ok (plain_of (room - 1) items) (λ n. close_of laters.Variable (room - 1) n.1 >>= λ k. Ok (made n.0 k.0.span, k.1)) (h, rest) e in
     let b = bind_ok (close_of laters.Variable (room - 1) a.0.1) (λ k. Ok (made a.0.0 k.0.span, k.1)) (h, rest) a.2 in
     let both = ok_is (made a.0.0 b.0.0.span, b.0.1) (h, rest) b.2 in
@@ -88,7 +88,7 @@ predicate_takes room s items h rest some e =
     (close_took SpellsHead room (room - 1) (omega (arith, some)) (made a.0.0 b.0.0.span) s (a.0.0 ∷ []) b.0.0 items b.0.1 (close_kind b.0.0.kind k.fits)
     (n.whole ∙ ap (λ (is : List Item). tok a.0.0 ∷ is) k.whole)
     ((name_flat a.0.0 (plain_name a.0.0 n.fits)).room (room - 1) [])
-    (λ first opens place w. (a.0.0, n.fits, w, refl)))
+    (λ first opens place w. (a.0.0, n.fits, w, refl, refl)))
 
 predicate_begins : (room : ℕ) → Begins SpellsHead room
 predicate_begins room h ts e = let w = e.2 in (w.first, (e.0 ∷ []) ++ w.last ∷ [], w.opens, w.whole)
@@ -97,7 +97,7 @@ predicate_levels : (room : ℕ) → Levels SpellsHead with_last (form_step (pred
 predicate_levels room x ts h =
     level_wrapped x.span (h.0 ∷ []) ts h.2 (flat_level h.0 [] (name_flat h.0 (plain_name h.0 h.1)) (λ r. inl refl))
 
-predicate_step : (room : ℕ) (front : Span) (n k : Piece) (items r1 r2 : List Item) → plain_of (room - 1) items ≡ Ok (n, r1) → close_of laters.Variable (room - 1) r1 ≡ Ok (k, r2) → predicate_at room front items ≡ Ok (record { name = spelled_of n; span = around front k.span }, r2)
+predicate_step : (room : ℕ) (front : Span) (n k : Piece) (items r1 r2 : List Item) → plain_of (room - 1) items ≡ Ok (n, r1) → close_of laters.Variable (room - 1) r1 ≡ Ok (k, r2) → predicate_at room front items ≡ Ok (record { name = spelled_of n; params = []; span = around front k.span }, r2)
 unfolding predicate_at
 predicate_step room front n k items r1 r2 e e1 = rw (e, e1) refl
 
@@ -107,7 +107,7 @@ predicate_again room x ts first inner rest h e ev =
     let w = h.2 in
     enters SpellsHead room (predicate_at room) x x.span (n ∷ []) ts w first inner rest e (flat_level n [] (name_flat n (plain_name n h.1)) (λ r. inl refl)) ev (λ r under er.
     predicate_step room w.first.span n w.last (tok n ∷ tok w.last ∷ rest) (tok w.last ∷ rest) rest (plain_again (room - 1) n (tok w.last ∷ rest) h.1) (close_again laters.Variable (room - 1) w.last rest w.closes)
-    ∙ (λ i. Ok (record { name = sym h.3 i; span = sym w.place i }, rest)))
+    ∙ (λ i. Ok (record { name = sym h.3 i; params = sym h.4 i; span = sym w.place i }, rest)))
 
 -- ---- actions
 

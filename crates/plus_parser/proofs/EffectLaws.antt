@@ -2,7 +2,7 @@
 use Rattle.std.proofs.Common.{◌≡◌, ℕ, zero, suc, ◌-◌, ◌<◌, true, false, List, [], ◌∷◌, ◌++◌, length, Ok, refl, sym, ap, ◌∙◌, subst, inl, inr, ⊎_elim, arith}
 use Rattle.std.specs.Prelude.{codes}
 use Rattle.plus_tree.specs.declared.names.Span.{Span}
-use Rattle.plus_tree.specs.declared.trees.Use.{Use}
+use Rattle.plus_tree.specs.declared.terms.Use.{Use}
 use Rattle.plus_tree.specs.declared.trees.LeafNode.{LeafNode}
 use Rattle.plus_tree.specs.declared.trees.LeafNode.TheVariants.{Add, Delete}
 use Rattle.plus_tree.specs.Effect.{Effect, e_all, e_leaf, Effects, no_effects, more_effects, effects_of}
@@ -45,10 +45,12 @@ effects_chain (more_effects e es) ts h = (h.0, h.1, h.2, effects_chain es h.1 h.
 leaf_begins : (n : LeafNode) (s : Span) (ts : List Piece) → SpellsLeafNode n s ts → (first : Piece) × (inner : List Piece) × IsOpen first × (ts ≡ first ∷ inner)
 leaf_begins (Add u) s ts h = let w = h.1.2 in (w.first, (h.1.0 ∷ []) ++ w.last ∷ [], w.opens, w.whole)
 leaf_begins (Delete u) s ts h = let w = h.3 in (w.first, (h.0 ∷ h.1) ++ w.last ∷ [], w.opens, w.whole)
+leaf_begins _ s ts h = absurd h
 
 pub effect_begins : (room : ℕ) → Begins SpellsEffect room
 effect_begins room (e_all es s) ts h = let w = h.1 in (w.first, h.0 ++ w.last ∷ [], w.opens, w.whole)
 effect_begins room (e_leaf l s) ts h = leaf_begins l.node l.span ts h.1
+effect_begins room _ ts h = absurd h
 
 body_takes : (room : ℕ) (read : Former Effect) → FormTakes SpellsEffect room read → FormTakes SpellsEffect (suc room) (effect_body room read)
 unfolding effect_body
@@ -150,6 +152,7 @@ leaf_again room read (Delete u) s ts first inner rest h e ev =
     let opened : open_of room (toks one left) ≡ Ok (v.first, tok n ∷ tok v.last ∷ left) = ap (λ (ps : List Piece). open_of room (toks ps left)) v.whole ∙ open_again room v.first (tok n ∷ tok v.last ∷ left) v.opens some in
     not_step room read w.first.span v.first n w.last (tok a ∷ toks one left) (toks one left) (tok n ∷ tok v.last ∷ left) (tok v.last ∷ left) left rest a made (name_again room a (toks one left) h.2.0) (not_head a h.2) opened (plain_again (room - 1) n (tok v.last ∷ left) h.4.1) (use_again laters.Term (room - 1) v.first.span n v.last left v.closes) (close_again laters.Nothing room w.last rest w.closes)
     ∙ (λ i. Ok (e_leaf (delete_of (use_made u one h.4 i) (sym w.place i)) (sym w.place i), rest)))
+leaf_again room read _ s ts first inner rest h e ev = absurd h
 
 body_again : (room : ℕ) (read : Former Effect) → FormAgain SpellsEffect room read → FormAgain SpellsEffect (suc room) (effect_body room read)
 body_again room read again (e_all es s) ts first inner rest h e ev =
@@ -175,6 +178,7 @@ body_again room read again (e_all es s) ts first inner rest h e ev =
     h.2
 body_again room read again (e_leaf l s) ts first inner rest h e ev =
     leaf_again room read l.node l.span ts first inner rest h.1 e ev ∙ ap (λ (place : Span). Ok (e_leaf l place, rest)) (sym h.0)
+body_again room read again _ ts first inner rest h e ev = absurd h
 
 pub effect_again : (room : ℕ) → FormAgain SpellsEffect room (effect_at room)
 unfolding effect_at

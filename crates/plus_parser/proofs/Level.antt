@@ -6,7 +6,7 @@ use Rattle.plus_tokens.specs.declared.token.Kind.TheVariants as kinds
 use Rattle.plus_tree.specs.declared.names.Span.{Span}
 use Rattle.plus_parser.specs.Items.{Piece}
 use Rattle.plus_tree.specs.Cond.{Cond, c_all, c_not, c_atom, Conds, no_conds, more_conds}
-use Rattle.plus_tree.specs.declared.trees.Use.{Use}
+use Rattle.plus_tree.specs.declared.terms.Use.{Use}
 use Rattle.plus_tree.specs.declared.trees.LeafNode.{LeafNode}
 use Rattle.plus_tree.specs.declared.trees.LeafNode.TheVariants.{Add, Delete}
 use Rattle.plus_tree.specs.Effect.{Effect, e_all, e_leaf, Effects, no_effects, more_effects}
@@ -90,6 +90,7 @@ mutual
       level_wrapped s h.0 ts h.1 (⊎_elim (λ e. level_at h.0 [] e.1 (λ room. inl refl)) (λ e. level_at h.0 _ e.3 (level_name e.0 e.1 e.2.0 (level_conds cs e.1 e.4))) h.2)
   level_cond (c_not c s) ts h = level_wrapped s (h.0 ∷ h.1) ts h.3 (level_name h.0 h.1 h.2.0 (level_cond c h.1 h.4))
   level_cond (c_atom u s) ts h = level_use u ts h.1
+  level_cond _ ts h = absurd h
 
   pub level_conds : (cs : Conds) (ts : List Piece) → SpellsConds cs ts → Level ts
   level_conds no_conds ts h = level_at ts [] h (λ room. inl refl)
@@ -104,12 +105,14 @@ even_append room a b ea eb = after_even room a b ea ∙ eb
 pub level_leaf : (n : LeafNode) (s : Span) (ts : List Piece) → SpellsLeafNode n s ts → Level ts
 level_leaf (Add u) s ts h = level_use u ts h.1
 level_leaf (Delete u) s ts h = level_wrapped s (h.0 ∷ h.1) ts h.3 (level_name h.0 h.1 h.2.0 (level_use u h.1 h.4))
+level_leaf _ s ts h = absurd h
 
 mutual
   pub level_effect : (e : Effect) (ts : List Piece) → SpellsEffect e ts → Level ts
   level_effect (e_all es s) ts h =
       level_wrapped s h.0 ts h.1 (⊎_elim (λ e. level_at h.0 [] e.1 (λ room. inl refl)) (λ e. level_at h.0 _ e.3 (level_name e.0 e.1 e.2.0 (level_effects es e.1 e.4))) h.2)
   level_effect (e_leaf l s) ts h = level_leaf l.node l.span ts h.1
+  level_effect _ ts h = absurd h
 
   pub level_effects : (es : Effects) (ts : List Piece) → SpellsEffects es ts → Level ts
   level_effects no_effects ts h = level_at ts [] h (λ room. inl refl)

@@ -4,7 +4,7 @@ use Rattle.std.specs.Prelude.{◌⊎◌, ◌&&◌, map, is_some, unwrap_or, opti
 use Rattle.std.proofs.lemmas.Bool.{cond-false}
 use Rattle.plus_tree.specs.declared.names.Span.{Span}
 use Rattle.plus_tree.specs.declared.names.Spelled.{Spelled}
-use Rattle.plus_tree.specs.declared.trees.Use.{Use}
+use Rattle.plus_tree.specs.declared.terms.Use.{Use}
 use Rattle.plus_tree.specs.declared.trees.Init.{Init}
 use Rattle.plus_tree.specs.declared.trees.Init.TheVariants.{Holds}
 use Rattle.plus_tree.specs.declared.trees.Problem.{Problem}
@@ -56,9 +56,11 @@ init_takes room s items x rest some e =
 
 init_begins : (room : ℕ) → Begins SpellsInit room
 init_begins room (Holds u) ts h = let w = h.2 in (w.first, (h.0 ∷ []) ++ w.last ∷ [], w.opens, w.whole)
+init_begins room _ ts h = absurd h
 
 init_levels : (room : ℕ) → Levels SpellsInit with_last (form_step (init_at room)) room
 init_levels room (Holds u) ts h = level_use u ts h
+init_levels room _ ts h = absurd h
 
 init_turn : (room : ℕ) (front : Span) (p : Piece) (u : Use) (items r1 r2 : List Item) → next_of (room - 1) items ≡ Ok (p, r1) → is_plain p ≡ true → use_end (after_head p) (room - 1) front p r1 ≡ Ok (u, r2) → init_at room front items ≡ Ok (Holds u, r2)
 unfolding init_at
@@ -75,6 +77,7 @@ init_again room (Holds u) ts first inner rest h e ev =
     enters SpellsInit room (init_at room) (Holds u) u.span (a ∷ []) ts w first inner rest e (level_name a [] is_name (λ r. inl refl)) ev (λ r under er.
     init_turn room w.first.span a (use_of a (around w.first.span w.last.span)) (tok a ∷ tok w.last ∷ rest) (tok w.last ∷ rest) rest (name_again (room - 1) a (tok w.last ∷ rest) is_name) h.1 (use_again (after_head a) (room - 1) w.first.span a w.last rest w.closes)
     ∙ ap (λ (v : Use). Ok (Holds v, rest)) (use_made u ts h))
+init_again room _ ts first inner rest h e ev = absurd h
 
 -- ---- sections
 
@@ -259,12 +262,12 @@ early_ok last (Some y) x e = ap Some (ok_is y x e)
 made_name : (n : Spelled) (ps : ProblemParts) (s : Span) (p : Problem) → problem_made n ps s ≡ Some p → (n ≡ p.name) × (s ≡ p.span)
 made_name n ps s p e = at_parts ps.domain ps.init ps.goal e
   where
-    at_parts : (d : Option Spelled) (i : Option (List Init)) (g : Option Cond) → option_and_then (λ d. option_and_then (λ i. option_and_then (λ g. Some (record { name = n; domain = d; requirements = unwrap_or ps.requirements []; init = i; goal = g; span = s })) g) i) d ≡ Some p → (n ≡ p.name) × (s ≡ p.span)
+    at_parts : (d : Option Spelled) (i : Option (List Init)) (g : Option Cond) → option_and_then (λ d. option_and_then (λ i. option_and_then (λ g. Some (record { name = n; domain = d; requirements = unwrap_or ps.requirements []; objects = []; init = i; goal = g; span = s })) g) i) d ≡ Some p → (n ≡ p.name) × (s ≡ p.span)
     at_parts None i g e = absurd cc
     at_parts (Some d) None g e = absurd cc
     at_parts (Some d) (Some i) None e = absurd cc
     at_parts (Some d) (Some i) (Some g) e =
-        let made : Problem = record { name = n; domain = d; requirements = unwrap_or ps.requirements []; init = i; goal = g; span = s } in
+        let made : Problem = record { name = n; domain = d; requirements = unwrap_or ps.requirements []; objects = []; init = i; goal = g; span = s } in
         let same : made ≡ p = some_is made p e in
         (ap (λ (x : Problem). x.name) same, ap (λ (x : Problem). x.span) same)
 

@@ -3,7 +3,7 @@
 use Rattle.std.specs.Prelude.{ℕ, zero, suc, ◌-◌, Bool, true, false, List, [], ◌∷◌, ◌++◌, length, Ok, Err, if◌then◌else◌}
 use Rattle.plus_tree.specs.declared.names.Span.{Span}
 use Rattle.plus_tree.specs.declared.names.Spelled.{Spelled}
-use Rattle.plus_tree.specs.declared.trees.Use.{Use}
+use Rattle.plus_tree.specs.declared.terms.Use.{Use}
 use Rattle.plus_tree.specs.declared.trees.Leaf.{Leaf}
 use Rattle.plus_tree.specs.declared.trees.LeafNode.TheVariants.{Add, Delete}
 use Rattle.plus_tree.specs.declared.faults.TextFault.{TextFault}
@@ -91,7 +91,7 @@ form_step read xs p rest =
 -- ---- conditions
 
 abbrev pub use_of : Piece → Span → Use
-use_of head s = record { head = spelled_of head; span = s }
+use_of head s = record { head = spelled_of head; args = []; span = s }
 
 -- a predicate that is used, behind its name
 unfoldable pub use_end : Later → ℕ → Span → Piece → List Item → Read Use

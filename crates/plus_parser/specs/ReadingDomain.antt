@@ -35,7 +35,7 @@ unfoldable pub predicate_at : ℕ → Former Head
 predicate_at room front items = do
   n ← plain_of (room - 1) items
   e ← close_of laters.Variable (room - 1) n.1
-  Ok (record { name = spelled_of n.0; span = around front e.0.span }, e.1)
+  Ok (record { name = spelled_of n.0; params = []; span = around front e.0.span }, e.1)
 
 -- ---- actions
 
@@ -68,7 +68,7 @@ or_nothing None = e_all no_effects nowhere
 or_nothing (Some e) = e
 
 abbrev pub schema_made : Spelled → Keys → Span → Schema
-schema_made n found s = record { name = n; condition = or_all found.condition; effect = or_nothing found.effect; span = s }
+schema_made n found s = record { name = n; params = []; condition = or_all found.condition; effect = or_nothing found.effect; span = s }
 
 unfoldable pub schema_of : ℕ → Span → List Item → Read Schema
 schema_of room front items = do
@@ -136,8 +136,13 @@ abbrev pub domain_made : Spelled → DomainParts → Span → Domain
 domain_made n parts s = record {
   name = n;
   requirements = unwrap_or parts.requirements [];
+  types = [];
+  constants = [];
   predicates = unwrap_or parts.predicates [];
+  functions = [];
   actions = parts.actions;
+  processes = [];
+  events = [];
   span = s;
 }
 

@@ -71,6 +71,7 @@ problem_made n parts s =
       name = n;
       domain = d;
       requirements = unwrap_or parts.requirements [];
+      objects = [];
       init = i;
       goal = g;
       span = s;

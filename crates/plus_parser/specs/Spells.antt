@@ -3,7 +3,7 @@ use Rattle.std.specs.Prelude.{◌≡◌, ℕ, zero, suc, ◌+◌, ◌⊎◌, tru
 use Rattle.plus_tokens.specs.declared.token.Kind.{Kind}
 use Rattle.plus_tokens.specs.declared.token.Kind.TheVariants as kinds
 use Rattle.plus_tree.specs.declared.names.Span.{Span}
-use Rattle.plus_tree.specs.declared.trees.Use.{Use}
+use Rattle.plus_tree.specs.declared.terms.Use.{Use}
 use Rattle.plus_tree.specs.declared.trees.LeafNode.{LeafNode}
 use Rattle.plus_tree.specs.declared.trees.LeafNode.TheVariants.{Add, Delete}
 use Rattle.plus_tree.specs.Cond.{Cond, c_all, c_not, c_atom, Conds, no_conds, more_conds}
@@ -54,7 +54,7 @@ with_last xs x = Some (xs ++ x ∷ [])
 
 -- `(locked)`
 abbrev pub SpellsUse : Use → List Piece → Type 0
-SpellsUse u ts = (a : Piece) × IsPlain a × Wrapped u.span (a ∷ []) ts × (u.head ≡ spelled_of a)
+SpellsUse u ts = (a : Piece) × IsPlain a × Wrapped u.span (a ∷ []) ts × (u.head ≡ spelled_of a) × (u.args ≡ [])
 
 -- `()`, `(and ..)`, `(not ..)` and an atom
 abbrev mutual
@@ -66,6 +66,7 @@ abbrev mutual
   SpellsCond (c_not c s) ts =
       (a : Piece) × (inner : List Piece) × IsWord (codes "not") a × Wrapped s (a ∷ inner) ts × SpellsCond c inner
   SpellsCond (c_atom u s) ts = (s ≡ u.span) × SpellsUse u ts
+  SpellsCond _ ts = ⊥
 
   pub SpellsConds : Conds → List Piece → Type 0
   SpellsConds no_conds ts = ts ≡ []
@@ -77,6 +78,7 @@ abbrev pub SpellsLeafNode : LeafNode → Span → List Piece → Type 0
 SpellsLeafNode (Add u) s ts = (s ≡ u.span) × SpellsUse u ts
 SpellsLeafNode (Delete u) s ts =
     (a : Piece) × (inner : List Piece) × IsWord (codes "not") a × Wrapped s (a ∷ inner) ts × SpellsUse u inner
+SpellsLeafNode _ s ts = ⊥
 
 -- `()`, `(and ..)` and a leaf
 abbrev mutual
@@ -86,6 +88,7 @@ abbrev mutual
       × (((es ≡ no_effects) × (body ≡ []))
       ⊎ ((a : Piece) × (inner : List Piece) × IsWord (codes "and") a × (body ≡ a ∷ inner) × SpellsEffects es inner))
   SpellsEffect (e_leaf l s) ts = (s ≡ l.span) × SpellsLeafNode l.node l.span ts
+  SpellsEffect _ ts = ⊥
 
   pub SpellsEffects : Effects → List Piece → Type 0
   SpellsEffects no_effects ts = ts ≡ []

@@ -22,7 +22,7 @@ abbrev pub SpellsRequirement : Spelled → List Piece → Type 0
 SpellsRequirement x ts = (p : Piece) × (p.kind ≡ kinds.Keyword) × (x ≡ keyword_of p) × (ts ≡ p ∷ [])
 
 abbrev pub SpellsHead : Head → List Piece → Type 0
-SpellsHead h ts = (n : Piece) × IsPlain n × Wrapped h.span (n ∷ []) ts × (h.name ≡ spelled_of n)
+SpellsHead h ts = (n : Piece) × IsPlain n × Wrapped h.span (n ∷ []) ts × (h.name ≡ spelled_of n) × (h.params ≡ [])
 
 -- ---- actions
 

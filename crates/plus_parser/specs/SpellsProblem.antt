@@ -17,6 +17,7 @@ use Rattle.plus_parser.specs.SpellsDomain.{SpellsRequirement, Framed}
 
 abbrev pub SpellsInit : Init → List Piece → Type 0
 SpellsInit (Holds u) ts = SpellsUse u ts
+SpellsInit _ ts = ⊥
 
 pub data ProblemPart : Type 0 where
   p_domain : Spelled → ProblemPart

@@ -7,7 +7,7 @@ ghost use Rattle.plus_parser.specs.Seen.{seen};
 
 use crate::reader::{Reader, Seen};
 use crate::words::{HeadWord, Later, head_of, is_close, is_open};
-use plus_tree::{CondNode, CondTree, Span, TextFault, Use};
+use plus_tree::{Args, CondNode, CondTree, Span, TextFault, Use};
 use std::alloc::Global;
 
 /// From an opening parenthesis to the end of a closing one.
@@ -37,6 +37,7 @@ pub fn use_end(
     let last = reader.close(later, room)?;
     Ok(Use {
         head: head.spelled(alloc)?,
+        args: Args::new(alloc),
         span: around(front, last.span),
     })
 }

@@ -80,6 +80,7 @@ fn predicate(
     let last = reader.close(Later::Variable, room - 1)?;
     Ok(Head {
         name: head.spelled(alloc)?,
+        params: Members::new(alloc),
         span: around(front, last.span),
     })
 }
@@ -162,6 +163,26 @@ fn key(
     }
 }
 
+// The parts of an action up to its closing parenthesis, which are added to what was found.
+fn keys_into(
+    alloc: Global,
+    reader: &mut Reader<'_>,
+    room: u8,
+    found: &mut Keys,
+) -> Result<Span, TextFault>
+    ensures gives { Gives (λ last. (found.new, last)) reader.new result
+        (until_close (key_step room) room (length reader.old) found.old reader.old) }
+    ensures shorter { OnOk result (length reader.new < length reader.old) }
+{
+    'found: loop {
+        let token = reader.next(room)?;
+        if is_close(token.kind) {
+            return Ok(token.span);
+        }
+        key(alloc, reader, room, found, &token)?;
+    }
+}
+
 // The parts of an action up to its closing parenthesis.
 fn keys(alloc: Global, reader: &mut Reader<'_>, room: u8) -> Result<(Keys, Span), TextFault>
     ensures gives { Gives (λ x. x) reader.new result
@@ -173,13 +194,8 @@ fn keys(alloc: Global, reader: &mut Reader<'_>, room: u8) -> Result<(Keys, Span)
         condition: None,
         effect: None,
     };
-    'found: loop {
-        let token = reader.next(room)?;
-        if is_close(token.kind) {
-            return Ok((found, token.span));
-        }
-        key(alloc, reader, room, &mut found, &token)?;
-    }
+    let last = keys_into(alloc, reader, room, &mut found)?;
+    Ok((found, last))
 }
 
 const NOWHERE: Span = Span { start: 0, end: 0 };
@@ -223,6 +239,7 @@ fn schema(
     let (keys, last) = keys(alloc, reader, room)?;
     Ok(Schema {
         name: name.spelled(alloc)?,
+        params: Members::new(alloc),
         condition: or_all(alloc, keys.condition),
         effect: or_nothing(alloc, keys.effect),
         span: around(front, last),
@@ -364,8 +381,13 @@ pub fn domain(alloc: Global, reader: &mut Reader<'_>) -> Result<Domain, TextFaul
     Ok(Domain {
         name,
         requirements: or_none(alloc, parts.requirements),
+        types: Members::new(alloc),
+        constants: Members::new(alloc),
         predicates: or_none(alloc, parts.predicates),
+        functions: Members::new(alloc),
         actions: parts.actions,
+        processes: Members::new(alloc),
+        events: Members::new(alloc),
         span: around(start, last),
     })
 }

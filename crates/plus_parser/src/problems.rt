@@ -224,6 +224,7 @@ fn made(
         name,
         domain,
         requirements: or_none(alloc, requirements),
+        objects: Members::new(alloc),
         init,
         goal,
         span,

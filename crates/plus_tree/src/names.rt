@@ -1,6 +1,6 @@
 //! Names, and where they stand.
 
-ghost use Rattle.std.specs.Prelude.{◌≡◌, IfOk, map};
+ghost use Rattle.std.specs.Prelude.{◌≡◌, [], IfOk, map};
 ghost use Rattle.plus_tree.specs.Lowered.{lowered};
 
 use std::alloc::{AllocError, Global};
@@ -68,4 +68,18 @@ impl Name {
 pub struct Spelled {
     pub name: Name,
     pub span: Span,
+}
+
+impl Spelled {
+    /// The name without a byte, which stands from 0 to 0.
+    pub fn nothing(alloc: Global) -> Spelled
+        ensures { result ≡ record { name = []; span = record { start = 0; «end» = 0 } } }
+    {
+        Spelled {
+            name: Name {
+                bytes: Vec::new(alloc),
+            },
+            span: Span { start: 0, end: 0 },
+        }
+    }
 }

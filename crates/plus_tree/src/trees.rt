@@ -3,13 +3,56 @@
 
 use crate::lists::{Members, NameArgs};
 use crate::names::{Name, Span, Spelled};
+use crate::terms::{Comparison, Literal, Term, TypedName, Use};
 use std::marker::Model;
 
-/// A predicate that is used, as `(locked)`.
+/// An expression. Contracts see it as an `Expr`.
+#[cycle(expr)]
 #[derive(Debug, Drop)]
-pub struct Use {
-    pub head: Spelled,
+pub struct ExprTree {
+    pub node: ExprNode,
     pub span: Span,
+}
+
+/// What an expression is worth.
+#[cycle(expr)]
+#[derive(Debug, Drop)]
+pub enum ExprNode {
+    /// This number. Its place is that of the expression.
+    Number(Literal),
+    /// The time that passes in a process: `#t`.
+    Clock,
+    /// The value of this fluent. Its place is that of the expression.
+    Fluent(Use),
+    /// `(+ ..)`, of two or more.
+    Sum(Vec<ExprTree>),
+    /// `(* ..)`, of two or more.
+    Product(Vec<ExprTree>),
+    /// `(- x)`
+    Minus(Box<ExprTree>),
+    /// `(- x y)`
+    Difference(Box<ExprTree>, Box<ExprTree>),
+    /// `(/ x y)`
+    Quotient(Box<ExprTree>, Box<ExprTree>),
+}
+
+impl Model for ExprTree {
+    ghost use Rattle.plus_tree.specs.Expr.{Expr, expr_code};
+
+    ghost Value = { Expr };
+
+    ghost coded = { expr_code };
+
+    ghost use Rattle.plus_tree.specs.ExprView.{expr_view};
+    ghost use Rattle.plus_tree.specs.Expr.{expr_size};
+
+    ghost view = { λ a. expr_view a.node a.span };
+
+    ghost size = { expr_size };
+
+    ghost use Rattle.plus_tree.specs.ExprFalls.{expr_falls};
+
+    ghost size_decreases = { λ a h. expr_falls a.node a.span };
 }
 
 /// A condition. Contracts see it as a `Cond`.
@@ -26,10 +69,22 @@ pub struct CondTree {
 pub enum CondNode {
     /// Each of these holds: `(and ..)`. With no member it always holds.
     All(Vec<CondTree>),
+    /// One of these holds: `(or ..)`. With no member it never holds.
+    Any(Vec<CondTree>),
     /// This one does not hold: `(not ..)`.
     Not(Box<CondTree>),
-    /// This atom is true.
+    /// The second holds where the first does: `(imply ..)`.
+    Imply(Box<CondTree>, Box<CondTree>),
+    /// It holds for all objects in place of the variables: `(forall (..) ..)`.
+    ForAll(Members<TypedName>, Box<CondTree>),
+    /// It holds for some objects in place of the variables: `(exists (..) ..)`.
+    Exists(Members<TypedName>, Box<CondTree>),
+    /// This atom is true. Its place is that of the condition.
     Atom(Use),
+    /// The two are the same object: `(= ..)`.
+    Same(Term, Term),
+    /// The two numbers compare so.
+    Compare(Comparison, ExprTree, ExprTree),
 }
 
 impl Model for CondTree {
@@ -61,10 +116,20 @@ pub struct Leaf {
 /// What is written.
 #[derive(Debug, Drop)]
 pub enum LeafNode {
-    /// The atom becomes true.
+    /// The atom becomes true. Its place is that of the leaf.
     Add(Use),
     /// The atom becomes false: `(not ..)`.
     Delete(Use),
+    /// The fluent becomes this number: `(assign ..)`.
+    Assign(Use, ExprTree),
+    /// The fluent goes up: `(increase ..)`.
+    Increase(Use, ExprTree),
+    /// The fluent goes down: `(decrease ..)`.
+    Decrease(Use, ExprTree),
+    /// The fluent is multiplied: `(scale-up ..)`.
+    ScaleUp(Use, ExprTree),
+    /// The fluent is divided: `(scale-down ..)`.
+    ScaleDown(Use, ExprTree),
 }
 
 /// An effect. Contracts see it as an `Effect`.
@@ -81,6 +146,10 @@ pub struct EffectTree {
 pub enum EffectNode {
     /// Each of these: `(and ..)`. With no member it does nothing.
     All(Vec<EffectTree>),
+    /// This for all objects in place of the variables: `(forall (..) ..)`.
+    ForAll(Members<TypedName>, Box<EffectTree>),
+    /// These writes where the condition holds: `(when ..)`.
+    When(CondTree, Members<Leaf>),
     /// This one write. Its place is that of the effect.
     Leaf(Leaf),
 }
@@ -104,17 +173,20 @@ impl Model for EffectTree {
     ghost size_decreases = { λ a h. effect_falls a.node a.span };
 }
 
-/// A predicate that is declared.
+/// A predicate or a function that is declared.
 #[derive(Debug, Drop)]
 pub struct Head {
     pub name: Spelled,
+    pub params: Members<TypedName>,
     pub span: Span,
 }
 
-/// An action. A condition or an effect that is not written has no members, and the place 0 to 0.
+/// An action, a process or an event. A condition or an effect that is not written has no members,
+/// and the place 0 to 0.
 #[derive(Debug, Drop)]
 pub struct Schema {
     pub name: Spelled,
+    pub params: Members<TypedName>,
     pub condition: CondTree,
     pub effect: EffectTree,
     pub span: Span,
@@ -125,8 +197,14 @@ pub struct Schema {
 pub struct Domain {
     pub name: Spelled,
     pub requirements: Members<Spelled>,
+    /// Each type with the one above it.
+    pub types: Members<TypedName>,
+    pub constants: Members<TypedName>,
     pub predicates: Members<Head>,
+    pub functions: Members<Head>,
     pub actions: Members<Schema>,
+    pub processes: Members<Schema>,
+    pub events: Members<Schema>,
     pub span: Span,
 }
 
@@ -135,6 +213,10 @@ pub struct Domain {
 pub enum Init {
     /// An atom that is true at first.
     Holds(Use),
+    /// An atom that is false at first: `(not ..)`, with the place of the whole form.
+    Absent(Use, Span),
+    /// The first value of a fluent: `(= ..)`, with the place of the whole form.
+    Value(Use, Literal, Span),
 }
 
 /// A problem.
@@ -144,6 +226,7 @@ pub struct Problem {
     /// The name of the domain that the problem is for.
     pub domain: Spelled,
     pub requirements: Members<Spelled>,
+    pub objects: Members<TypedName>,
     pub init: Members<Init>,
     pub goal: CondTree,
     pub span: Span,

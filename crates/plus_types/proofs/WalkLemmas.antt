@@ -9,7 +9,7 @@ use Rattle.plus_types.specs.declared.faults.File.{File}
 use Rattle.plus_types.specs.declared.faults.File.TheVariants as files
 use Rattle.plus_types.specs.declared.faults.TypeFault.{TypeFault}
 use Rattle.plus_types.specs.declared.faults.TypeFault.TheVariants.{At, Memory}
-use Rattle.plus_types.specs.Faults.{IsFirstFault, cond_faults, conds_faults, effect_faults, effects_faults, schema_faults, predicate_faults, action_faults, domain_name_faults, init_faults, predicate_names, faults_of, is_well_typed}
+use Rattle.plus_types.specs.Faults.{IsFirstFault, cond_faults, conds_faults, effect_faults, effects_faults, schema_faults, section_faults, predicate_faults, action_faults, domain_name_faults, object_faults, init_faults, predicate_names, faults_of, is_well_typed}
 
 -- the first form has none, and neither has the rest
 pub none_more : (xs ys : List TypeFault) → xs ≡ [] → ys ≡ [] → xs ++ ys ≡ []
@@ -62,38 +62,48 @@ well_typed_if_none d p e = rw e search rules
 
 pub ruleset walking = (none_more, first_here, first_later)
 
--- the five parts of the walk, the last three over the table of the predicates
+-- the seven parts of the walk, the last four over the table of the predicates
 pub pair_none :
-    (d : Domain) (p : Problem) (names : List (List ℕ)) → names ≡ predicate_names d
+    (d : Domain) (p : Problem) (names : List (List ℕ)) → names ≡ predicate_names d → section_faults d ≡ []
     → predicate_faults [] d.predicates ≡ [] → action_faults names [] d.actions ≡ [] → domain_name_faults d p ≡ []
-    → init_faults names p.init ≡ [] → cond_faults names files.Problem p.goal ≡ [] → faults_of d p ≡ []
-pair_none d p names e a b c i g =
-    none_more _ _ a (none_more _ _ (rw e at b) (none_more _ _ c (none_more _ _ (rw e at i) (rw e at g))))
+    → object_faults p ≡ [] → init_faults names p.init ≡ [] → cond_faults names files.Problem p.goal ≡ [] → faults_of d p ≡ []
+pair_none d p names e z a b c o i g =
+    none_more _ _ z (none_more _ _ a (none_more _ _ (rw e at b) (none_more _ _ c (none_more _ _ o (none_more _ _ (rw e at i) (rw e at g))))))
 
-pub pair_predicates : (d : Domain) (p : Problem) (f : TypeFault) → IsFirstFault (predicate_faults [] d.predicates) f → IsFirstFault (faults_of d p) f
-pair_predicates d p f h = first_here _ _ f h
+pub pair_sections : (d : Domain) (p : Problem) (f : TypeFault) → IsFirstFault (section_faults d) f → IsFirstFault (faults_of d p) f
+pair_sections d p f h = first_here _ _ f h
+
+pub pair_predicates : (d : Domain) (p : Problem) (f : TypeFault) → section_faults d ≡ [] → IsFirstFault (predicate_faults [] d.predicates) f → IsFirstFault (faults_of d p) f
+pair_predicates d p f z h = first_later _ _ f z (first_here _ _ f h)
 
 pub pair_actions :
-    (d : Domain) (p : Problem) (names : List (List ℕ)) (f : TypeFault) → names ≡ predicate_names d
+    (d : Domain) (p : Problem) (names : List (List ℕ)) (f : TypeFault) → names ≡ predicate_names d → section_faults d ≡ []
     → predicate_faults [] d.predicates ≡ [] → IsFirstFault (action_faults names [] d.actions) f → IsFirstFault (faults_of d p) f
-pair_actions d p names f e a h = first_later _ _ f a (first_here _ _ f (rw e at h))
+pair_actions d p names f e z a h = first_later _ _ f z (first_later _ _ f a (first_here _ _ f (rw e at h)))
 
 pub pair_name :
-    (d : Domain) (p : Problem) (names : List (List ℕ)) (f : TypeFault) → names ≡ predicate_names d
+    (d : Domain) (p : Problem) (names : List (List ℕ)) (f : TypeFault) → names ≡ predicate_names d → section_faults d ≡ []
     → predicate_faults [] d.predicates ≡ [] → action_faults names [] d.actions ≡ [] → IsFirstFault (domain_name_faults d p) f → IsFirstFault (faults_of d p) f
-pair_name d p names f e a b h = first_later _ _ f a (first_later _ _ f (rw e at b) (first_here _ _ f h))
+pair_name d p names f e z a b h = first_later _ _ f z (first_later _ _ f a (first_later _ _ f (rw e at b) (first_here _ _ f h)))
+
+pub pair_objects :
+    (d : Domain) (p : Problem) (names : List (List ℕ)) (f : TypeFault) → names ≡ predicate_names d → section_faults d ≡ []
+    → predicate_faults [] d.predicates ≡ [] → action_faults names [] d.actions ≡ [] → domain_name_faults d p ≡ []
+    → IsFirstFault (object_faults p) f → IsFirstFault (faults_of d p) f
+pair_objects d p names f e z a b c h = first_later _ _ f z (first_later _ _ f a (first_later _ _ f (rw e at b) (first_later _ _ f c (first_here _ _ f h))))
 
 pub pair_init :
-    (d : Domain) (p : Problem) (names : List (List ℕ)) (f : TypeFault) → names ≡ predicate_names d
-    → predicate_faults [] d.predicates ≡ [] → action_faults names [] d.actions ≡ [] → domain_name_faults d p ≡ []
+    (d : Domain) (p : Problem) (names : List (List ℕ)) (f : TypeFault) → names ≡ predicate_names d → section_faults d ≡ []
+    → predicate_faults [] d.predicates ≡ [] → action_faults names [] d.actions ≡ [] → domain_name_faults d p ≡ [] → object_faults p ≡ []
     → IsFirstFault (init_faults names p.init) f → IsFirstFault (faults_of d p) f
-pair_init d p names f e a b c h = first_later _ _ f a (first_later _ _ f (rw e at b) (first_later _ _ f c (first_here _ _ f (rw e at h))))
+pair_init d p names f e z a b c o h =
+    first_later _ _ f z (first_later _ _ f a (first_later _ _ f (rw e at b) (first_later _ _ f c (first_later _ _ f o (first_here _ _ f (rw e at h))))))
 
 pub pair_goal :
-    (d : Domain) (p : Problem) (names : List (List ℕ)) (f : TypeFault) → names ≡ predicate_names d
-    → predicate_faults [] d.predicates ≡ [] → action_faults names [] d.actions ≡ [] → domain_name_faults d p ≡ []
+    (d : Domain) (p : Problem) (names : List (List ℕ)) (f : TypeFault) → names ≡ predicate_names d → section_faults d ≡ []
+    → predicate_faults [] d.predicates ≡ [] → action_faults names [] d.actions ≡ [] → domain_name_faults d p ≡ [] → object_faults p ≡ []
     → init_faults names p.init ≡ [] → IsFirstFault (cond_faults names files.Problem p.goal) f → IsFirstFault (faults_of d p) f
-pair_goal d p names f e a b c i h =
-    first_later _ _ f a (first_later _ _ f (rw e at b) (first_later _ _ f c (first_later _ _ f (rw e at i) (rw e at h))))
+pair_goal d p names f e z a b c o i h =
+    first_later _ _ f z (first_later _ _ f a (first_later _ _ f (rw e at b) (first_later _ _ f c (first_later _ _ f o (first_later _ _ f (rw e at i) (rw e at h))))))
 
-pub ruleset walking_pair = (pair_none, pair_predicates, pair_actions, pair_name, pair_init, pair_goal)
+pub ruleset walking_pair = (pair_none, pair_sections, pair_predicates, pair_actions, pair_name, pair_objects, pair_init, pair_goal)

@@ -60,17 +60,20 @@ fn tables(alloc: Global, domain: &Domain, problem: &Problem) -> Result<(Names, N
     ensures predicates { IfOk result (λ t. t.0 ≡ predicate_names domain.now) }
     ensures actions { IfOk result (λ t. t.1 ≡ action_names domain.now) }
 {
+    walk::sections(domain)?;
     let predicates = walk::predicates(alloc, domain.predicates.as_slice())?;
     let actions = walk::actions(alloc, &predicates, domain.actions.as_slice())?;
     domain_name(domain, problem)?;
+    walk::typed_names(File::Problem, problem.objects.as_slice())?;
     walk::init(&predicates, problem.init.as_slice())?;
     walk::condition(&predicates, File::Problem, &problem.goal)?;
     Ok((predicates, actions))
 }
 
 /// Tests whether a domain and a problem are well typed. The walk goes through the predicates, the
-/// actions, the name of the problem's domain, the initial atoms and the goal, and answers the first
-/// form that breaks a rule.
+/// actions, the name of the problem's domain, the initial state and the goal, and answers the first
+/// form that breaks a rule, or that is not built yet. Before them it answers the first member of a
+/// section of the domain that is not built yet, and the first object before the initial state.
 #[tactic(auto, using(crate::proofs::WalkLemmas::well_typed_if_none))]
 pub fn check(alloc: Global, domain: Domain, problem: Problem) -> Result<Typed, TypeFault>
     ensures pair { IfOk result (λ t. (t.domain ≡ domain) × (t.problem ≡ problem)) }

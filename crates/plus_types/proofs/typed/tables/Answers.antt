@@ -8,4 +8,4 @@ returns-in_err-actions-clause-walks c =
     let table = rw c.as_slice.ensures at c.in_ok-predicates.ensures.table in
     let none = rw c.as_slice.ensures at c.in_ok-predicates.ensures.walks in
     let first = rw c.as_slice-2.ensures at c.in_err-actions.ensures.walks in
-    rw (p.1, p.2) (pair_actions c.args.domain.now c.args.problem.now c.in_ok-predicates.predicates _ table none first)
+    rw (p.1, p.2) (pair_actions c.args.domain.now c.args.problem.now c.in_ok-predicates.predicates _ table c.in_ok-sections.ensures none first)

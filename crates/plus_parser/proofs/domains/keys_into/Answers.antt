@@ -4,7 +4,7 @@ use Rattle.plus_parser.specs.Reading.{next_of}
 use Rattle.plus_parser.specs.ReadingDomain.{key_step}
 use Rattle.plus_parser.specs.Seen.{seen}
 use Rattle.plus_parser.proofs.Until.{fails_along, stops, closes, fails, goes_on}
-use Rattle.plus_parser.proofs.domains.keys.Goals as goal
+use Rattle.plus_parser.proofs.domains.keys_into.Goals as goal
 
 pub returns-in_err-token-clause-gives : goal.returns-in_err-token-clause-gives
 returns-in_err-token-clause-gives c =
