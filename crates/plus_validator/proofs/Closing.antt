@@ -24,6 +24,7 @@ use Rattle.plus_validator.specs.Standing.{CanGoOn, CanReach, IsReached, HasRoom,
 use Rattle.plus_validator.specs.Running.{IsOnWay, Reaches}
 use Rattle.plus_validator.specs.Playing.{Closes, Begins, closed}
 use Rattle.plus_validator.specs.declared.run.Run.{Run}
+use Rattle.plus_validator.proofs.Clear.{clear_first}
 use Rattle.plus_validator.proofs.Steps.{literals_shown}
 use Rattle.plus_validator.proofs.Lines.{close_played, close_target, close_worked}
 
@@ -68,6 +69,7 @@ begins N P most time run f s some e n t r =
             now = ap (λ v. v.now) e;
             entries = ap (λ v. v.entries) e;
             written = r ∙ ap (λ v. next_text fraction_of N P v (Entry time)) e ∙ first_report N P L most time now;
+            clear = clear_first P L run.timeline.most;
           };
           not_closed = open_yet;
           last = subst (λ b. EndsBy L.lines b run.timeline.now.time) (sym n) (inl (none, ap (λ v. v.now.time) e));

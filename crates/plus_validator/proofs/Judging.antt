@@ -25,7 +25,6 @@ use Rattle.plus_validator.specs.declared.judge.Outcome.{Outcome}
 use Rattle.plus_validator.specs.Plans.{plan_of}
 use Rattle.plus_validator.specs.Refused.{IsRefused}
 use Rattle.plus_validator.specs.Stopped.{IsStoppedInText, HaltsInPlan}
-use Rattle.plus_report.specs.Report.{report_of}
 use Rattle.plus_validator.specs.Judged.{GivesVerdict, AcceptsWhole, IsPlain, IsJudged}
 use Rattle.plus_validator.proofs.Played.{accepted}
 
@@ -70,6 +69,10 @@ verdict_plain (Invalid b) = tt
 verdict_plain (Beyond l) = tt
 verdict_plain (Other e) = early_plain e
 
+-- the report and the verdict's line
+both : (line line' report report' : List ℕ) → report ≡ report' → line ≡ line' → report ++ line ≡ report' ++ line'
+both line line' report report' e f = ap (λ t. t ++ line) e ∙ ap (λ t. report' ++ t) f
+
 module _ (d : Domain) (p : tree.Problem) (N : Labels) (P : Problem) (most : ℕ) (text : List ℕ) (goes_on : Bool) (old new : Run) where
   says : (bytes : List ℕ) (played : Result (Unit {0}) Halt) (v : Verdict Frac64) → v ≡ Valid → length text ≤ 1048576 → P ≡ expanded d p → N ≡ labels_meant d → Begins N P most old → OnOk played (PlaysWhole d N P text goes_on old new) → IfErr played (HaltFits P) → GivesVerdict played v → bytes ≡ new.report.bytes.items ++ verdict_text fraction_of N P v → AcceptsWhole d p most text goes_on bytes
   says bytes (Ok u) v i w e n b r f g k = record {
@@ -103,7 +106,7 @@ module _ (d : Domain) (p : tree.Problem) (N : Labels) (P : Problem) (most : ℕ)
         verdict = v;
         outcome_is = refl;
         refusal = there.refusal;
-        written = k ∙ ap (λ t. t ++ verdict_text fraction_of N P v) there.written ∙ ap (λ t. report_of (labels_meant d) (expanded d p) there.refusal.plan there.refusal.history ++ t) text_is;
+        written = k ∙ both (verdict_text fraction_of N P v) _ new.report.bytes.items _ there.written text_is;
       }
 
   pub judged : (j : Judgement) (played : Result (Unit {0}) Halt) (v : Verdict Frac64) → length text ≤ 1048576 → P ≡ expanded d p → N ≡ labels_meant d → Begins N P most old → OnOk played (PlaysWhole d N P text goes_on old new) → IfErr played (HaltsInPlan d N P text goes_on old new) → IfErr played (HaltFits P) → GivesVerdict played v → j.outcome ≡ outcome_of v → j.bytes.items ≡ new.report.bytes.items ++ verdict_text fraction_of N P v → IsJudged d p most text goes_on j

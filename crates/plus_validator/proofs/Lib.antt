@@ -1,3 +1,4 @@
+pub mod Clear
 pub mod Steps
 pub mod Lines
 pub mod Texts

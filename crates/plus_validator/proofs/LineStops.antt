@@ -6,12 +6,13 @@ use Rattle.plus_model.specs.Terms.{Problem}
 use Rattle.plus_model.specs.Plan as model
 use Rattle.plus_model.specs.Plan.{Called, ActLine, EndLine, Plan}
 use Rattle.plus_model.specs.History.{Part, View}
-use Rattle.plus_model.specs.Trajectory.{IsWorked}
+use Rattle.plus_model.specs.Trajectory.{IsWorked, view_of}
 use Rattle.plus_number.specs.declared.frac.Frac64.{Frac64}
 use Rattle.plus_number.specs.Frac.{fraction_of, IsFrac64}
 use Rattle.plus_state.specs.View.{Labels}
 use Rattle.plus_state.specs.declared.outcome.Breach.{Breach}
 use Rattle.plus_state.specs.declared.outcome.Breach.TheVariants as breaches
+use Rattle.plus_state.specs.declared.outcome.Limit.{Limit}
 use Rattle.plus_state.specs.declared.outcome.Limit.TheVariants as limits
 use Rattle.plus_tree.specs.declared.trees.Call.{Call}
 use Rattle.plus_tree.specs.declared.trees.Domain.{Domain}
@@ -36,7 +37,12 @@ use Rattle.plus_validator.specs.Plans.{line_meant}
 use Rattle.plus_validator.specs.Standing.{IsPlayed, CanGoOn, IsReached}
 use Rattle.plus_validator.specs.Running.{IsOnWay, Reaches}
 use Rattle.plus_validator.specs.Playing.{Readied, ActsOnce, IsInTime, closed}
-use Rattle.plus_validator.specs.Refused.{BreachNames, NamesNone, NamesLine, NamesNoLine, HasTime, number_in, IsGoalUnfit}
+use Rattle.plus_state.specs.Asked.{FirstUnfit}
+use Rattle.plus_state.specs.Tests.{tests_of}
+use Rattle.plus_state.specs.View.{overflow_of}
+use Rattle.plus_timeline.specs.Stops.{IsGoing}
+use Rattle.plus_validator.proofs.Clear.{clear_at_end}
+use Rattle.plus_validator.specs.Refused.{NoLimit, BreachNames, NamesNone, NamesLine, NamesNoLine, HasTime, number_in, IsGoalUnfit}
 use Rattle.plus_validator.specs.Stopped.{IsReported, IsStoppedIn, StopsIn, StopsOnWay, HaltsOnWay, HaltsAtEnd, HaltsInAct, HaltsAtMoment, StopsInLine, HaltsInLine}
 use Rattle.plus_validator.proofs.Lines.{with_line, has_begun, act_due, acted_target, close_played, close_target, close_worked}
 use Rattle.plus_validator.proofs.Played.{not_ended, on_way}
@@ -156,12 +162,19 @@ halts_closing N P old new now halt e s = record {
   stops = λ L h ready. s.stops (closed L) old.timeline.now.acted h (inr refl) (closing N P L h old now e ready);
 }
 
+-- where the goal fails, no limit stands
+goal_clear : (P : Problem) (L : Plan) (h : List Part) (v : TimelineView) → v.now ≡ view_of P h → IsWorked P L v.now → IsGoing v → ((l : Limit Frac64) → LimitsFinish fraction_of IsFrac64 P v l → ⊥) → NoLimit P L v.most h
+goal_clear P L h v e w g x =
+    clear_at_end P L v.most h (subst (IsWorked P L) e w)
+    (λ o u. x (limits.Number o) (record { going = g; first = subst (λ (y : View). FirstUnfit IsFrac64 (tests_of P.goal y.state) (overflow_of fraction_of o)) (sym e) u.first }))
+
 finish_stops : (N : Labels) (P : Problem) (L : Plan) (most : ℕ) (h : List Part) (v : TimelineView) (report report' : List ℕ) (stop : Stop Frac64) → L.closed ≡ true → v.most ≡ most → CanGoOn P v → IsPlayed N P L h v report → IsWorked P L v.now → report' ≡ report → BreachExactly {A = Unit {0}} (BreaksFinish IsFrac64 P v) (Err stop) → LimitExactly {A = Unit {0}} (LimitsFinish fraction_of IsFrac64 P v) (Err stop) → StopsOnWay N P L most report' (stop_halt stop)
 finish_stops N P L most h v report report' (stops.Breach breaches.Goal) c m g p w e b' l' = record {
   stopped = record {
     history = h;
     reported = subst (λ n. IsReported N P L n h report') m (reported N P L h v report report' p g.within e);
     stands = breaks_at P L h v.now breaches.Goal (inr c) p.prefix p.now (finish_breaks IsFrac64 P L v c w b');
+    alone = λ _. subst (λ n. NoLimit P L n h) m (goal_clear P L h v p.now w g.going l');
   };
   names = tt;
 }
@@ -181,6 +194,7 @@ finish_stops N P L most h v report report' (stops.Limit (limits.Number o)) c m g
     history = h;
     reported = subst (λ n. IsReported N P L n h report') m (reported N P L h v report report' p g.within e);
     stands = inr (inr (subst (λ (x : View). IsGoalUnfit P L x o) p.now (record { closed = c; worked = w; first = l'.first })));
+    alone = λ n. absurd n;
   };
   names = tt;
 }

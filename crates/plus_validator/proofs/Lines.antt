@@ -14,6 +14,7 @@ use Rattle.plus_report.specs.Report.{report_of}
 use Rattle.plus_report.proofs.ReportLemmas.{report_of-grown}
 use Rattle.plus_validator.specs.Standing.{IsPlayed, EndsBy, AllActed, IsReady, IsReached}
 use Rattle.plus_validator.specs.Playing.{closed}
+use Rattle.plus_validator.proofs.Clear.{clear_grows}
 
 -- the plan with one more line
 abbrev pub with_line : Plan → Line → Plan
@@ -35,6 +36,7 @@ grown N P L L' more h t report e o b p =
       now = p.now;
       entries = p.entries;
       written = p.written ∙ sym (ap (λ (M : Plan). report_of N P M h) is ∙ report_of-grown N P L more L'.closed h p.prefix);
+      clear = clear_grows P L L' t.most h p.prefix (record { more = more; lines = e }) p.clear;
     }
 
 -- lines stay in order when one is read that is not before the last, which is no end

@@ -6,17 +6,21 @@ use Rattle.plus_fraction.specs.Fraction.{Fraction, ◌≤ℚ◌}
 use Rattle.plus_model.specs.Terms.{Action, Problem}
 use Rattle.plus_model.specs.Plan as model
 use Rattle.plus_model.specs.Plan.{Called, Instance, ActLine, EndLine, Plan}
-use Rattle.plus_model.specs.History.{Part, Act}
-use Rattle.plus_model.specs.Trajectory.{next_line, NextBy}
+use Rattle.plus_model.specs.History.{Part, Act, View}
+use Rattle.plus_model.specs.Trajectory.{next_line, NextBy, view_of}
 use Rattle.plus_number.specs.declared.frac.Frac64.{Frac64}
 use Rattle.plus_number.specs.Frac.{fraction_of, IsFrac64}
-use Rattle.plus_state.specs.View.{Labels}
+use Rattle.plus_state.specs.View.{Labels, overflow_of}
+use Rattle.plus_state.specs.declared.outcome.Limit.{Limit}
+use Rattle.plus_state.specs.declared.outcome.Limit.TheVariants.{Number}
+use Rattle.plus_state.specs.Steps.{asks, FirstStop}
+use Rattle.plus_timeline.specs.Stops.{IsGoing}
 use Rattle.plus_tree.specs.declared.trees.Call.{Call}
 use Rattle.plus_tree.specs.declared.trees.Domain.{Domain}
 use Rattle.plus_tree.specs.declared.trees.Problem as tree
 use Rattle.plus_model.proofs.Paths.{one_trajectory}
 use Rattle.plus_timeline.specs.Timeline.{TimelineView}
-use Rattle.plus_timeline.specs.Act.{DoesAct}
+use Rattle.plus_timeline.specs.Act.{act_steps, DoesAct, LimitsAct}
 use Rattle.plus_timeline.specs.Laws.{AddsPart}
 use Rattle.plus_report.specs.Report.{called_label}
 use Rattle.plus_report.specs.Text.{act_text}
@@ -31,7 +35,9 @@ use Rattle.plus_plan.specs.TimeValue.{value_of}
 use Rattle.plus_ground.specs.Expansion.{called_of, expanded, labels_meant}
 use Rattle.plus_validator.specs.Accepted.{entries_of, IsAccepted}
 use Rattle.plus_validator.specs.Plans.{line_meant, plan_of}
-use Rattle.plus_validator.specs.Standing.{CanGoOn, IsReady, IsReached}
+use Rattle.plus_validator.specs.Refused.{NoLimit}
+use Rattle.plus_validator.proofs.Clear.{clear_at_due}
+use Rattle.plus_validator.specs.Standing.{IsPlayed, CanGoOn, IsReady, IsReached}
 use Rattle.plus_validator.specs.Running.{IsOnWay, Reaches}
 use Rattle.plus_validator.specs.Playing.{Readied, IsResting, ActsOnce, PlaysLine, IsInTime, ReadsAll, Closes, PlaysAll, Ends, Begins}
 use Rattle.plus_validator.specs.declared.memory.Report.{Report}
@@ -47,8 +53,27 @@ act_adds P L fits action old new n a = record {
   now = ap (λ v. v.now) a.is;
 }
 
-pub acts_once : (N : Labels) (P : Problem) (call : Called) (action : Action) (old new : Run) → CanGoOn P old.timeline → call ≡ Instance action → DoesAct IsFrac64 P action old.timeline new.timeline → new.ended ≡ old.ended → new.report.bytes.items ≡ old.report.bytes.items ++ act_text N action.label new.timeline.before new.timeline.now.state → ActsOnce N P call old new
-acts_once N P call action old new c i a e r = record {
+injective : (a b : Action) → Instance a ≡ Instance b → a ≡ b
+injective a b e = cc e
+
+same_call : (t : Fraction) (a b : Called) → Some (ActLine t a) ≡ Some (ActLine t b) → a ≡ b
+same_call t a b e = cc e
+
+-- where the action that is due is done, no limit stands
+pub act_clear : (N : Labels) (P : Problem) (L : Plan) (h : List Part) (action : Action) (v : TimelineView) (report : List ℕ) → IsGoing v → IsPlayed N P L h v report → v.now.running ≡ None → next_line L v.now ≡ Some (ActLine v.now.time (Instance action)) → ((l : Limit Frac64) → LimitsAct fraction_of IsFrac64 action v l → ⊥) → NoLimit P L v.most h
+act_clear N P L h action v report g p m d x =
+    let d' : next_line L (view_of P h) ≡ Some (ActLine (view_of P h).time (Instance action)) = subst (λ (w : View). next_line L w ≡ Some (ActLine w.time (Instance action))) p.now d in
+    clear_at_due P L v.most h (Instance action) (ap (λ (w : View). w.running) (sym p.now) ∙ m) d'
+    (λ w u.
+    let same : u.action ≡ action = injective u.action action (same_call (view_of P h).time (Instance u.action) (Instance action) (sym u.due.due ∙ d')) in
+    x (Number w) (record {
+      going = g;
+      reached = subst (λ (y : View). FirstStop IsFrac64 (act_steps action y.state) (asks (overflow_of fraction_of w))) (sym p.now)
+          (subst (λ (b : Action). FirstStop IsFrac64 (act_steps b (view_of P h).state) (asks (overflow_of fraction_of w))) same u.first);
+    }))
+
+pub acts_once : (N : Labels) (P : Problem) (call : Called) (action : Action) (old new : Run) → CanGoOn P old.timeline → call ≡ Instance action → DoesAct IsFrac64 P action old.timeline new.timeline → ((l : Limit Frac64) → LimitsAct fraction_of IsFrac64 action old.timeline l → ⊥) → new.ended ≡ old.ended → new.report.bytes.items ≡ old.report.bytes.items ++ act_text N action.label new.timeline.before new.timeline.now.state → ActsOnce N P call old new
+acts_once N P call action old new c i a x e r = record {
   can = record {
     serves = serves_still P old.timeline new.timeline (ap (λ v. v.atoms) a.is) (ap (λ v. v.fluents) a.is) c.serves;
     going = ap (λ v. v.ended) a.is ∙ c.going;
@@ -64,6 +89,7 @@ acts_once N P call action old new c i a e r = record {
       let part : Part = Act old.timeline.now.acted a.after in (
         h ++ part ∷ [],
         played_on N P L h old.timeline new.timeline old.report.bytes.items new.report.bytes.items part b p
+            (act_clear N P L h action old.timeline old.report.bytes.items c.going p a.moment due' x) (ap (λ v. v.most) a.is)
             (act_adds P L IsFrac64 action old.timeline new.timeline due' a)
             (ap (λ v. v.entries) a.is ∙ p.entries ∙ sym (add-zero (entries_of h)) ∙ sym (entries_of-append h part))
             (r ∙ ap (λ x. old.report.bytes.items ++ act_text N action.label x new.timeline.now.state) (ap (λ v. v.before) a.is)

@@ -6,19 +6,20 @@ use Rattle.plus_model.specs.Plan.{Plan}
 use Rattle.plus_model.specs.History.{Part}
 use Rattle.plus_model.specs.Trajectory.{HasBegun}
 use Rattle.plus_number.specs.declared.frac.Frac64.{Frac64}
-use Rattle.plus_number.specs.Frac.{fraction_of}
+use Rattle.plus_number.specs.Frac.{fraction_of, IsFrac64}
+use Rattle.plus_state.specs.declared.outcome.Limit.{Limit}
 use Rattle.plus_state.specs.View.{Labels}
-use Rattle.plus_timeline.specs.Advance.{Advances, IsThere}
+use Rattle.plus_timeline.specs.Advance.{Advances, IsThere, LimitsAdvance}
 use Rattle.plus_timeline.specs.declared.next.Next.{Next}
 use Rattle.plus_timeline.specs.declared.next.Next.TheVariants.{Round, Run as run_answer, Entry, There}
 use Rattle.plus_validator.specs.Standing.{CanReach, IsReached, IsMore, a_round, a_run, an_entry, is_there, next_text}
 use Rattle.plus_validator.specs.Running.{IsOnWay, StepsOn, Reaches, Steps}
 use Rattle.plus_validator.specs.declared.run.Run.{Run}
-use Rattle.plus_validator.proofs.Steps.{part_of, step_goes, step_most, step_less, step_played, step_target, step_acted, step_done}
+use Rattle.plus_validator.proofs.Steps.{part_of, step_goes, step_most, step_less, step_played, step_clear, step_target, step_acted, step_done}
 
 -- what a step says by its answer
-step_more : (N : Labels) (P : Problem) (u : Fraction) (old new : Run) (answer : Next Frac64) → IsMore answer → CanReach P u old.timeline → Advances fraction_of P u old.timeline new.timeline answer → new.ended ≡ old.ended → new.report.bytes.items ≡ old.report.bytes.items ++ next_text fraction_of N P new.timeline answer → StepsOn N P u old new
-step_more N P u old new answer m c a e r = record {
+step_more : (N : Labels) (P : Problem) (u : Fraction) (old new : Run) (answer : Next Frac64) → IsMore answer → CanReach P u old.timeline → Advances fraction_of P u old.timeline new.timeline answer → ((l : Limit Frac64) → LimitsAdvance fraction_of IsFrac64 P u old.timeline l → ⊥) → new.ended ≡ old.ended → new.report.bytes.items ≡ old.report.bytes.items ++ next_text fraction_of N P new.timeline answer → StepsOn N P u old new
+step_more N P u old new answer m c a x e r = record {
   can = step_goes fraction_of P u old.timeline new.timeline answer c a;
   less = step_less fraction_of P u old.timeline new.timeline answer c m a;
   most = step_most fraction_of P u old.timeline new.timeline answer a;
@@ -26,7 +27,8 @@ step_more N P u old new answer m c a e r = record {
   on_way = λ L acted h b w. (
     h ++ part_of new.timeline answer ∷ [],
     record {
-      played = step_played fraction_of N P L h u old.timeline new.timeline answer old.report.bytes.items new.report.bytes.items m b w.played w.target_is a r;
+      played = step_played fraction_of N P L h u old.timeline new.timeline answer old.report.bytes.items new.report.bytes.items m b w.played
+          (step_clear N P L h u old.timeline new.timeline answer old.report.bytes.items m c.goes.going w.played w.target_is a x) w.target_is a r;
       target_is = step_target fraction_of P L u old.timeline new.timeline answer w.target_is a;
       acted_is = step_acted fraction_of P u old.timeline new.timeline answer a ∙ w.acted_is;
     },
@@ -47,11 +49,11 @@ step_there N P u old new c a e r = record {
   );
 }
 
-pub step_says : (N : Labels) (P : Problem) (u : Fraction) (old new : Run) (answer : Next Frac64) → CanReach P u old.timeline → Advances fraction_of P u old.timeline new.timeline answer → new.ended ≡ old.ended → new.report.bytes.items ≡ old.report.bytes.items ++ next_text fraction_of N P new.timeline answer → Steps N P u old new (is_there answer)
-step_says N P u old new Round c a e r = step_more N P u old new Round a_round c a e r
-step_says N P u old new run_answer c a e r = step_more N P u old new run_answer a_run c a e r
-step_says N P u old new (Entry t) c a e r = step_more N P u old new (Entry t) (an_entry t) c a e r
-step_says N P u old new There c a e r = step_there N P u old new c a e r
+pub step_says : (N : Labels) (P : Problem) (u : Fraction) (old new : Run) (answer : Next Frac64) → CanReach P u old.timeline → Advances fraction_of P u old.timeline new.timeline answer → ((l : Limit Frac64) → LimitsAdvance fraction_of IsFrac64 P u old.timeline l → ⊥) → new.ended ≡ old.ended → new.report.bytes.items ≡ old.report.bytes.items ++ next_text fraction_of N P new.timeline answer → Steps N P u old new (is_there answer)
+step_says N P u old new Round c a x e r = step_more N P u old new Round a_round c a x e r
+step_says N P u old new run_answer c a x e r = step_more N P u old new run_answer a_run c a x e r
+step_says N P u old new (Entry t) c a x e r = step_more N P u old new (Entry t) (an_entry t) c a x e r
+step_says N P u old new There c a x e r = step_there N P u old new c a e r
 
 -- ---- several steps
 

@@ -26,6 +26,9 @@ use Rattle.plus_timeline.specs.Stops.{BreachExactly, LimitExactly}
 use Rattle.plus_timeline.specs.declared.stop.Stop.{Stop}
 use Rattle.plus_timeline.specs.declared.stop.Stop.TheVariants as stops
 use Rattle.plus_timeline.proofs.Follows.{advance_breaks, act_breaks}
+use Rattle.plus_timeline.proofs.StillBreaches.{nothing_breaks_off}
+use Rattle.plus_validator.proofs.Clear.{clear_at_due, no_act_unfit}
+use Rattle.plus_validator.proofs.Played.{act_clear}
 use Rattle.plus_report.specs.declared.verdicts.Verdict.{Verdict}
 use Rattle.plus_report.specs.declared.verdicts.Verdict.TheVariants.{Invalid, Beyond}
 use Rattle.plus_report.specs.Report.{called_label}
@@ -36,7 +39,7 @@ use Rattle.plus_validator.specs.Accepted.{entries_of}
 use Rattle.plus_validator.specs.Halts.{stop_halt, CallHalts}
 use Rattle.plus_validator.specs.Standing.{IsPlayed, CanGoOn, CanReach}
 use Rattle.plus_validator.specs.Running.{IsOnWay}
-use Rattle.plus_validator.specs.Refused.{BreachNames, NamesNone, NamesLine, LimitStands, IsTimeUnfit, IsActUnfit, Stands}
+use Rattle.plus_validator.specs.Refused.{BreachNames, NamesNone, NamesLine, LimitStands, IsTimeUnfit, IsActUnfit, Stands, NoLimit, IsNoLimit}
 use Rattle.plus_validator.specs.Stopped.{IsReported, StopsOnWay, HaltsOnWay, IsStoppedIn, StopsIn, HaltsInAct}
 use Rattle.plus_validator.proofs.Runs.{Along}
 
@@ -57,6 +60,7 @@ pub reported : (N : Labels) (P : Problem) (L : Plan) (h : List Part) (t : Timeli
 reported N P L h t old new p w e = record {
   prefix = p.prefix;
   few = subst (λ n. n ≤ t.most) p.entries w;
+  clear = p.clear;
   written = e ∙ p.written;
 }
 
@@ -92,6 +96,7 @@ advance_stops N P L u acted h old new (stops.Breach b) begun c w b' l' r = recor
     history = h;
     reported = reported N P L h old.timeline old.report.bytes.items new.report.bytes.items w.played c.goes.within r;
     stands = breaks_at P L h old.timeline.now b begun w.played.prefix w.played.now (advance_breaks fraction_of P L old.timeline u b w.target_is b');
+    alone = λ _. absurd (nothing_breaks_off fraction_of P _ old.timeline.now b c.goes.serves.still b'.stands);
   };
   names = names_none P _ old.timeline.now b b'.stands;
 }
@@ -101,6 +106,7 @@ advance_stops N P L u acted h old new (stops.Limit l) begun c w b' l' r = record
     reported = reported N P L h old.timeline old.report.bytes.items new.report.bytes.items w.played c.goes.within r;
     stands = limit_by P L h old.timeline l w.played.now w.played.entries
         (subst (λ x. Reaches fraction_of IsFrac64 P (least old.timeline.now.time x P.timed) old.timeline l) (sym w.target_is) l'.reached);
+    alone = λ n. absurd n;
   };
   names = tt;
 }
@@ -123,15 +129,22 @@ along_halts N P u start run new halt a s = record {
 -- ---- an action
 
 -- the verdict stands at the history that is played, and names this line
-stopped_in : (N : Labels) (P : Problem) (L : Plan) (n : ℕ) (h : List Part) (old new : Run) (v : Verdict Frac64) → CanGoOn P old.timeline → IsPlayed N P L h old.timeline old.report.bytes.items → new.report.bytes.items ≡ old.report.bytes.items → Stands P L old.timeline.most h v → NamesLine n (called_label (next_line L old.timeline.now)) v → IsStoppedIn N P L old.timeline.most n new.report.bytes.items v
-stopped_in N P L n h old new v c p r s m = record {
+stopped_in : (N : Labels) (P : Problem) (L : Plan) (n : ℕ) (h : List Part) (old new : Run) (v : Verdict Frac64) → CanGoOn P old.timeline → IsPlayed N P L h old.timeline old.report.bytes.items → new.report.bytes.items ≡ old.report.bytes.items → Stands P L old.timeline.most h v → (IsNoLimit v → NoLimit P L old.timeline.most h) → NamesLine n (called_label (next_line L old.timeline.now)) v → IsStoppedIn N P L old.timeline.most n new.report.bytes.items v
+stopped_in N P L n h old new v c p r s k m = record {
   stopped = record {
     history = h;
     reported = reported N P L h old.timeline old.report.bytes.items new.report.bytes.items p c.within r;
     stands = s;
+    alone = k;
   };
   names = subst (λ (w : View). NamesLine n (called_label (next_line L w)) v) p.now m;
 }
+
+-- where the line that is due calls no action, no limit stands
+call_clear : (N : Labels) (P : Problem) (L : Plan) (h : List Part) (call : Called) (run : Run) → run.timeline.now.running ≡ None → IsPlayed N P L h run.timeline run.report.bytes.items → next_line L run.timeline.now ≡ Some (ActLine run.timeline.now.time call) → ((action : Action) → call ≡ Instance action → ⊥) → NoLimit P L run.timeline.most h
+call_clear N P L h call run m p d n =
+    let d' : next_line L (view_of P h) ≡ Some (ActLine (view_of P h).time call) = subst (λ (w : View). next_line L w ≡ Some (ActLine w.time call)) p.now d in
+    clear_at_due P L run.timeline.most h call (ap (λ (w : View). w.running) (sym p.now) ∙ m) d' (no_act_unfit P L (view_of P h) call d' n)
 
 -- the line that is due calls no action
 call_stops : (N : Labels) (P : Problem) (n : ℕ) (call : Called) (name : List ℕ) (fault : InstanceFault) (run : Run) (v : Verdict Frac64) (L : Plan) (h : List Part) → CanGoOn P run.timeline → RefusesCall call name fault → CallHalts fault n name (Refused v) → HasBegun L → IsPlayed N P L h run.timeline run.report.bytes.items → IsPresent P run.timeline.now → next_line L run.timeline.now ≡ Some (ActLine run.timeline.now.time call) → IsStoppedIn N P L run.timeline.most n run.report.bytes.items v
@@ -140,13 +153,13 @@ call_stops N P n call name instances.UnknownAction run v L h c f k begun p q d =
     subst (IsStoppedIn N P L run.timeline.most n run.report.bytes.items) (sym k)
     (stopped_in N P L n h run run (Invalid b) c p refl
     (breaks_at P L h run.timeline.now b begun p.prefix p.now (refl, record { present = q; due = d ∙ ap (λ x. Some (ActLine run.timeline.now.time x)) f }))
-    refl)
+    (λ _. call_clear N P L h call run q.moment p d (λ action e. (let k = f in cc (e, k)))) refl)
 call_stops N P n call name instances.WrongArguments run v L h c f k begun p q d =
     let b : Breach Frac64 = breaches.WrongArguments n name in
     subst (IsStoppedIn N P L run.timeline.most n run.report.bytes.items) (sym k)
     (stopped_in N P L n h run run (Invalid b) c p refl
     (breaks_at P L h run.timeline.now b begun p.prefix p.now (refl, record { present = q; due = d ∙ ap (λ x. Some (ActLine run.timeline.now.time x)) f }))
-    refl)
+    (λ _. call_clear N P L h call run q.moment p d (λ action e. (let k = f in cc (e, k)))) refl)
 call_stops N P n call name instances.TooManyNodes run v L h c f k begun p q d = absurd k
 call_stops N P n call name (instances.Literal span) run v L h c f k begun p q d = absurd k
 call_stops N P n call name instances.Memory run v L h c f k begun p q d = absurd k
@@ -181,10 +194,11 @@ act_stops : (N : Labels) (P : Problem) (n : ℕ) (action : Action) (old new : Ru
 act_stops N P n action old new (stops.Breach b) L h c b' l' r begun p q d =
     stopped_in N P L n h old new (Invalid b) c p r
     (breaks_at P L h old.timeline.now b begun p.prefix p.now (act_breaks fraction_of IsFrac64 P L old.timeline action n b q d b'))
+    (λ _. act_clear N P L h action old.timeline old.report.bytes.items c.going p q.moment d l')
     (act_names action n old.timeline.now b (called_label (next_line L old.timeline.now)) (ap called_label d) b'.stands)
 act_stops N P n action old new (stops.Limit l) L h c b' l' r begun p q d =
     stopped_in N P L n h old new (Beyond l) c p r
-    (act_limit P L old.timeline.most h action old.timeline.now l p.now (record { present = q; due = d }) l'.reached) tt
+    (act_limit P L old.timeline.most h action old.timeline.now l p.now (record { present = q; due = d }) l'.reached) (λ n. absurd n) tt
 act_stops N P n action old new stops.Ended L h c b' l' r begun p q d = tt
 act_stops N P n action old new stops.Memory L h c b' l' r begun p q d = tt
 

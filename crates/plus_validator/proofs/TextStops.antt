@@ -43,6 +43,7 @@ use Rattle.plus_validator.proofs.Played.{ReadsTo}
 use Rattle.plus_validator.proofs.Texts.{plan_of-append}
 use Rattle.plus_validator.proofs.Stopping.{reported}
 use Rattle.plus_validator.proofs.Waiting.{waits}
+use Rattle.plus_validator.proofs.Clear.{clear_waiting}
 
 -- ---- no prefix is longer
 
@@ -166,6 +167,8 @@ module _ (d : Domain) (N : Labels) (P : Problem) (text : List ℕ) (start run : 
           history = a.0;
           prefix = w.prefix;
           few = w.few;
+          clear = w.clear;
+          alone = λ _. clear_waiting d P r.lines_read start.timeline.most a.0 w.prefix (waits N P (plan_of d r.lines_read false) a.0 run a.1);
           cause = record { lines = refl; waits = waits N P (plan_of d r.lines_read false) a.0 run a.1; names = n };
           longest = λ _. waiting_longest d P r.lines_read a.0 w.prefix (waits N P (plan_of d r.lines_read false) a.0 run a.1);
           final = f;
@@ -199,6 +202,8 @@ module _ (d : Domain) (N : Labels) (P : Problem) (text : List ℕ) (start run : 
       history = b.history;
       prefix = b.reported.prefix;
       few = b.reported.few;
+      clear = b.reported.clear;
+      alone = λ _. clear_waiting d P r.lines_read start.timeline.most b.history b.reported.prefix b.waits;
       cause = inl (record { lines = refl; waits = b.waits; meant = b.meant; meant_is = b.meant_is; time = b.time; time_is = b.time_is; why = b.why });
       longest = λ _. waiting_longest d P r.lines_read b.history b.reported.prefix b.waits;
       final = time_refutes d P r.lines_read x.0 b.history b.meant b.time (number_in x.0) v b.meant_is b.why;
@@ -216,6 +221,8 @@ module _ (d : Domain) (N : Labels) (P : Problem) (text : List ℕ) (start run : 
           history = k.stopped.history;
           prefix = k.stopped.reported.prefix;
           few = k.stopped.reported.few;
+          clear = k.stopped.reported.clear;
+          alone = k.stopped.alone;
           cause = inr (record { lines = refl; stands = k.stopped.stands; names = k.names });
           longest = stands_longest P (plan_of d (r.lines_read ++ x.0 ∷ []) false) start.timeline.most k.stopped.history v k.stopped.stands;
           final = stands_refutes d P (r.lines_read ++ x.0 ∷ []) start.timeline.most k.stopped.history v k.stopped.stands;
@@ -248,6 +255,8 @@ module _ (d : Domain) (N : Labels) (P : Problem) (text : List ℕ) (old mid : Ru
       history = s.stopped.history;
       prefix = s.stopped.reported.prefix;
       few = s.stopped.reported.few;
+      clear = s.stopped.reported.clear;
+      alone = s.stopped.alone;
       cause = record { lines = refl; stands = s.stopped.stands; names = s.names };
       longest = stands_longest P (plan_of d r.lines true) old.timeline.most s.stopped.history v s.stopped.stands;
       final = subst (λ (ls : List Line). Refutes d P ls v) (sym (append-nil r.lines)) (end_refutes d P r.lines old.timeline.most s.stopped.history v s.stopped.stands);
@@ -279,6 +288,8 @@ module _ (d : Domain) (N : Labels) (P : Problem) (text : List ℕ) (old mid : Ru
             history = a.0;
             prefix = w.prefix;
             few = w.few;
+            clear = w.clear;
+            alone = λ _. clear_waiting d P r.lines old.timeline.most a.0 w.prefix (waits N P (plan_of d r.lines false) a.0 mid a.1);
             cause = record {
               lines = refl;
               waits = waits N P (plan_of d r.lines false) a.0 mid a.1;

@@ -74,6 +74,15 @@ LimitStands P L most h (Number w) =
     IsTimeUnfit P L (view_of P h) w ⊎ (IsActUnfit P L (view_of P h) w ⊎ IsGoalUnfit P L (view_of P h) w)
 LimitStands P L most h (Nonlinear owner comparison) = ⊥
 
+-- no limit stands at the history
+abbrev pub NoLimit : Problem → Plan → ℕ → List Part → Type 0
+NoLimit P L most h = (l : Limit Frac64) → LimitStands P L most h l → ⊥
+
+-- no limit stands at any history that is shorter
+abbrev pub IsClear : Problem → Plan → ℕ → List Part → Type 0
+IsClear P L most h =
+    (g : List Part) (part : Part) (rest : List Part) → Prefix P L g → h ≡ g ++ part ∷ rest → NoLimit P L most g
+
 -- ---- a verdict stands at a history of the lines read
 
 -- it is a breach by which the plan breaks there, or a limit that stands there
@@ -231,6 +240,9 @@ pub record Refusal (d : Domain) (P : Problem) (most : ℕ) (goes_on : Bool) (who
   pub history : List Part  -- what happens before the refusal
   pub prefix : Prefix P plan history
   pub few : entries_of history ≤ most
+  -- no limit stands before, and none here where none is named
+  pub clear : IsClear P plan most history
+  pub alone : IsNoLimit v → NoLimit P plan most history
   pub cause : Cause d P most goes_on piece before rest plan history v
   -- it is the one longest that these lines tell
   pub longest : IsNoLimit v → IsLongest P plan history

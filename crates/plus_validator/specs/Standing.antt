@@ -17,13 +17,15 @@ use Rattle.plus_report.specs.Report.{report_of}
 use Rattle.plus_timeline.specs.declared.next.Next.{Next}
 use Rattle.plus_timeline.specs.declared.next.Next.TheVariants.{Round, Run, Entry, There}
 use Rattle.plus_validator.specs.Accepted.{entries_of}
+use Rattle.plus_validator.specs.Refused.{IsClear}
 
--- the timeline and the report are those of this history of the plan
+-- the timeline and the report are those of this history of the plan, and no limit was reached before
 pub record IsPlayed (N : Labels) (P : Problem) (L : Plan) (h : List Part) (t : TimelineView) (report : List ℕ) : Type 0 where
   pub prefix : Prefix P L h
   pub now : t.now ≡ view_of P h
   pub entries : t.entries ≡ entries_of h
   pub written : report ≡ report_of N P L h
+  pub clear : IsClear P L t.most h
 
 -- the timeline goes on, with this problem
 pub record CanGoOn (P : Problem) (t : TimelineView) : Type 0 where

@@ -23,12 +23,13 @@ use Rattle.plus_validator.specs.Plans.{line_meant, plan_of}
 use Rattle.plus_validator.specs.Standing.{IsPlayed}
 use Rattle.plus_validator.specs.Running.{IsOnWay}
 use Rattle.plus_validator.specs.Playing.{Readied, closed}
-use Rattle.plus_validator.specs.Refused.{Stands, NamesLine, NamesNoLine, IsWaiting, HasTime, number_in, TimeFault, Refusal, WholeLines}
+use Rattle.plus_validator.specs.Refused.{NoLimit, IsClear, IsNoLimit, Stands, NamesLine, NamesNoLine, IsWaiting, HasTime, number_in, TimeFault, Refusal, WholeLines}
 
--- the report is that of a history of the plan
+-- the report is that of a history of the plan, before which no limit stands
 pub record IsReported (N : Labels) (P : Problem) (L : Plan) (most : ℕ) (h : List Part) (report : List ℕ) : Type 0 where
   pub prefix : Prefix P L h
   pub few : entries_of h ≤ most
+  pub clear : IsClear P L most h
   pub written : report ≡ report_of N P L h
 
 -- and the verdict stands there
@@ -36,6 +37,7 @@ pub record IsStoppedAt (N : Labels) (P : Problem) (L : Plan) (most : ℕ) (repor
   pub history : List Part
   pub reported : IsReported N P L most history report
   pub stands : Stands P L most history v
+  pub alone : IsNoLimit v → NoLimit P L most history
 
 -- ---- on the way to a time
 

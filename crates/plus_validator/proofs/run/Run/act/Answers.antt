@@ -20,7 +20,7 @@ returns-clause-acts c =
     let P = problem_of fraction_of c.args.ground.now in
     let new : Run = record { timeline = c.act.new.self; report = c.write_act.new.out; ended = c.args.self.now.ended } in
     acts_once N P (called_of c.args.typed.now.domain c.args.call.now.name c.args.call.now.args) (action_of fraction_of c.in-Ok.action)
-    c.args.self.now new c.requires.can c.in-Ok.ensures.called c.in_ok-act.ensures.ok refl
+    c.args.self.now new c.requires.can c.in-Ok.ensures.called c.in_ok-act.ensures.ok c.in_ok-act.ensures.limit refl
     (act_reported c.args.self.now.report.bytes.items c.write_act.new.out.bytes.items N c.in-Ok.action.label c.before-2.result.now c.state.result.now
     c.act.new.self.before c.act.new.self.now.state c.in_ok-write_act.ensures.outcome c.before-2.ensures.state c.state.ensures.state)
 

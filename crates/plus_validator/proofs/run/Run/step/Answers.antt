@@ -23,7 +23,7 @@ returns-clause-steps c =
     let P = problem_of fraction_of c.args.ground.now in
     let new : Run = record { timeline = c.advance.new.self; report = c.write_next.new.report; ended = c.args.self.now.ended } in
     subst (Steps N P (fraction_of c.args.until) c.args.self.now new) (sym c.is_there.ensures)
-    (step_says N P (fraction_of c.args.until) c.args.self.now new c.in_ok-next.next c.requires.can c.in_ok-next.ensures.ok refl c.in_ok-write_next.ensures)
+    (step_says N P (fraction_of c.args.until) c.args.self.now new c.in_ok-next.next c.requires.can c.in_ok-next.ensures.ok c.in_ok-next.ensures.limit refl c.in_ok-write_next.ensures)
 
 pub returns-in_err-next-clause-fits : goal.returns-in_err-next-clause-fits
 returns-in_err-next-clause-fits c =
