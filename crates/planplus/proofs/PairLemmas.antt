@@ -18,7 +18,7 @@ use Rattle.plus_report.specs.declared.refusals.Early as early
 use Rattle.planplus.specs.declared.pair.Refusal.{Refusal}
 use Rattle.planplus.specs.declared.pair.Refusal.TheVariants.{Early, ReadFault, NoMemory}
 use Rattle.planplus.specs.Pair.{text_refusal, type_refusal, DomainRefused, no_domain, ProblemRefused, no_problem, PairRefused, by_domain, by_problem, by_types}
-use Rattle.planplus.specs.Reads.{ReadsDomain, ReadsProblem, NoDomain, NoProblem, NoPair}
+use Rattle.planplus.specs.Reads.{ReadsDomain, ReadsProblem, ReadsPair, NoDomain, NoProblem, NoPair}
 
 -- a text that was read whole
 abbrev pub WasRead : Option (List ℕ) → List ℕ → Type 0
@@ -119,3 +119,15 @@ pub pair_by_types :
     → NoPair domain problem b n r
 pair_by_types domain problem later d p b n fault r q rd rp f e =
     subst (NoPair domain problem b n) (sym e) (types_by domain problem d p b n fault rd (subst (λ o. ReadsProblem o p) q rp) f)
+
+-- the pair that was read and tested is the one that the texts spell
+pub pair_read :
+    (domain problem later : Option (List ℕ)) (d e : Domain) (p q : Problem) → later ≡ problem → ReadsDomain domain d
+    → ReadsProblem later p → (e ≡ d) × (q ≡ p) → ReadsPair domain problem e q
+pair_read domain problem later d e p q same rd rp is =
+    both domain problem (subst (ReadsDomain domain) (sym is.0) rd) (subst (ReadsProblem problem) (sym is.1) (subst (λ o. ReadsProblem o p) same rp))
+  where
+    both : (domain problem : Option (List ℕ)) → ReadsDomain domain e → ReadsProblem problem q → ReadsPair domain problem e q
+    both None problem rd rp = tt
+    both (Some ds) None rd rp = tt
+    both (Some ds) (Some ps) rd rp = record { domain_within = rd.1; problem_within = rp.1; domain_spelled = rd.0; problem_spelled = rp.0 }

@@ -1,6 +1,6 @@
 use Rattle.std.proofs.Common.{ap}
 use Rattle.std.proofs.lemmas.Result.{err_from_is_err_and}
-use Rattle.planplus.proofs.PairLemmas.{pair_by_domain, pair_by_problem, pair_by_types}
+use Rattle.planplus.proofs.PairLemmas.{pair_by_domain, pair_by_problem, pair_by_types, pair_read}
 use Rattle.planplus.proofs.pair.pair.Goals as goal
 
 pub returns-in_err-domain-clause-not_read : goal.returns-in_err-domain-clause-not_read
@@ -16,3 +16,8 @@ returns-in_err-problem-clause-not_read g c =
 pub returns-in-Err-clause-not_read : goal.returns-in-Err-clause-not_read
 returns-in-Err-clause-not_read g c =
     pair_by_types _ _ _ c.in_ok-domain.domain c.in_ok-problem.problem _ _ c.in-Err.fault _ (ap (λ f. f c.args.problem.now) c.in_ok-domain.ensures.keeps.same_bytes) c.in_ok-domain.ensures.read c.in_ok-problem.ensures.read c.in-Err.ensures.walks c.refuse_types.ensures
+
+pub returns-in-Ok-clause-read : goal.returns-in-Ok-clause-read
+returns-in-Ok-clause-read g c =
+    pair_read _ _ _ c.in_ok-domain.domain c.in-Ok.typed.domain c.in_ok-problem.problem c.in-Ok.typed.problem
+    (ap (λ f. f c.args.problem.now) c.in_ok-domain.ensures.keeps.same_bytes) c.in_ok-domain.ensures.read c.in_ok-problem.ensures.read c.in-Ok.ensures.pair
