@@ -2,7 +2,7 @@
 use Rattle.std.proofs.Common.{◌≡◌, ℕ, ◌<◌, ◌≤◌, ◌+◌, suc, Bool, true, false, List, [], ◌∷◌, length, get_or, set, drop, cond, refl, ap, sym, subst, ◌∙◌, arith, drop-cons}
 use Rattle.std.proofs.lemmas.List.{length-set, drop_all}
 use Rattle.std.proofs.lemmas.List.Elements.{All-head, All-tail}
-use Rattle.std.specs.Prelude.{Option, Some, None, find}
+use Rattle.std.specs.Prelude.{Some, None, find}
 use Rattle.std.specs.List.{All}
 use Rattle.plus_state.specs.declared.term.EventId.{EventId}
 use Rattle.plus_cascade.specs.Fired.{event_numbers, has_fired, first_repeated, with_fired}

@@ -1,6 +1,6 @@
 -- What a round comes to, by what its parts come to.
-use Rattle.std.proofs.Common.{◌≡◌, ℕ, ◌<◌, Bool, true, false, List, [], ◌∷◌, ◌++◌, length, map, refl, ap, sym, subst, ◌∙◌, arith}
-use Rattle.std.specs.Prelude.{◌≢◌, Option, Some, None, Ok, Err, option_map}
+use Rattle.std.proofs.Common.{◌≡◌, ℕ, Bool, List, [], ◌∷◌, ◌++◌, length, map, refl, ap, sym, subst, ◌∙◌, arith}
+use Rattle.std.specs.Prelude.{◌≢◌, Option, Some, None, Ok, Err}
 use Rattle.plus_fraction.specs.Fraction.{Fraction}
 use Rattle.plus_model.specs.Terms.{State, Problem}
 use Rattle.plus_model.specs.Joint as model
@@ -17,7 +17,7 @@ use Rattle.plus_cascade.specs.declared.rounds.CascadeStop.{CascadeStop}
 use Rattle.plus_cascade.specs.declared.rounds.CascadeStop.TheVariants.{Repeats, Conflict, NoValue, Number, Memory}
 use Rattle.plus_state.specs.declared.term.EventId.{EventId}
 use Rattle.plus_cascade.specs.Fired.{event_numbers, first_repeated}
-use Rattle.plus_cascade.specs.Steps.{RoundStep, asks, fails, repeats, AllPass, FirstStop, of_step, condition_nodes, repeat_steps, fire_steps, round_steps}
+use Rattle.plus_cascade.specs.Steps.{RoundStep, repeats, AllPass, FirstStop, of_step, condition_nodes, repeat_steps, fire_steps, round_steps}
 use Rattle.plus_cascade.specs.Rounds.{Fires, FailsJointly, NoRound, StopIs, of_joint, ConditionStops}
 use Rattle.plus_cascade.proofs.StepsLemmas.{pass_append, stop_left, stop_right, pass_nodes, stop_nodes, pass_joint, stop_joint}
 

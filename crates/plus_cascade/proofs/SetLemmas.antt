@@ -3,15 +3,13 @@ use Rattle.std.proofs.Common.{◌≡◌, ℕ, ◌<◌, ◌+◌, zero, suc, Bool,
 use Rattle.std.proofs.lemmas.List.{length-set, get_or-set_same, get_or-set_other}
 use Rattle.std.proofs.lemmas.Bool.{eqb-true, eqb-false}
 use Rattle.std.proofs.lemmas.Option.{unwrap_or-slice_get}
-use Rattle.std.specs.Prelude.{◌≢◌, Option, Some, None, find, nat_eq, slice_get, unwrap_or, if◌then◌else◌}
+use Rattle.std.specs.Prelude.{Option, Some, find, nat_eq, if◌then◌else◌}
 use Rattle.std.proofs.lemmas.List.Elements.{All-nil, All-cons}
-use Rattle.std.specs.List.{All, list_any}
+use Rattle.std.specs.List.{All}
 use Rattle.plus_model.specs.Terms.{Event, State, Problem}
 use Rattle.plus_model.specs.Value.{holds}
-use Rattle.plus_model.specs.Firing as model
-use Rattle.plus_model.specs.Firing.{numbers_of, firing, is_in, first_shared, effects_of}
-use Rattle.plus_cascade.specs.Fired.{has_fired, first_repeated, with_fired, IsSetOf}
-use Rattle.plus_cascade.specs.Rounds.{Fires}
+use Rattle.plus_model.specs.Firing.{numbers_of, firing, is_in, first_shared}
+use Rattle.plus_cascade.specs.Fired.{has_fired, first_repeated, with_fired}
 use Rattle.plus_cascade.specs.Laws.{EmptyAtFirst, RoundsGoOn}
 
 none_fired : (n e : ℕ) → has_fired (replicate n false) e ≡ false

@@ -1,5 +1,5 @@
 -- Steps of a round, by their lists.
-use Rattle.std.proofs.Common.{◌≡◌, ℕ, List, [], ◌∷◌, ◌++◌, map, refl, ap, sym, subst, ◌∙◌, inl, inr}
+use Rattle.std.proofs.Common.{◌≡◌, List, [], ◌∷◌, ◌++◌, map, ap, sym, ◌∙◌, inl, inr}
 use Rattle.plus_fraction.specs.Fraction.{Fraction}
 use Rattle.plus_state.specs.Node.{Node}
 use Rattle.plus_state.specs.Asked.{AllFit, FirstUnfit}

@@ -101,11 +101,15 @@ fn one_event_after_the_other(rt: HostRuntime) -> Result<(), Fail> {
     let ground = problem(alloc, events)?;
     let mut cascade = begin(alloc, &ground)?;
     let state = first_state(alloc)?;
-    let first = round(alloc, &mut cascade, &ground, &state).unwrap_or(None).ok_or("no first round")?;
+    let first = round(alloc, &mut cascade, &ground, &state)
+        .unwrap_or(None)
+        .ok_or("no first round")?;
     assert_eq!(rt; first.after.atoms(), 3);
     assert_eq!(rt; first.after.fluents(), 0);
     assert!(rt; fires(&first, &[EventId(0)], [false, true, false]));
-    let second = round(alloc, &mut cascade, &ground, &first.after).unwrap_or(None).ok_or("no second round")?;
+    let second = round(alloc, &mut cascade, &ground, &first.after)
+        .unwrap_or(None)
+        .ok_or("no second round")?;
     assert_eq!(rt; second.after.atoms(), 3);
     assert_eq!(rt; second.after.fluents(), 0);
     assert!(rt; fires(&second, &[EventId(1)], [false, false, true]));
@@ -122,7 +126,9 @@ fn an_event_that_would_fire_twice(rt: HostRuntime) -> Result<(), Fail> {
     let ground = problem(alloc, events)?;
     let mut cascade = begin(alloc, &ground)?;
     let state = first_state(alloc)?;
-    let first = round(alloc, &mut cascade, &ground, &state).unwrap_or(None).ok_or("no round")?;
+    let first = round(alloc, &mut cascade, &ground, &state)
+        .unwrap_or(None)
+        .ok_or("no round")?;
     assert_eq!(rt; first.after.atoms(), 3);
     assert_eq!(rt; first.after.fluents(), 0);
     assert!(rt; fires(&first, &[EventId(1)], [true, true, false]));
@@ -143,7 +149,9 @@ fn two_events_at_once(rt: HostRuntime) -> Result<(), Fail> {
     let ground = problem(alloc, events)?;
     let mut cascade = begin(alloc, &ground)?;
     let state = first_state(alloc)?;
-    let first = round(alloc, &mut cascade, &ground, &state).unwrap_or(None).ok_or("no round")?;
+    let first = round(alloc, &mut cascade, &ground, &state)
+        .unwrap_or(None)
+        .ok_or("no round")?;
     assert_eq!(rt; first.after.atoms(), 3);
     assert!(rt; fires(&first, &[EventId(0), EventId(1)], [false, true, true]));
     Ok(())

@@ -1,6 +1,5 @@
-use Rattle.std.proofs.Common.{◌≡◌, [], ◌<◌, map, sym, ◌∙◌, ap, arith, length, get_or}
-use Rattle.plus_state.specs.View.{event_of, effect_of, problem_of}
-use Rattle.plus_model.specs.Firing.{effects_of}
+use Rattle.std.proofs.Common.{◌≡◌, [], ◌<◌, ap, arith, length, get_or}
+use Rattle.plus_state.specs.View.{problem_of}
 use Rattle.plus_state.specs.Due.{Begun}
 use Rattle.plus_state.proofs.ApplyLemmas.{add_stops, answered}
 use Rattle.plus_cascade.proofs.FiredLemmas.{next_number, no_number}

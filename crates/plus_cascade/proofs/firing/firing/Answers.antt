@@ -1,4 +1,4 @@
-use Rattle.std.proofs.Common.{◌<◌, ◌≤◌, map, sym, length, arith}
+use Rattle.std.proofs.Common.{◌<◌, ◌≤◌, length, arith}
 use Rattle.plus_state.specs.View.{event_of}
 use Rattle.plus_state.proofs.TestsLemmas.{next_member, no_member}
 use Rattle.plus_cascade.proofs.FiringLemmas.{gathering_inside, gathering_err, gathering_next, gathering_end}

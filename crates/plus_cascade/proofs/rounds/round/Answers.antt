@@ -1,12 +1,8 @@
-use Rattle.std.proofs.Common.{◌≡◌, [], ℕ, List, ◌<◌, map, sym, ◌∙◌, ap, arith, length}
+use Rattle.std.proofs.Common.{sym, ◌∙◌, arith}
 use Rattle.std.proofs.lemmas.Bool.{eqb-true, eqb-false}
 use Rattle.std.proofs.lemmas.List.{length-map}
 use Rattle.std.proofs.lemmas.Result.{err_from_is_err_and}
-use Rattle.std.specs.Prelude.{option_map, Option}
-use Rattle.plus_state.specs.declared.term.EventId.{EventId}
-use Rattle.plus_state.specs.View.{event_of, problem_of}
-use Rattle.plus_cascade.specs.Fired.{event_numbers, first_repeated}
-use Rattle.plus_cascade.specs.Rounds.{StopIs, NoRound}
+use Rattle.plus_state.specs.View.{event_of}
 use Rattle.plus_cascade.proofs.SetLemmas.{firing_all}
 use Rattle.plus_cascade.proofs.RoundLemmas.{no_numbers, some_numbers, none_holds, repeats_first, fires, stops_early, stops_late}
 use Rattle.plus_cascade.proofs.rounds.round.Goals as goal

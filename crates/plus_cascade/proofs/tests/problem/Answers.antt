@@ -1,9 +1,9 @@
-use Rattle.std.proofs.Common.{◌≡◌, ℕ, ◌<◌, ◌^◌, List, [], length, map, ap, sym, subst, arith, lit<, refl}
+use Rattle.std.proofs.Common.{◌≡◌, ℕ, ◌<◌, ◌^◌, List, [], length, sym, subst, arith, lit<, refl}
 use Rattle.std.proofs.lemmas.List.{length-map}
 use Rattle.std.proofs.lemmas.Grind.{common_steps}
 use Rattle.std.proofs.lemmas.List.Elements.{All-nil, All-map}
 use Rattle.std.specs.List.{All}
-use Rattle.plus_model.specs.Terms.{Process, Event, Timed, Problem}
+use Rattle.plus_model.specs.Terms.{Process, Timed, Problem}
 use Rattle.plus_state.specs.Fits.{ProcessFits, EventFits, StateFits, Fits, ProblemFits}
 use Rattle.plus_cascade.proofs.tests.problem.Goals as goal
 

@@ -1,4 +1,3 @@
-use Rattle.std.proofs.Common.{sym, ◌∙◌, ap}
 use Rattle.plus_cascade.proofs.FiredLemmas.{next_number, growing_inside, growing_next}
 use Rattle.plus_cascade.proofs.cascade.Cascade.add.Goals as goal
 

@@ -1,6 +1,5 @@
 use Rattle.std.proofs.Common.{sym, ◌∙◌, ap, false, get_or}
 use Rattle.std.specs.Prelude.{slice_get, unwrap_or}
-use Rattle.plus_cascade.specs.Fired.{first_repeated, event_numbers}
 use Rattle.plus_cascade.proofs.FiredLemmas.{next_number, no_number, looking_start, looking_inside, looking_next, looking_found, looking_end}
 use Rattle.plus_cascade.proofs.cascade.Cascade.first_fired.Goals as goal
 
