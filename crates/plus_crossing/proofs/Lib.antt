@@ -1,0 +1,9 @@
+pub mod Ops
+pub mod Joins
+pub mod Meeting
+pub mod TruthAfter
+pub mod NextRoot
+pub mod Deciding
+pub mod Walking
+pub mod Moving
+pub mod Steady
