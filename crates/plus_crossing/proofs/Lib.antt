@@ -7,3 +7,4 @@ pub mod Deciding
 pub mod Walking
 pub mod Moving
 pub mod Steady
+pub mod Straight

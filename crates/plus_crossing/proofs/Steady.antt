@@ -20,17 +20,17 @@ use Rattle.plus_crossing.specs.Conds.{asks_open}
 use Rattle.plus_crossing.proofs.Joins.{numbered_back}
 use Rattle.plus_crossing.specs.Next.{cross_sides, cross_asks, RootSides, RootOpen, LiveRoot, Nowhere}
 
-abbrev IsLine : Piece → Type 0
+abbrev pub IsLine : Piece → Type 0
 IsLine Missing = Unit {0}
 IsLine Crooked = ⊥
 IsLine (Straight v m) = Unit {0}
 
-all_left : (fits : Fraction → Type 0) (xs ys : List Ask) → AllPass fits (xs ++ ys) → AllPass fits xs
+pub all_left : (fits : Fraction → Type 0) (xs ys : List Ask) → AllPass fits (xs ++ ys) → AllPass fits xs
 unfolding AllPass
 all_left fits [] ys h = tt
 all_left fits (x ∷ xs) ys h = (h.0, all_left fits xs ys h.1)
 
-all_right : (fits : Fraction → Type 0) (xs ys : List Ask) → AllPass fits (xs ++ ys) → AllPass fits ys
+pub all_right : (fits : Fraction → Type 0) (xs ys : List Ask) → AllPass fits (xs ++ ys) → AllPass fits ys
 unfolding AllPass
 all_right fits [] ys h = h
 all_right fits (x ∷ xs) ys h = all_right fits xs ys h.1
@@ -64,7 +64,7 @@ fluent_line : (o : Option Fraction) (m : Fraction) → IsLine (straight_fluent o
 fluent_line None m = tt
 fluent_line (Some v) m = tt
 
-is_line : (fits : Fraction → Type 0) (e : Expression) (s : State) (rs : List Fraction) → AllPass fits (piece_asks e s rs) → IsLine (piece e s rs)
+pub is_line : (fits : Fraction → Type 0) (e : Expression) (s : State) (rs : List Fraction) → AllPass fits (piece_asks e s rs) → IsLine (piece e s rs)
 unfolding op_piece
 is_line fits (Number x) s rs h = tt
 is_line fits (Fluent f) s rs h = fluent_line (fluent_of s f) (rate_of rs f)
