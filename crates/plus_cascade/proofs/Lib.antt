@@ -1,0 +1,5 @@
+pub mod FiredLemmas
+pub mod FiringLemmas
+pub mod StepsLemmas
+pub mod RoundLemmas
+pub mod SetLemmas

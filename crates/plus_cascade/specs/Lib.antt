@@ -1,0 +1,4 @@
+pub mod Fired
+pub mod Steps
+pub mod Rounds
+pub mod Laws

@@ -1,0 +1,16 @@
+//! Events of a ground PDDL+ problem that fire at one moment: rounds of a cascade.
+//!
+//! A round evaluates the condition of each event once, and then the effects of those that hold, once
+//! each. Besides, it copies the state once, and looks at each event that holds once in the set of those
+//! that have fired. `begin` and `copy` take time by the number of events.
+#![tactic(auto)]
+
+pub mod cascade;
+mod firing;
+pub mod laws;
+pub mod rounds;
+#[cfg(test)]
+mod tests;
+
+pub use cascade::{Cascade, begin};
+pub use rounds::{CascadeStop, FiredRound, round};

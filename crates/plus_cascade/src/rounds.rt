@@ -1,0 +1,85 @@
+// One round of a cascade.
+ghost use Rattle.std.specs.Prelude.{◌≡◌, length};
+ghost use Rattle.plus_state.specs.View.{problem_of};
+ghost use Rattle.plus_state.specs.Fits.{ProblemFits, StateFits};
+ghost use Rattle.plus_cascade.specs.Rounds.{Rounds, of_joint, set_after};
+
+use crate::cascade::Cascade;
+use crate::firing::{fired_together, firing};
+use plus_number::exact::Exact;
+use plus_state::outcome::JointStop;
+use plus_state::problem::Ground;
+use plus_state::states::State;
+use plus_state::term::{EventId, FluentId, Overflow};
+use std::alloc::Global;
+use std::fmt::Debug;
+use thiserror::Error;
+
+/// Why a round cannot be had.
+#[derive(Debug, Drop, Error)]
+#[error_bound(Q: Debug)]
+pub enum CascadeStop<Q> {
+    /// The event holds and has fired in this cascade.
+    #[error("event {} would fire twice", .0.0)]
+    Repeats(EventId),
+    /// Two writes on the fluent do not go together.
+    #[error("writes on fluent {} conflict", .0.0)]
+    Conflict(FluentId),
+    /// An amount or a value that a write on the fluent needs is missing.
+    #[error("a write on fluent {} lacks a value", .0.0)]
+    NoValue(FluentId),
+    #[error(transparent)]
+    Number(Overflow<Q>),
+    #[error("out of memory")]
+    Memory,
+}
+
+/// A round: the events that fired together, in ground order, and the state after them.
+#[derive(Drop)]
+pub struct FiredRound<Q: Exact> {
+    pub events: Vec<EventId>,
+    pub after: State<Q>,
+}
+
+fn joint_stop<Q: Exact>(stop: JointStop<Q>) -> CascadeStop<Q>
+    ensures { result ≡ of_joint stop }
+{
+    match stop {
+        JointStop::Conflict(fluent) => CascadeStop::Conflict(fluent),
+        JointStop::NoValue(fluent) => CascadeStop::NoValue(fluent),
+        JointStop::Number(overflow) => CascadeStop::Number(overflow),
+        JointStop::Memory => CascadeStop::Memory,
+    }
+}
+
+/// All events that hold in the state fire together, as one joint effect, and join the set. None exactly
+/// where no event holds. The refusal is the first step that stops: the conditions of all events in
+/// ground order, then whether one that holds has fired, then the joint effect.
+pub fn round<Q: Exact>(
+    alloc: Global,
+    cascade: &mut Cascade,
+    ground: &Ground<Q>,
+    state: &State<Q>,
+) -> Result<Option<FiredRound<Q>>, CascadeStop<Q>>
+    requires fits { ProblemFits (problem_of Q.value ground.now) }
+    requires state { StateFits (length (ground.now.atoms.items)) (length (ground.now.fluents.items)) state.now }
+    requires events { length cascade.old ≡ length (ground.now.events.items) }
+    ensures told { Rounds Q.value Q.fits (problem_of Q.value ground.now) cascade.old state.now result }
+    ensures set { cascade.new ≡ set_after cascade.old result }
+    ensures size { length cascade.new ≡ length cascade.old }
+{
+    let events = firing(alloc, ground, state)?;
+    if events.is_empty() {
+        return Ok(None);
+    }
+    match cascade.first_fired(&events) {
+        Some(event) => Err(CascadeStop::Repeats(event)),
+        None => match fired_together(alloc, ground, &events, state) {
+            Err(stop) => Err(joint_stop(stop)),
+            Ok(after) => {
+                cascade.add(&events);
+                Ok(Some(FiredRound { events, after }))
+            }
+        },
+    }
+}

@@ -1,0 +1,10 @@
+pub mod Ops
+pub mod Joins
+pub mod Meeting
+pub mod TruthAfter
+pub mod NextRoot
+pub mod Deciding
+pub mod Walking
+pub mod Moving
+pub mod Steady
+pub mod Straight

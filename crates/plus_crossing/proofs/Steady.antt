@@ -1,0 +1,136 @@
+-- Where each test passes and no live comparison has a root, plus_model's NoRoot holds.
+use Rattle.std.proofs.Common.{◌≡◌, ℕ, suc, ◌+◌, true, false, Bool, List, [], ◌∷◌, ◌++◌, ◌||◌, refl, ap, sym, subst, ◌∙◌, if◌then◌else◌, inl, inr, ◌⊎◌, pos}
+use Rattle.std.specs.Prelude.{Option, Some, None}
+use Rattle.plus_fraction.specs.Fraction.{Fraction, whole, ◌<ℚ◌, ◌*ℚ◌, ◌/ℚ◌}
+use Rattle.plus_model.specs.Terms.{Expression, Number, Fluent, Sum, Difference, Product, Quotient, Condition, Always, Never, Both, Either, Atom, Compare, State}
+use Rattle.plus_model.specs.Value.{is_zero, fluent_of, signed, atom_of}
+use Rattle.plus_model.specs.Piece.{Piece, Missing, Crooked, Straight, piece, on_pieces, straight_fluent, rate_of, NoRoot, NoRootSides}
+use Rattle.plus_model.specs.Live.{live, live_both, live_either}
+use Rattle.plus_state.specs.declared.term.Sign.{Sign}
+use Rattle.plus_state.specs.declared.term.Sign.TheVariants.{Plus, Minus, Times, Divide}
+use Rattle.plus_crossing.specs.Asked.{Ask, AllPass}
+use Rattle.plus_crossing.specs.Pieces.{op_asks, op_piece, asks_both, piece_asks}
+use Rattle.plus_crossing.specs.Roots.{IsRoot}
+use Rattle.plus_crossing.specs.Laws.{OneTruthUntilRoot}
+use Rattle.plus_fraction.proofs.FractionAtMost.{≤ℚ-<ℚ_trans}
+use Rattle.plus_model.proofs.Search.{live_truth}
+use Rattle.plus_state.specs.Fits.{comparisons}
+use Rattle.plus_state.specs.Tests.{verdict, decided}
+use Rattle.plus_crossing.specs.Conds.{asks_open}
+use Rattle.plus_crossing.proofs.Joins.{numbered_back}
+use Rattle.plus_crossing.specs.Next.{cross_sides, cross_asks, RootSides, RootOpen, LiveRoot, Nowhere}
+
+abbrev pub IsLine : Piece → Type 0
+IsLine Missing = Unit {0}
+IsLine Crooked = ⊥
+IsLine (Straight v m) = Unit {0}
+
+pub all_left : (fits : Fraction → Type 0) (xs ys : List Ask) → AllPass fits (xs ++ ys) → AllPass fits xs
+unfolding AllPass
+all_left fits [] ys h = tt
+all_left fits (x ∷ xs) ys h = (h.0, all_left fits xs ys h.1)
+
+pub all_right : (fits : Fraction → Type 0) (xs ys : List Ask) → AllPass fits (xs ++ ys) → AllPass fits ys
+unfolding AllPass
+all_right fits [] ys h = h
+all_right fits (x ∷ xs) ys h = all_right fits xs ys h.1
+
+product_line : (x y z : Fraction) (b c : Bool) → (b || c) ≡ true → IsLine (if b then Straight x y else if c then Straight x z else Crooked)
+product_line x y z true c e = tt
+product_line x y z false true e = tt
+product_line x y z false false e = cc
+
+quotient_line : (x y : Fraction) (b c : Bool) → b ≡ true → IsLine (if b then if c then Missing else Straight x y else Crooked)
+quotient_line x y true true e = tt
+quotient_line x y true false e = tt
+quotient_line x y false c e = cc
+
+op_line : (fits : Fraction → Type 0) (op : Sign) (v m w n : Fraction) → AllPass fits (op_asks op v m w n) → IsLine (op_piece op v m w n)
+unfolding op_asks op_piece AllPass
+op_line fits Plus v m w n h = tt
+op_line fits Minus v m w n h = tt
+op_line fits Times v m w n h = product_line (v *ℚ w) (v *ℚ n) (m *ℚ w) (is_zero m) (is_zero n) h.0
+op_line fits Divide v m w n h = quotient_line (v /ℚ w) (m /ℚ w) (is_zero n) (is_zero w) h.0
+
+both_line : (fits : Fraction → Type 0) (op : Sign) (p q : Piece) (xs ys : List Ask) → (AllPass fits xs → IsLine p) → (AllPass fits ys → IsLine q) → AllPass fits (asks_both op p xs q ys) → IsLine (on_pieces (op_piece op) p q)
+unfolding asks_both
+both_line fits op Missing q xs ys f g h = tt
+both_line fits op Crooked q xs ys f g h = f (all_left fits xs _ h)
+both_line fits op (Straight v m) Missing xs ys f g h = tt
+both_line fits op (Straight v m) Crooked xs ys f g h = g (all_left fits ys _ (all_right fits xs _ h))
+both_line fits op (Straight v m) (Straight w n) xs ys f g h = op_line fits op v m w n (all_right fits ys _ (all_right fits xs _ h))
+
+fluent_line : (o : Option Fraction) (m : Fraction) → IsLine (straight_fluent o m)
+fluent_line None m = tt
+fluent_line (Some v) m = tt
+
+pub is_line : (fits : Fraction → Type 0) (e : Expression) (s : State) (rs : List Fraction) → AllPass fits (piece_asks e s rs) → IsLine (piece e s rs)
+unfolding op_piece
+is_line fits (Number x) s rs h = tt
+is_line fits (Fluent f) s rs h = fluent_line (fluent_of s f) (rate_of rs f)
+is_line fits (Sum a b) s rs h = both_line fits Plus (piece a s rs) (piece b s rs) (piece_asks a s rs) (piece_asks b s rs) (is_line fits a s rs) (is_line fits b s rs) h
+is_line fits (Difference a b) s rs h = both_line fits Minus (piece a s rs) (piece b s rs) (piece_asks a s rs) (piece_asks b s rs) (is_line fits a s rs) (is_line fits b s rs) h
+is_line fits (Product a b) s rs h = both_line fits Times (piece a s rs) (piece b s rs) (piece_asks a s rs) (piece_asks b s rs) (is_line fits a s rs) (is_line fits b s rs) h
+is_line fits (Quotient a b) s rs h = both_line fits Divide (piece a s rs) (piece b s rs) (piece_asks a s rs) (piece_asks b s rs) (is_line fits a s rs) (is_line fits b s rs) h
+
+sides_free : (fits : Fraction → Type 0) (p q : Piece) (xs ys : List Ask) (a b : Fraction) → ((x : Fraction) → a <ℚ x → whole (pos 0) <ℚ x) → (AllPass fits xs → IsLine p) → (AllPass fits ys → IsLine q) → AllPass fits (cross_sides p xs q ys) → ((x : Fraction) → a <ℚ x → x <ℚ b → RootSides p q x → ⊥) → NoRootSides p q a b
+unfolding cross_sides RootSides
+sides_free fits Missing q xs ys a b up f g h k = tt
+sides_free fits Crooked q xs ys a b up f g h k = f (all_left fits xs _ h)
+sides_free fits (Straight v m) Missing xs ys a b up f g h k = tt
+sides_free fits (Straight v m) Crooked xs ys a b up f g h k = g (all_left fits ys _ (all_right fits xs _ h))
+sides_free fits (Straight v m) (Straight w n) xs ys a b up f g h k = λ r i j d e. k r i j (record { apart = d; above = up r i; meet = e })
+
+decided_free : (l : Condition) (s : State) (rs : List Fraction) (a b : Fraction) (t : Bool) → verdict l ≡ Some t → NoRoot l s rs a b
+decided_free Always s rs a b t e = tt
+decided_free Never s rs a b t e = tt
+decided_free (Both c d) s rs a b t e = cc
+decided_free (Either c d) s rs a b t e = cc
+decided_free (Atom k positive) s rs a b t e = tt
+decided_free (Compare u l r positive) s rs a b t e = cc
+
+free_both : (c d : Condition) (s : State) (rs : List Fraction) (a b : Fraction) → NoRoot c s rs a b → NoRoot d s rs a b → NoRoot (live_both c d) s rs a b
+free_both Never d s rs a b x y = tt
+free_both c Never s rs a b x y = tt
+free_both Always d s rs a b x y = y
+free_both c Always s rs a b x y = x
+free_both c d s rs a b x y = (x, y)
+
+free_either : (c d : Condition) (s : State) (rs : List Fraction) (a b : Fraction) → NoRoot c s rs a b → NoRoot d s rs a b → NoRoot (live_either c d) s rs a b
+free_either Always d s rs a b x y = tt
+free_either c Always s rs a b x y = tt
+free_either Never d s rs a b x y = y
+free_either c Never s rs a b x y = x
+free_either c d s rs a b x y = (x, y)
+
+atom_free : (t : Bool) (s : State) (rs : List Fraction) (a b : Fraction) → NoRoot (if t then Always else Never) s rs a b
+atom_free true s rs a b = tt
+atom_free false s rs a b = tt
+
+-- open or decided
+either_way : (fits : Fraction → Type 0) (o : Option Bool) (xs ys : List Ask) (P Q : Fraction → Type 0) (a b : Fraction) (A B G : Type 0) → ((t : Bool) → o ≡ Some t → G) → (A → B → G)
+    → (AllPass fits xs → ((x : Fraction) → a <ℚ x → x <ℚ b → P x → ⊥) → A) → (AllPass fits ys → ((x : Fraction) → a <ℚ x → x <ℚ b → Q x → ⊥) → B)
+    → AllPass fits (asks_open o xs ys) → ((x : Fraction) → a <ℚ x → x <ℚ b → RootOpen o P Q x → ⊥) → G
+unfolding asks_open RootOpen
+either_way fits (Some t) xs ys P Q a b A B G decided join f g h k = decided t refl
+either_way fits None xs ys P Q a b A B G decided join f g h k =
+    join (f (all_left fits xs ys h) (λ x i j p. k x i j (inl p))) (g (all_right fits xs ys h) (λ x i j q. k x i j (inr q)))
+
+-- the hypothesis of the constancy law
+pub no_root_live : (fits : Fraction → Type 0) (k : ℕ) (c : Condition) (s : State) (rs : List Fraction) (a b : Fraction) → ((x : Fraction) → a <ℚ x → whole (pos 0) <ℚ x) → AllPass fits (cross_asks k c s rs) → ((x : Fraction) → a <ℚ x → x <ℚ b → LiveRoot c s rs x → ⊥) → NoRoot (live c s) s rs a b
+unfolding decided
+no_root_live fits n Always s rs a b up h k = tt
+no_root_live fits n Never s rs a b up h k = tt
+no_root_live fits n (Both c d) s rs a b up h k =
+    either_way fits (decided (Both c d) s) (cross_asks n c s rs) (cross_asks (n + comparisons c) d s rs) (LiveRoot c s rs) (LiveRoot d s rs) a b (NoRoot (live c s) s rs a b) (NoRoot (live d s) s rs a b) (NoRoot (live (Both c d) s) s rs a b)
+    (decided_free (live_both (live c s) (live d s)) s rs a b) (free_both (live c s) (live d s) s rs a b) (no_root_live fits n c s rs a b up) (no_root_live fits (n + comparisons c) d s rs a b up) h k
+no_root_live fits n (Either c d) s rs a b up h k =
+    either_way fits (decided (Either c d) s) (cross_asks n c s rs) (cross_asks (n + comparisons c) d s rs) (LiveRoot c s rs) (LiveRoot d s rs) a b (NoRoot (live c s) s rs a b) (NoRoot (live d s) s rs a b) (NoRoot (live (Either c d) s) s rs a b)
+    (decided_free (live_either (live c s) (live d s)) s rs a b) (free_either (live c s) (live d s) s rs a b) (no_root_live fits n c s rs a b up) (no_root_live fits (n + comparisons c) d s rs a b up) h k
+no_root_live fits n (Atom i positive) s rs a b up h k = atom_free (signed positive (atom_of s i)) s rs a b
+no_root_live fits n (Compare t l r positive) s rs a b up h k =
+    sides_free fits (piece l s rs) (piece r s rs) (piece_asks l s rs) (piece_asks r s rs) a b up (is_line fits l s rs) (is_line fits r s rs) (numbered_back fits (suc n) _ h) k
+
+pub one_truth_until : (fits : Fraction → Type 0) → OneTruthUntilRoot fits
+one_truth_until fits c s rs a u up h k x y ax xu ay yu =
+    live_truth c s rs a u (no_root_live fits 0 c s rs a u (λ z q. ≤ℚ-<ℚ_trans _ _ _ up q) h k) x y ax xu ay yu

@@ -1,0 +1,12 @@
+use Rattle.std.proofs.Common.{true, false, map, drop}
+use Rattle.plus_state.specs.View.{condition_of}
+use Rattle.plus_crossing.proofs.Walking.{Counting}
+use Rattle.plus_crossing.proofs.decisions.+comparisons.Given as goal
+
+abbrev pub invariant-all : goal.invariant-all
+invariant-all g l =
+    Counting true l.count (map (condition_of g.Q.Exact.value) (drop l.member-index l.member-items)) (map (condition_of g.Q.Exact.value) l.member-items)
+
+abbrev pub invariant-any : goal.invariant-any
+invariant-any g l =
+    Counting false l.count (map (condition_of g.Q.Exact.value) (drop l.member-index l.member-items)) (map (condition_of g.Q.Exact.value) l.member-items)

@@ -1,0 +1,26 @@
+//! Lines along which values move at constant rates: pieces of expressions, what holds just after a
+//! state, the next root of a condition, and moved states.
+//!
+//! `piece` visits each node of an expression once. `just_after` and `next_crossing` first look at the
+//! atoms of a condition, and then take each live comparison once, with two pieces; neither moves a
+//! state, and neither takes memory. `moved` copies the state once and visits each fluent once.
+#![tactic(auto)]
+
+pub mod afters;
+pub mod crossings;
+pub mod decisions;
+pub mod laws;
+pub mod moves;
+pub mod node;
+pub mod pieces;
+pub mod rates;
+pub mod roots;
+#[cfg(test)]
+mod tests;
+
+pub use afters::just_after;
+pub use crossings::next_crossing;
+pub use moves::{MoveStop, moved};
+pub use node::{CondStop, PieceStop};
+pub use pieces::{Linear, piece};
+pub use rates::Rates;
