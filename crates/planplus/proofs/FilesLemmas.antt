@@ -1,5 +1,5 @@
 -- Finding a name among the names that a shelf of files is made for.
-use Rattle.std.proofs.Common.{◌≡◌, ℕ, zero, suc, List, [], ◌∷◌, ◌∙◌, ap, sym, subst, map, Some, None, Option, slice_get, slice_index_or, position, string_bytes, String, Global}
+use Rattle.std.proofs.Common.{◌≡◌, ℕ, zero, suc, List, [], ◌∷◌, ap, subst, map, Some, None, slice_get, slice_index_or, position, string_bytes, String, Global}
 use Rattle.std.specs.Prelude.{Contains}
 use Rattle.std.specs.Str.{bytes_eq}
 use Rattle.plus_types.proofs.NamesLemmas.{position-map}

@@ -1,7 +1,6 @@
 -- Why a text, and a pair, is refused, put together from what the calls answer.
-use Rattle.std.proofs.Common.{◌≡◌, ℕ, ◌≤◌, List, Option, Some, None, Err, arith, ap, sym, subst, ◌∙◌, refl, length}
+use Rattle.std.proofs.Common.{◌≡◌, ℕ, ◌≤◌, List, Option, Some, None, Err, arith, sym, subst, refl, length}
 use Rattle.std.specs.Prelude.{IfSome}
-use Rattle.plus_io.specs.Faults.{Rose}
 use Rattle.plus_tokens.specs.declared.token.LexFault.TheVariants as lex
 use Rattle.plus_tree.specs.declared.faults.TextFault.{TextFault}
 use Rattle.plus_tree.specs.declared.faults.TextFault.TheVariants as faults

@@ -2,25 +2,26 @@
 use Rattle.std.proofs.Common.{◌≡◌, ◌⊎◌, ℕ, List, [], ◌∷◌, Option, Some, None, subst, sym, ◌∙◌, refl, rules, IsTrue, inl, inr}
 use Rattle.std.specs.Prelude.{IfSome}
 use Rattle.plus_io.specs.Faults.{Rose}
-use Rattle.plus_io.specs.Taken.{Took}
 use Rattle.plus_tree.specs.declared.trees.Domain.{Domain}
 use Rattle.plus_tree.specs.declared.trees.Problem.{Problem}
 use Rattle.plus_types.specs.Faults.{faults_of, is_empty, is_well_typed}
 use Rattle.plus_report.specs.declared.refusals.Early.{Early}
+use Rattle.plus_report.specs.declared.refusals.Early.TheVariants as es
 use Rattle.plus_report.specs.Refusals.{early_text}
 use Rattle.plus_validator.specs.declared.judge.Outcome.{Outcome}
 use Rattle.plus_validator.specs.declared.judge.Outcome.TheVariants as outcomes
-use Rattle.plus_validator.specs.Validates.{Accepts}
+use Rattle.plus_validator.specs.Validates.{Accepts, IsRefusal, Refuses, BreaksOff, RefusesPair, RefusesPairInPart}
 use Rattle.planplus.specs.declared.run.Status.{Status}
 use Rattle.planplus.specs.declared.run.Status.TheVariants as s
-use Rattle.planplus.specs.Pair.{PairRefused, SpellsPair}
+use Rattle.planplus.specs.Pair.{PairRefused}
 use Rattle.planplus.specs.Reads.{ReadsPair}
-use Rattle.planplus.specs.Headline.{IsValidRun, IsRefusedRun, for_pair, for_plan, OnRefusal, Writes, early_status, status_of}
+use Rattle.planplus.specs.Headline.{SpellsWellTyped, IsValidRun, IsRefusedRun, for_pair, for_ground, for_plan, IsBrokenRun, in_pair, in_ground, in_plan, OnRefusal, Writes, early_status, status_of}
 
 none_at_all : {A : Type 0} (xs : List A) → IsTrue (is_empty xs) → xs ≡ []
 none_at_all [] w = refl
 none_at_all (x ∷ xs) w = absurd (search rules)
 
+-- ---- a status comes of the outcome alone
 only_valid : (o : Outcome) → status_of o ≡ s.Valid → o ≡ outcomes.Valid
 only_valid outcomes.Valid e = refl
 only_valid outcomes.Invalid e = cc
@@ -30,24 +31,14 @@ only_valid outcomes.ReadFault e = cc
 only_valid outcomes.WriteFault e = cc
 only_valid outcomes.NoMemory e = cc
 
-valid_then :
-    (domain problem plan : Option (List ℕ)) (d : Domain) (p : Problem) (old new : Option (List ℕ)) → ReadsPair domain problem d p
-    → faults_of d p ≡ [] → IfSome plan (λ text. Accepts d p 10000 text old new)
-    → IfSome domain (λ ds. IfSome problem (λ ps. IfSome plan (λ ls. IsValidRun ds ps ls old new)))
-valid_then None problem plan d p old new r w a = tt
-valid_then (Some ds) None plan d p old new r w a = tt
-valid_then (Some ds) (Some ps) None d p old new r w a = tt
-valid_then (Some ds) (Some ps) (Some ls) d p old new r w a = record { d = d; p = p; spelled = r; well_typed = w; accepted = a }
-
--- a plan that is valid for a well-typed pair
-pub valid_run :
-    (domain problem plan later : Option (List ℕ)) (d : Domain) (p : Problem) (old new : Option (List ℕ)) (o : Outcome) (r : Status)
-    → later ≡ plan → ReadsPair domain problem d p → IsTrue (is_well_typed d p)
-    → (o ≡ outcomes.Valid → IfSome later (λ text. Accepts d p 10000 text old new)) → r ≡ status_of o → r ≡ s.Valid
-    → IfSome domain (λ ds. IfSome problem (λ ps. IfSome plan (λ ls. IsValidRun ds ps ls old new)))
-valid_run domain problem plan later d p old new o r q rd w a e v =
-    valid_then domain problem plan d p old new rd (none_at_all (faults_of d p) w)
-    (subst (λ b. IfSome b (λ text. Accepts d p 10000 text old new)) q (a (only_valid o (sym e ∙ v))))
+only_broken : (o : Outcome) → status_of o ≡ s.WriteFault → o ≡ outcomes.WriteFault
+only_broken outcomes.Valid e = cc
+only_broken outcomes.Invalid e = cc
+only_broken outcomes.Beyond e = cc
+only_broken outcomes.BadText e = cc
+only_broken outcomes.ReadFault e = cc
+only_broken outcomes.WriteFault e = refl
+only_broken outcomes.NoMemory e = cc
 
 on_refusal : (r : Status) (P : Type 0) → P → OnRefusal r P
 on_refusal s.Valid P h = tt
@@ -59,33 +50,114 @@ on_refusal s.ReadFault P h = tt
 on_refusal s.WriteFault P h = tt
 on_refusal s.NoMemory P h = tt
 
-plan_then :
-    (domain problem : Option (List ℕ)) (d : Domain) (p : Problem) (old new : Option (List ℕ)) (r : Status) → ReadsPair domain problem d p
-    → faults_of d p ≡ [] → IfSome domain (λ ds. IfSome problem (λ ps. IsRefusedRun ds ps old new r))
-plan_then None problem d p old new r rd w = tt
-plan_then (Some ds) None d p old new r rd w = tt
-plan_then (Some ds) (Some ps) d p old new r rd w = for_plan d p rd w
+on_outcome : (o : Outcome) (P : Type 0) → (IsRefusal o → P) → OnRefusal (status_of o) P
+on_outcome outcomes.Valid P h = tt
+on_outcome outcomes.Invalid P h = h tt
+on_outcome outcomes.Beyond P h = h tt
+on_outcome outcomes.BadText P h = h tt
+on_outcome outcomes.ReadFault P h = tt
+on_outcome outcomes.WriteFault P h = tt
+on_outcome outcomes.NoMemory P h = tt
 
--- a plan that is refused for a well-typed pair
+-- ---- where the shelf tells both texts, what is shown of the pair read is shown of them
+on_pair :
+    (domain problem : Option (List ℕ)) (d : Domain) (p : Problem) (P : List ℕ → List ℕ → Type 0) → ReadsPair domain problem d p
+    → IsTrue (is_well_typed d p) → ((ds ps : List ℕ) → SpellsWellTyped ds ps d p → P ds ps)
+    → IfSome domain (λ ds. IfSome problem (λ ps. P ds ps))
+on_pair None problem d p P r w f = tt
+on_pair (Some ds) None d p P r w f = tt
+on_pair (Some ds) (Some ps) d p P r w f = f ds ps (record { spelled = r; well_typed = none_at_all (faults_of d p) w })
+
+on_plan : (plan : Option (List ℕ)) (P Q : List ℕ → Type 0) → IfSome plan P → ((ls : List ℕ) → P ls → Q ls) → IfSome plan Q
+on_plan None P Q h f = tt
+on_plan (Some ls) P Q h f = f ls h
+
+-- ---- a well-typed pair
+
+-- a plan that is valid
+pub valid_run :
+    (domain problem plan later : Option (List ℕ)) (d : Domain) (p : Problem) (old new : Option (List ℕ)) (o : Outcome) (r : Status)
+    → later ≡ plan → ReadsPair domain problem d p → IsTrue (is_well_typed d p)
+    → (o ≡ outcomes.Valid → IfSome later (λ text. Accepts d p 10000 text old new)) → r ≡ status_of o → r ≡ s.Valid
+    → IfSome domain (λ ds. IfSome problem (λ ps. IfSome plan (λ ls. IsValidRun ds ps ls old new)))
+valid_run domain problem plan later d p old new o r q rd w a e v =
+    on_pair domain problem d p (λ ds ps. IfSome plan (λ ls. IsValidRun ds ps ls old new)) rd w (λ ds ps t.
+    on_plan plan (λ text. Accepts d p 10000 text old new) (λ ls. IsValidRun ds ps ls old new)
+    (subst (λ b. IfSome b (λ text. Accepts d p 10000 text old new)) q (a (only_valid o (sym e ∙ v))))
+    (λ ls x. record { d = d; p = p; pair = t; accepted = x }))
+
+-- a plan that is refused, or a pair that is not grounded
+refused_run :
+    (ds ps : List ℕ) (plan later : Option (List ℕ)) (d : Domain) (p : Problem) (old new : Option (List ℕ)) (o : Outcome) → later ≡ plan
+    → SpellsWellTyped ds ps d p
+    → ((o ≡ outcomes.Beyond) × RefusesPair d old new) ⊎ IfSome later (λ text. Refuses d p 10000 text o old new)
+    → IsRefusedRun ds ps plan old new (status_of o)
+refused_run ds ps plan later d p old new o q t (inl g) = for_ground d p t (subst (λ x. status_of x ≡ s.Beyond) (sym g.0) refl) g.1
+refused_run ds ps plan later d p old new o q t (inr h) =
+    for_plan d p o t refl (subst (λ b. IfSome b (λ text. Refuses d p 10000 text o old new)) q h)
+
 pub plan_refused :
-    (domain problem : Option (List ℕ)) (d : Domain) (p : Problem) (old new : Option (List ℕ)) (r : Status) → ReadsPair domain problem d p
-    → IsTrue (is_well_typed d p) → OnRefusal r (IfSome domain (λ ds. IfSome problem (λ ps. IsRefusedRun ds ps old new r)))
-plan_refused domain problem d p old new r rd w =
-    on_refusal r _ (plan_then domain problem d p old new r rd (none_at_all (faults_of d p) w))
+    (domain problem plan later : Option (List ℕ)) (d : Domain) (p : Problem) (old new : Option (List ℕ)) (o : Outcome) (r : Status)
+    → later ≡ plan → ReadsPair domain problem d p → IsTrue (is_well_typed d p)
+    → (IsRefusal o → ((o ≡ outcomes.Beyond) × RefusesPair d old new) ⊎ IfSome later (λ text. Refuses d p 10000 text o old new))
+    → r ≡ status_of o → OnRefusal r (IfSome domain (λ ds. IfSome problem (λ ps. IsRefusedRun ds ps plan old new r)))
+plan_refused domain problem plan later d p old new o r q rd w h e =
+    subst (λ x. OnRefusal x (IfSome domain (λ ds. IfSome problem (λ ps. IsRefusedRun ds ps plan old new x)))) (sym e)
+    (on_outcome o (IfSome domain (λ ds. IfSome problem (λ ps. IsRefusedRun ds ps plan old new (status_of o)))) (λ i.
+    on_pair domain problem d p (λ ds ps. IsRefusedRun ds ps plan old new (status_of o)) rd w (λ ds ps t.
+    refused_run ds ps plan later d p old new o q t (h i))))
 
-pair_then :
-    (domain problem : Option (List ℕ)) (e : Early) (old new : Option (List ℕ)) (r : Status)
-    → IfSome domain (λ ds. IfSome problem (λ ps. PairRefused ds ps e)) → r ≡ early_status e → Took old new (early_text e)
-    → IfSome domain (λ ds. IfSome problem (λ ps. IsRefusedRun ds ps old new r))
-pair_then None problem e old new r h q t = tt
-pair_then (Some ds) None e old new r h q t = tt
-pair_then (Some ds) (Some ps) e old new r h q t = for_pair e h q t
+-- a sink that failed
+broken_run :
+    (ds ps : List ℕ) (plan later : Option (List ℕ)) (d : Domain) (p : Problem) (old new : Option (List ℕ)) → later ≡ plan
+    → SpellsWellTyped ds ps d p → RefusesPairInPart d old new ⊎ IfSome later (λ text. BreaksOff d p 10000 text old new)
+    → IsBrokenRun ds ps plan old new
+broken_run ds ps plan later d p old new q t (inl g) = in_ground d p t g
+broken_run ds ps plan later d p old new q t (inr h) = in_plan d p t (subst (λ b. IfSome b (λ text. BreaksOff d p 10000 text old new)) q h)
+
+pub plan_broken :
+    (domain problem plan later : Option (List ℕ)) (d : Domain) (p : Problem) (old new : Option (List ℕ)) (before now : ℕ) (o : Outcome) (r : Status)
+    → later ≡ plan → ReadsPair domain problem d p → IsTrue (is_well_typed d p)
+    → (o ≡ outcomes.WriteFault → Rose before now × (RefusesPairInPart d old new ⊎ IfSome later (λ text. BreaksOff d p 10000 text old new)))
+    → r ≡ status_of o → r ≡ s.WriteFault → IfSome domain (λ ds. IfSome problem (λ ps. IsBrokenRun ds ps plan old new))
+plan_broken domain problem plan later d p old new before now o r q rd w h e v =
+    on_pair domain problem d p (λ ds ps. IsBrokenRun ds ps plan old new) rd w (λ ds ps t.
+    broken_run ds ps plan later d p old new q t ((h (only_broken o (sym e ∙ v))).1))
+
+-- ---- no pair
+
+told :
+    (domain problem : Option (List ℕ)) (e : Early) (P : List ℕ → List ℕ → Type 0)
+    → IfSome domain (λ ds. IfSome problem (λ ps. PairRefused ds ps e)) → ((ds ps : List ℕ) → PairRefused ds ps e → P ds ps)
+    → IfSome domain (λ ds. IfSome problem (λ ps. P ds ps))
+told None problem e P h f = tt
+told (Some ds) None e P h f = tt
+told (Some ds) (Some ps) e P h f = f ds ps h
 
 -- a pair that is refused with one line
 pub pair_refused :
-    (domain problem : Option (List ℕ)) (e : Early) (old new : Option (List ℕ)) (before now : ℕ) (r : Status)
+    (domain problem plan : Option (List ℕ)) (e : Early) (old new : Option (List ℕ)) (before now : ℕ) (r : Status)
     → IfSome domain (λ ds. IfSome problem (λ ps. PairRefused ds ps e)) → Writes (early_text e) (early_status e) old new before now r
-    → OnRefusal r (IfSome domain (λ ds. IfSome problem (λ ps. IsRefusedRun ds ps old new r)))
-pair_refused domain problem e old new before now r h (inl w) = on_refusal r _ (pair_then domain problem e old new r h w.0 w.1)
-pair_refused domain problem e old new before now r h (inr w) =
-    subst (λ x. OnRefusal x (IfSome domain (λ ds. IfSome problem (λ ps. IsRefusedRun ds ps old new x)))) (sym w.0) tt
+    → OnRefusal r (IfSome domain (λ ds. IfSome problem (λ ps. IsRefusedRun ds ps plan old new r)))
+pair_refused domain problem plan e old new before now r h (inl w) =
+    on_refusal r _ (told domain problem e (λ ds ps. IsRefusedRun ds ps plan old new r) h (λ ds ps x. for_pair e x w.0 w.1))
+pair_refused domain problem plan e old new before now r h (inr w) =
+    subst (λ x. OnRefusal x (IfSome domain (λ ds. IfSome problem (λ ps. IsRefusedRun ds ps plan old new x)))) (sym w.0) tt
+
+early_plain : (e : Early) → early_status e ≡ s.WriteFault → ⊥
+early_plain (es.BadText text start finish word) q = cc
+early_plain (es.BadLine line start finish) q = cc
+early_plain (es.TooLong text) q = cc
+early_plain (es.Depth text at) q = cc
+early_plain es.DepthOut q = cc
+early_plain (es.LineTooLong line) q = cc
+early_plain (es.Literal text start finish) q = cc
+early_plain (es.TooMany kind most) q = cc
+
+pub pair_broken :
+    (domain problem plan : Option (List ℕ)) (e : Early) (old new : Option (List ℕ)) (before now : ℕ) (r : Status)
+    → IfSome domain (λ ds. IfSome problem (λ ps. PairRefused ds ps e)) → Writes (early_text e) (early_status e) old new before now r
+    → r ≡ s.WriteFault → IfSome domain (λ ds. IfSome problem (λ ps. IsBrokenRun ds ps plan old new))
+pair_broken domain problem plan e old new before now r h (inl w) v = absurd (early_plain e (sym w.0 ∙ v))
+pair_broken domain problem plan e old new before now r h (inr w) v =
+    told domain problem e (λ ds ps. IsBrokenRun ds ps plan old new) h (λ ds ps x. in_pair e x w.2)

@@ -1,6 +1,6 @@
 -- What an answer of the top call shows.
 use Rattle.std.specs.Prelude.{◌≡◌, ◌⊎◌, ℕ, List, [], Option, Some, None, IfSome, codes}
-use Rattle.plus_io.specs.Taken.{Took}
+use Rattle.plus_io.specs.Taken.{Took, TookPart}
 use Rattle.plus_tree.specs.declared.trees.Domain.{Domain}
 use Rattle.plus_tree.specs.declared.trees.Problem.{Problem}
 use Rattle.plus_types.specs.Faults.{faults_of}
@@ -12,7 +12,7 @@ use Rattle.plus_validator.specs.declared.judge.Outcome.TheVariants as outcomes
 use Rattle.planplus.specs.declared.run.Status.{Status}
 use Rattle.planplus.specs.declared.run.Status.TheVariants as s
 use Rattle.plus_report.specs.Refusals.{early_text}
-use Rattle.plus_validator.specs.Validates.{Accepts}
+use Rattle.plus_validator.specs.Validates.{Accepts, Refuses, BreaksOff, RefusesPair, RefusesPairInPart}
 use Rattle.planplus.specs.Command.{Command, Check}
 use Rattle.planplus.specs.Pair.{SpellsPair, PairRefused}
 
@@ -20,13 +20,17 @@ use Rattle.planplus.specs.Pair.{SpellsPair, PairRefused}
 abbrev pub default_happenings : ℕ
 default_happenings = 10000
 
+-- The two texts spell this pair, and it is well typed.
+pub record SpellsWellTyped (domain problem : List ℕ) (d : Domain) (p : Problem) : Type 0 where
+  pub spelled : SpellsPair domain problem d p
+  pub well_typed : faults_of d p ≡ []
+
 -- The bytes under the three names spell a well-typed pair and a plan of lines, exactly one trajectory of the pair has
 -- that plan's actions, and between old and new the sink took that trajectory's text and `valid`.
 pub record IsValidRun (domain problem plan : List ℕ) (old new : Option (List ℕ)) : Type 0 where
   pub d : Domain
   pub p : Problem
-  pub spelled : SpellsPair domain problem d p
-  pub well_typed : faults_of d p ≡ []
+  pub pair : SpellsWellTyped domain problem d p
   pub accepted : Accepts d p default_happenings plan old new
 
 -- the same for a command, where the shelf tells what stands under its names
@@ -45,14 +49,42 @@ early_status (BadText text start finish word) = s.BadText
 early_status (BadLine line start finish) = s.BadText
 early_status _ = s.Beyond
 
--- the line was written, and this is the status; or the sink failed
+-- the line was written, and this is the status; or the sink failed in it
 abbrev pub Writes : List ℕ → Status → Option (List ℕ) → Option (List ℕ) → ℕ → ℕ → Status → Type 0
-Writes line status old new before now answer = ((answer ≡ status) × Took old new line) ⊎ ((answer ≡ s.WriteFault) × Rose before now)
+Writes line status old new before now answer =
+    ((answer ≡ status) × Took old new line)
+    ⊎ ((answer ≡ s.WriteFault) × Rose before now × TookPart old new line)
 
--- The two texts are no well-typed pair, and one line says why; or they are, and the plan is refused.
-pub data IsRefusedRun (domain problem : List ℕ) (old new : Option (List ℕ)) (status : Status) : Type 0 where
-  for_pair : (e : Early) → PairRefused domain problem e → status ≡ early_status e → Took old new (early_text e) → IsRefusedRun domain problem old new status
-  for_plan : (d : Domain) (p : Problem) → SpellsPair domain problem d p → faults_of d p ≡ [] → IsRefusedRun domain problem old new status
+-- the status of a checked plan
+abbrev pub status_of : Outcome → Status
+status_of outcomes.Valid = s.Valid
+status_of outcomes.Invalid = s.Invalid
+status_of outcomes.Beyond = s.Beyond
+status_of outcomes.BadText = s.BadText
+status_of outcomes.ReadFault = s.ReadFault
+status_of outcomes.WriteFault = s.WriteFault
+status_of outcomes.NoMemory = s.NoMemory
+
+-- The command is refused, and between old and new the sink took: one line, where the two texts are no well-typed pair;
+-- one line, where the pair is not grounded; else the report of what happens before the refusal, and the verdict line.
+pub data IsRefusedRun (domain problem : List ℕ) (plan : Option (List ℕ)) (old new : Option (List ℕ)) (status : Status) : Type 0 where
+  for_pair : (e : Early) → PairRefused domain problem e → status ≡ early_status e → Took old new (early_text e) → IsRefusedRun domain problem plan old new status
+  for_ground :
+      (d : Domain) (p : Problem) → SpellsWellTyped domain problem d p → status ≡ s.Beyond → RefusesPair d old new
+      → IsRefusedRun domain problem plan old new status
+  for_plan :
+      (d : Domain) (p : Problem) (outcome : Outcome) → SpellsWellTyped domain problem d p → status ≡ status_of outcome
+      → IfSome plan (λ text. Refuses d p default_happenings text outcome old new) → IsRefusedRun domain problem plan old new status
+
+-- The sink failed, and took the beginning of what was to be written, and not all of it.
+pub data IsBrokenRun (domain problem : List ℕ) (plan : Option (List ℕ)) (old new : Option (List ℕ)) : Type 0 where
+  in_pair : (e : Early) → PairRefused domain problem e → TookPart old new (early_text e) → IsBrokenRun domain problem plan old new
+  in_ground :
+      (d : Domain) (p : Problem) → SpellsWellTyped domain problem d p → RefusesPairInPart d old new
+      → IsBrokenRun domain problem plan old new
+  in_plan :
+      (d : Domain) (p : Problem) → SpellsWellTyped domain problem d p
+      → IfSome plan (λ text. BreaksOff d p default_happenings text old new) → IsBrokenRun domain problem plan old new
 
 -- what is said where a command is refused: its plan is not valid, a limit stands, or a text is none
 abbrev pub OnRefusal : Status → Type 0 → Type 0
@@ -64,13 +96,21 @@ OnRefusal _ P = Unit {0}
 abbrev pub RunsRefused : Option Command → (List ℕ → Option (List ℕ)) → Option (List ℕ) → Option (List ℕ) → Status → Type 0
 RunsRefused None bytes old new status = ⊥
 RunsRefused (Some (Check d p l)) bytes old new status =
-    IfSome (bytes d) (λ ds. IfSome (bytes p) (λ ps. IsRefusedRun ds ps old new status))
+    IfSome (bytes d) (λ ds. IfSome (bytes p) (λ ps. IsRefusedRun ds ps (bytes l) old new status))
 
-abbrev pub status_of : Outcome → Status
-status_of outcomes.Valid = s.Valid
-status_of outcomes.Invalid = s.Invalid
-status_of outcomes.Beyond = s.Beyond
-status_of outcomes.BadText = s.BadText
-status_of outcomes.ReadFault = s.ReadFault
-status_of outcomes.WriteFault = s.WriteFault
-status_of outcomes.NoMemory = s.NoMemory
+-- the same where the sink failed
+abbrev pub RunsBroken : Option Command → (List ℕ → Option (List ℕ)) → Option (List ℕ) → Option (List ℕ) → Type 0
+RunsBroken None bytes old new = TookPart old new usage_line
+RunsBroken (Some (Check d p l)) bytes old new =
+    IfSome (bytes d) (λ ds. IfSome (bytes p) (λ ps. IsBrokenRun ds ps (bytes l) old new))
+
+-- the number that the process ends with
+abbrev pub exit_number : Status → ℕ
+exit_number s.Valid = 0
+exit_number s.Invalid = 1
+exit_number s.Beyond = 2
+exit_number s.BadText = 3
+exit_number s.Usage = 4
+exit_number s.ReadFault = 5
+exit_number s.WriteFault = 6
+exit_number s.NoMemory = 7

@@ -1,6 +1,6 @@
 //! Real files as a shelf.
 
-ghost use Rattle.std.specs.Prelude.{◌≡◌, ◌≤◌, length, map, position, string_bytes, IfSome};
+ghost use Rattle.std.specs.Prelude.{◌≡◌, ◌≤◌, length, map, position, string_bytes, None, IfSome};
 ghost use Rattle.std.specs.Str.{bytes_eq};
 ghost use Rattle.plus_io.specs.Stored.{place_of};
 ghost use Rattle.plus_io.specs.Faults.{Rose};
@@ -60,7 +60,11 @@ fn read_piece(file: &mut impl Read, into: &mut [u8]) -> Option<usize>
 
 impl<'r, R: Files> FileShelf<'r, R> {
     /// A shelf of real files, made for these names.
-    pub fn new(rt: &'r R, names: Vec<String>) -> Self {
+    pub fn new(rt: &'r R, names: Vec<String>) -> Self
+        ensures names { result.names ≡ names }
+        ensures unpicked { result.picked ≡ None }
+        ensures no_fault { result.faults ≡ 0 }
+    {
         FileShelf {
             rt,
             names,
@@ -71,7 +75,7 @@ impl<'r, R: Files> FileShelf<'r, R> {
 }
 
 impl<'r, R: Files> Shelf for FileShelf<'r, R> {
-    ghost use Rattle.std.specs.Prelude.{None, [], map, string_bytes, slice_index_or, option_map};
+    ghost use Rattle.std.specs.Prelude.{[], map, string_bytes, slice_index_or, option_map};
 
     ghost names = { λ s. map string_bytes s.names.items };
 

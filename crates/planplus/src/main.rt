@@ -3,6 +3,8 @@
 
 mod command;
 mod files;
+#[cfg(test)]
+mod limit_tests;
 mod pair;
 mod run;
 mod screen;

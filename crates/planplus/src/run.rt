@@ -1,11 +1,12 @@
 //! The top call: from the words of the command line to what is written and the exit status.
 
 ghost use Rattle.std.specs.Prelude.{◌≡◌, ◌≤◌, map, string_bytes};
+ghost use Rattle.std.specs.Process.{exit_status};
 ghost use Rattle.plus_io.specs.Faults.{Rose};
 ghost use Rattle.plus_io.specs.Files.{KeepsFiles};
 ghost use Rattle.plus_report.specs.Refusals.{early_text};
 ghost use Rattle.planplus.specs.Command.{command_of};
-ghost use Rattle.planplus.specs.Headline.{RunsValid, RunsRefused, OnRefusal, Writes, usage_line, early_status, status_of};
+ghost use Rattle.planplus.specs.Headline.{RunsValid, RunsRefused, RunsBroken, OnRefusal, Writes, usage_line, early_status, status_of, exit_number};
 ghost use Rattle.planplus.specs.Meant.{meant};
 
 use crate::command::{Check, Command, parse};
@@ -42,7 +43,9 @@ pub enum Status {
 
 impl Status {
     /// The exit status of the process.
-    pub fn exit_code(self) -> ExitCode {
+    pub fn exit_code(self) -> ExitCode
+        ensures { exit_status result ≡ exit_number self }
+    {
         ExitCode::from(match self {
             Status::Valid => 0,
             Status::Invalid => 1,
@@ -111,8 +114,12 @@ fn check<S: Shelf, O: Sink>(alloc: Global, files: Check<'_>, shelf: &mut S, out:
     ensures refused { OnRefusal result (RunsRefused (Some (meant (Command.Check files.entry)))
         (S.bytes shelf.old) (O.taken out.old) (O.taken out.new) result) }
     ensures no_usage { result ≡ Status.Usage → ⊥ }
-    ensures read_fault { result ≡ Status.ReadFault → Rose (S.faults shelf.old) (S.faults shelf.new) }
+    ensures read_fault { result ≡ Status.ReadFault →
+        Rose (S.faults shelf.old) (S.faults shelf.new) × (O.taken out.new ≡ O.taken out.old) }
     ensures write_fault { result ≡ Status.WriteFault → Rose (O.faults out.old) (O.faults out.new) }
+    ensures broken { result ≡ Status.WriteFault → RunsBroken (Some (meant (Command.Check files.entry)))
+        (S.bytes shelf.old) (O.taken out.old) (O.taken out.new) }
+    ensures no_memory { result ≡ Status.NoMemory → O.taken out.new ≡ O.taken out.old }
     ensures keeps { KeepsFiles S.names S.bytes S.faults shelf.old shelf.new }
     ensures no_fall { O.faults out.old ≤ O.faults out.new }
 {
@@ -137,7 +144,7 @@ pub fn run<S: Shelf, O: Sink>(alloc: Global, words: &[String], shelf: &mut S, ou
     // The plan is valid: exactly one trajectory has its actions, and the report is its text.
     ensures valid { result ≡ Status.Valid → RunsValid (command_of (map string_bytes words.now))
         (S.bytes shelf.old) (O.taken out.old) (O.taken out.new) }
-    // A text, the pair or the plan is refused, and the line says which.
+    // A text, the pair or the plan is refused: the line says which, and a plan's report goes before it.
     ensures refused { OnRefusal result (RunsRefused (command_of (map string_bytes words.now))
         (S.bytes shelf.old) (O.taken out.old) (O.taken out.new) result) }
 
@@ -145,8 +152,13 @@ pub fn run<S: Shelf, O: Sink>(alloc: Global, words: &[String], shelf: &mut S, ou
     ensures no_command { command_of (map string_bytes words.now) ≡ None → Writes usage_line Status.Usage
         (O.taken out.old) (O.taken out.new) (O.faults out.old) (O.faults out.new) result }
 
-    ensures read_fault { result ≡ Status.ReadFault → Rose (S.faults shelf.old) (S.faults shelf.new) }
+    // A fault comes only where it was counted. What was to be written is broken off, or not begun.
+    ensures read_fault { result ≡ Status.ReadFault →
+        Rose (S.faults shelf.old) (S.faults shelf.new) × (O.taken out.new ≡ O.taken out.old) }
     ensures write_fault { result ≡ Status.WriteFault → Rose (O.faults out.old) (O.faults out.new) }
+    ensures broken { result ≡ Status.WriteFault → RunsBroken (command_of (map string_bytes words.now))
+        (S.bytes shelf.old) (O.taken out.old) (O.taken out.new) }
+    ensures no_memory { result ≡ Status.NoMemory → O.taken out.new ≡ O.taken out.old }
     ensures keeps { KeepsFiles S.names S.bytes S.faults shelf.old shelf.new }
     ensures no_fall { O.faults out.old ≤ O.faults out.new }
 {

@@ -1,6 +1,6 @@
 //! The standard output as a sink.
 
-ghost use Rattle.std.specs.Prelude.{◌<◌, ◌≤◌, length, IfSome};
+ghost use Rattle.std.specs.Prelude.{◌≡◌, ◌<◌, ◌≤◌, length, IfSome};
 ghost use Rattle.plus_io.specs.Faults.{Rose};
 
 use plus_io::{Failed, Sink};
@@ -33,7 +33,9 @@ pub struct StdSink<'r, R: Print> {
 
 impl<'r, R: Print> StdSink<'r, R> {
     /// The standard output of a runtime.
-    pub fn new(rt: &'r R) -> Self {
+    pub fn new(rt: &'r R) -> Self
+        ensures no_fault { result.faults ≡ 0 }
+    {
         StdSink { rt, faults: 0 }
     }
 }

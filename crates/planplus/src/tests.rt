@@ -7,17 +7,17 @@ use std::alloc::Global;
 use std::process::Abort;
 use std::test::Fail;
 
-const DOOR: &str = "(define (domain door) (:predicates (closed) (locked))
+pub const DOOR: &str = "(define (domain door) (:predicates (closed) (locked))
  (:action unlock :parameters () :precondition (locked) :effect (not (locked)))
  (:action open-door :precondition (and (closed) (not (locked))) :effect (not (closed))))
 ";
 
-const D1: &str =
+pub const D1: &str =
     "(define (problem d1) (:domain door) (:init (closed) (locked)) (:goal (not (closed))))";
 
-const OPENED: &str = "1: (unlock)\n3: (open-door)\n";
+pub const OPENED: &str = "1: (unlock)\n3: (open-door)\n";
 
-const OPENED_REPORT: &str =
+pub const OPENED_REPORT: &str =
     "at 0\n  run\nat 1\n  act (unlock)\n    - (locked)\n  run\nat 3\n  act (open-door)\n    - (closed)\nvalid\n";
 
 // Plans for the door, what is written, and the status.
@@ -105,7 +105,7 @@ const PAIR_ROWS: [(&str, &str, Status, &str); 6] = [
     ),
 ];
 
-fn check_words(alloc: Global) -> Result<Vec<String>, Fail> {
+pub fn check_words(alloc: Global) -> Result<Vec<String>, Fail> {
     let mut words = Vec::new(alloc);
     for word in ["check", "d", "p", "l"] {
         words.push(String::from_str(alloc, word)?)?;
@@ -113,7 +113,7 @@ fn check_words(alloc: Global) -> Result<Vec<String>, Fail> {
     Ok(words)
 }
 
-fn shelf_of(alloc: Global, domain: &str, problem: &str, plan: &str) -> Result<MemShelf, Fail> {
+pub fn shelf_of(alloc: Global, domain: &str, problem: &str, plan: &str) -> Result<MemShelf, Fail> {
     let mut shelf = MemShelf::new(alloc);
     shelf.put("d", domain.as_bytes())?;
     shelf.put("p", problem.as_bytes())?;
@@ -122,7 +122,7 @@ fn shelf_of(alloc: Global, domain: &str, problem: &str, plan: &str) -> Result<Me
 }
 
 // Runs `check` over a shelf and a sink in memory, and compares what was written and the status.
-fn expect_run(
+pub fn expect_run(
     rt: &impl Abort,
     alloc: Global,
     mut shelf: MemShelf,

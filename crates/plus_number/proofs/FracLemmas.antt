@@ -1,4 +1,4 @@
-use Rattle.std.proofs.Common.{int_cmp, ◌+ℤ◌, ◌-ℤ◌, subst, ◌*ℤ◌, ◌≤◌, div-le_self, ◌≡◌, ℕ, zero, suc, ◌/◌, ◌<◌, arith, sym, ◌∙◌, ap, ap₂, refl, ℤ, pos, negsuc, unsigned_abs, int_div, SFits, w64}
+use Rattle.std.proofs.Common.{int_cmp, ◌<ℤ◌, ◌≢◌, Less, Equal, Greater, Ordering, ◌+ℤ◌, ◌-ℤ◌, subst, ◌*ℤ◌, ◌≤◌, div-le_self, ◌≡◌, ℕ, zero, suc, ◌/◌, ◌<◌, arith, sym, ◌∙◌, ap, ap₂, refl, ℤ, pos, negsuc, unsigned_abs, int_div, SFits, w64}
 use Rattle.plus_fraction.specs.Gcd.{gcd, with_sign}
 use Rattle.plus_number.specs.Frac.{IsFrac64}
 use Rattle.plus_fraction.specs.Fraction.{Fraction, over, whole, ◌+ℚ◌, ◌-ℚ◌, compared}
@@ -10,6 +10,7 @@ use Rattle.plus_number.specs.declared.frac.Frac64.{Frac64}
 use Rattle.plus_fraction.proofs.FractionBase.{same_parts, Is, Is-parts, same}
 use Rattle.plus_fraction.proofs.FractionLaws.{Is-over, Is-add, Is-sub}
 use Rattle.plus_fraction.proofs.FractionSigns.{compared_by}
+use Rattle.plus_fraction.proofs.Compared.{less-compared, compared-less, compared-equal}
 use Rattle.plus_fraction.proofs.IntRing.{products, linear}
 
 pub unsigned_abs-with_sign : (n : ℤ) (k : ℕ) → unsigned_abs (with_sign n k) ≡ k
@@ -97,3 +98,17 @@ same_bottom-sub f g n e k = same (Is-over n f.d f.positive) (Is-sub (Is-parts (f
 
 pub same_bottom-compared : (f g : Frac64) → f.d ≡ g.d → compared (fraction_of f) (fraction_of g) ≡ int_cmp f.n g.n
 same_bottom-compared f g e = compared_by (pos f.d) (Is-parts (fraction_of f)) (same_bottom f g e)
+
+-- ---- two fractions with different bottoms, whose cross products are a and b
+pub less_apart : (x y : Fraction) (a b : ℤ) → a ≡ x.top *ℤ pos y.bottom → b ≡ y.top *ℤ pos x.bottom → a <ℤ b → Less ≡ compared x y
+less_apart x y a b p q h = sym (less-compared x y (record { cross = subst (λ (c : ℤ). c <ℤ (y.top *ℤ pos x.bottom)) p (subst (λ (c : ℤ). a <ℤ c) q h) }))
+
+pub greater_apart :
+    (x y : Fraction) (a b : ℤ) → a ≡ x.top *ℤ pos y.bottom → b ≡ y.top *ℤ pos x.bottom
+    → x.bottom ≢ y.bottom → (a <ℤ b → ⊥) → Greater ≡ compared x y
+greater_apart x y a b p q apart h = by_order (compared x y) refl
+  where
+    by_order : (r : Ordering) → compared x y ≡ r → Greater ≡ compared x y
+    by_order Less e = absurd (h (subst (λ (c : ℤ). a <ℤ c) (sym q) (subst (λ (c : ℤ). c <ℤ (y.top *ℤ pos x.bottom)) (sym p) ((compared-less x y e).cross))))
+    by_order Equal e = absurd (apart (ap (λ (z : Fraction). z.bottom) (compared-equal x y e)))
+    by_order Greater e = sym e

@@ -1,5 +1,5 @@
 // Fractions of two parts of 63 bits.
-ghost use Rattle.std.specs.Prelude.{◌≡◌, ℕ, ◌+◌, ◌*◌, ◌/◌, ◌^◌, ◌<◌, ◌≤◌, ◌<ℤ◌, ◌*ℤ◌, pos, unsigned_abs, IfSome, IsNone, MatchOption};
+ghost use Rattle.std.specs.Prelude.{◌≡◌, ◌≢◌, ℕ, ◌+◌, ◌*◌, ◌/◌, ◌^◌, ◌<◌, ◌≤◌, ◌<ℤ◌, ◌*ℤ◌, pos, unsigned_abs, IfSome, IsNone, MatchOption};
 ghost use Rattle.plus_fraction.specs.Gcd.{gcd};
 
 use crate::divisor::{common_divisor, narrow_divisor, signed};
@@ -119,6 +119,18 @@ impl Frac64 {
         self.n as i128 * (other.d as i64) as i128
     }
 
+    // the order where the bottoms differ, so that the fractions do
+    fn order_apart(self, other: Frac64) -> Ordering
+        requires { self.d ≢ other.d }
+        ensures { result ≡ compared (fraction_of self) (fraction_of other) }
+    {
+        if self.cross(other) < other.cross(self) {
+            Ordering::Less
+        } else {
+            Ordering::Greater
+        }
+    }
+
     // the top of a product
     fn tops(self, other: Frac64) -> i128
         ensures { result ≡ self.n *ℤ other.n }
@@ -193,7 +205,7 @@ impl Exact for Frac64 {
         if self.d == other.d {
             self.n.cmp(&other.n)
         } else {
-            self.cross(other).cmp(&other.cross(self))
+            self.order_apart(other)
         }
     }
 

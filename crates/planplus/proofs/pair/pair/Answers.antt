@@ -1,4 +1,4 @@
-use Rattle.std.proofs.Common.{◌∙◌, ap, sym}
+use Rattle.std.proofs.Common.{ap}
 use Rattle.std.proofs.lemmas.Result.{err_from_is_err_and}
 use Rattle.planplus.proofs.PairLemmas.{pair_by_domain, pair_by_problem, pair_by_types}
 use Rattle.planplus.proofs.pair.pair.Goals as goal
