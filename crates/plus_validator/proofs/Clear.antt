@@ -186,7 +186,7 @@ clear_first P L most = λ g part rest q e.
 
 -- ---- where the run waits for a line
 
-unbegun_rest : (P : Problem) (L : Plan) (v : View) (xs : List Part) → (HasBegun L → ⊥) → Follow P L v xs → xs ≡ []
+pub unbegun_rest : (P : Problem) (L : Plan) (v : View) (xs : List Part) → (HasBegun L → ⊥) → Follow P L v xs → xs ≡ []
 unbegun_rest P L v [] n f = refl
 unbegun_rest P L v (x ∷ xs) n f = absurd (n f.0)
 

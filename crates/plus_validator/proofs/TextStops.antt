@@ -1,14 +1,16 @@
 -- A run that halts in a text: the plan is refused.
 use Rattle.std.proofs.Common.{◌≡◌, ℕ, ◌+◌, Bool, true, false, List, [], ◌∷◌, ◌++◌, refl, ap, sym, subst, ◌∙◌, inl, inr, append_assoc, append-nil, drop}
-use Rattle.std.specs.Prelude.{◌≢◌, Option, Some, None, Result, Ok, Err, IfSome, IsSomeAnd, length, map}
+use Rattle.std.specs.Prelude.{◌≢◌, ◌⊎◌, Option, Some, None, Result, Ok, Err, IfSome, IsSomeAnd, length, map}
 use Rattle.plus_model.specs.Terms.{Problem}
 use Rattle.plus_model.specs.Plan as model
 use Rattle.plus_model.specs.Plan.{Plan}
 use Rattle.plus_model.specs.History.{Part}
-use Rattle.plus_model.specs.Trajectory.{Prefix, Trajectory, view_of}
+use Rattle.plus_model.specs.Trajectory.{HasBegun, Prefix, Trajectory, first_part, first_view, view_of}
 use Rattle.plus_model.specs.Breach as breach
 use Rattle.plus_model.specs.Breach.{Breaks, BreaksBy, LineBreach}
-use Rattle.plus_model.specs.Laws.{IsLongest, GoesOnFrom}
+use Rattle.plus_model.specs.Laws.{Begins, IsLongest, GoesOnFrom}
+use Rattle.plus_model.proofs.Paths.{one_path}
+use Rattle.plus_model.proofs.Later.{prefix_goes_on}
 use Rattle.plus_model.proofs.Final.{breach_is_final, breach_is_no_trajectory}
 use Rattle.plus_model.proofs.LineFinal.{line_breach_is_final}
 use Rattle.plus_model.proofs.Longest.{breach_is_longest, worked_is_longest, unbegun_is_longest}
@@ -37,13 +39,13 @@ use Rattle.plus_validator.specs.Halts.{line_halt}
 use Rattle.plus_validator.specs.Plans.{line_meant, lines_meant, plan_of}
 use Rattle.plus_validator.specs.Standing.{CanGoOn}
 use Rattle.plus_validator.specs.Playing.{Readied, ReadsAll}
-use Rattle.plus_validator.specs.Refused.{Stands, NamesFault, IsWaiting, TimeFault, after_end, no_value, goes_back, cut_verdict, NonePlays, BreachRefutes, Refutes, IsNoLimit, number_in}
+use Rattle.plus_validator.specs.Refused.{Stands, IsClear, AreWorked, NamesFault, IsWaiting, TimeFault, after_end, no_value, goes_back, cut_verdict, NonePlays, BreachRefutes, Refutes, IsNoLimit, number_in}
 use Rattle.plus_validator.specs.Stopped.{IsReported, IsStoppedIn, StopsOnWay, StopsInLine, HaltsInLine, HaltsAtEnd, IsStoppedInText, StopsInText, HaltsInLines, HaltsInText}
 use Rattle.plus_validator.proofs.Played.{ReadsTo}
 use Rattle.plus_validator.proofs.Texts.{plan_of-append}
 use Rattle.plus_validator.proofs.Stopping.{reported}
 use Rattle.plus_validator.proofs.Waiting.{waits}
-use Rattle.plus_validator.proofs.Clear.{clear_waiting}
+use Rattle.plus_validator.proofs.Clear.{clear_waiting, clear_grows, unbegun_rest}
 
 -- ---- no prefix is longer
 
@@ -144,6 +146,59 @@ time_refutes d P ls line h meant time n v e (after_end b k) = refutes d P (ls ++
 time_refutes d P ls line h meant time n v e (no_value b f k) = subst (Refutes d P (ls ++ line ∷ [])) (sym k) tt
 time_refutes d P ls line h meant time n v e (goes_back b f k) = refutes d P (ls ++ line ∷ []) v (none_after_line d P ls line h meant breach.TimeGoesBack e b)
 
+-- ---- the lines before are worked on the way
+
+split_or : (P : Problem) (L : Plan) (most : ℕ) (g h rest : List Part) (v : Verdict Frac64) → Prefix P L h → IsClear P L most g → Stands P L most h v → (IsNoLimit v → Begins g h) → g ≡ h ++ rest → Begins g h
+split_or P L most g h [] v p c s n e = record { rest = []; is = sym (append-nil h) ∙ sym e ∙ sym (append-nil g) }
+split_or P L most g h (x ∷ rest) Valid p c s n e = absurd s
+split_or P L most g h (x ∷ rest) (Invalid b) p c s n e = n tt
+split_or P L most g h (x ∷ rest) (Beyond l) p c s n e = absurd (c h x rest p e l s)
+split_or P L most g h (x ∷ rest) (Other y) p c s n e = absurd s
+
+-- what is played before a verdict stands is a beginning of where it stands
+begins_by : (P : Problem) (L : Plan) (most : ℕ) (g h : List Part) (v : Verdict Frac64) → Prefix P L g → IsClear P L most g → Prefix P L h → Stands P L most h v → Begins g h
+begins_by P L most g h v a c p s = elim (one_path P L g h a p) [
+  | inl b ↦ b
+  | inr b ↦ split_or P L most g h b.rest v p c s (λ n. (stands_longest P L most h v s n).longest g a) b.is
+]
+
+unbegun_is : (P : Problem) (L : Plan) (h : List Part) → (HasBegun L → ⊥) → Prefix P L h → h ≡ first_part P ∷ []
+unbegun_is P L h n p = p.begins ∙ ap (λ r. first_part P ∷ r) (unbegun_rest P L (first_view P) p.rest n p.follow)
+
+some_more : (xs ys : List model.Line) → xs ++ ys ≡ [] → xs ≡ []
+some_more [] ys e = refl
+some_more (x ∷ xs) ys e = cc e
+
+begun_more : (d : Domain) (ls more : List Line) (closed : Bool) → HasBegun (plan_of d ls false) → HasBegun (plan_of d (ls ++ more) closed)
+begun_more d ls more closed (inl n) = inl (λ e. n (some_more (lines_meant d ls) (lines_meant d more) (sym (lines_meant-more d ls more) ∙ e)))
+begun_more d ls more closed (inr t) = let f : false ≡ true = t in absurd (cc f)
+
+is_begun : (ls : List model.Line) → (HasBegun (record { lines = ls; closed = false })) ⊎ (HasBegun (record { lines = ls; closed = false }) → ⊥)
+is_begun [] = inr (λ b. elim b [ inl n ↦ n refl | inr t ↦ (let f : false ≡ true = t in cc f) ])
+is_begun (l ∷ ls) = inl (inl (λ e. cc e))
+
+-- the lines read, and the same with more
+are_worked : (d : Domain) (P : Problem) (ls more : List Line) (closed : Bool) (most : ℕ) (g h : List Part) (v : Verdict Frac64) → Prefix P (plan_of d ls false) g → IsClear P (plan_of d ls false) most g → IsWaiting P (plan_of d ls false) g → Prefix P (plan_of d (ls ++ more) closed) h → Stands P (plan_of d (ls ++ more) closed) most h v → (HasBegun (plan_of d (ls ++ more) closed)) ⊎ (HasBegun (plan_of d (ls ++ more) closed) → ⊥) → AreWorked P (plan_of d ls false) h
+are_worked d P ls more closed most g h v a c w p s (inl b) =
+    let L = plan_of d ls false in
+    let M = plan_of d (ls ++ more) closed in
+    record {
+      front = g;
+      prefix = a;
+      waits = w;
+      begins = begins_by P M most g h v (prefix_goes_on P L M g a (goes_on d ls more false closed) p.ordered b)
+          (clear_grows P L M most g a (goes_on d ls more false closed) c) p s;
+    }
+are_worked d P ls more closed most g h v a c w p s (inr n) = record {
+  front = g;
+  prefix = a;
+  waits = w;
+  begins = record {
+    rest = [];
+    is = unbegun_is P (plan_of d (ls ++ more) closed) h n p ∙ sym (unbegun_is P (plan_of d ls false) g (λ b. n (begun_more d ls more closed b)) a) ∙ sym (append-nil g);
+  };
+}
+
 -- ---- what the run leaves
 
 -- the report is that of the lines read, which are worked
@@ -191,9 +246,9 @@ module _ (d : Domain) (N : Labels) (P : Problem) (text : List ℕ) (start run : 
         subst (StopsInText d N P start.timeline.most more text piece run.report.bytes.items) (sym e) (bad_stops fault more piece h f ready);
   }
 
-  line_stops : (new : Run) (x : Line × ℕ) (halt : Halt) (more : Bool) (piece : List ℕ) → IsLineAt Timed number text from x → StopsInLine d N P (plan_of d r.lines_read false) start.timeline.most x.0 new.report.bytes.items halt → StopsInText d N P start.timeline.most more text piece new.report.bytes.items halt
-  line_stops new x Memory more piece l s = tt
-  line_stops new x (Refused v) more piece l (inl b) = record {
+  line_stops : (new : Run) (x : Line × ℕ) (halt : Halt) (more : Bool) (piece : List ℕ) (g : List Part) → IsReported N P (plan_of d r.lines_read false) start.timeline.most g run.report.bytes.items → IsWaiting P (plan_of d r.lines_read false) g → IsLineAt Timed number text from x → StopsInLine d N P (plan_of d r.lines_read false) start.timeline.most x.0 new.report.bytes.items halt → StopsInText d N P start.timeline.most more text piece new.report.bytes.items halt
+  line_stops new x Memory more piece g ready w l s = tt
+  line_stops new x (Refused v) more piece g ready w l (inl b) = record {
     refusal = record {
       before = r.lines_read;
       rest = Ok x.0 ∷ numbered Timed (number + 1) (lines_of (drop x.1 text));
@@ -210,7 +265,7 @@ module _ (d : Domain) (N : Labels) (P : Problem) (text : List ℕ) (start run : 
     };
     written = b.reported.written;
   }
-  line_stops new x (Refused v) more piece l (inr b) =
+  line_stops new x (Refused v) more piece g ready w l (inr b) =
       let k = subst (λ (M : Plan). IsStoppedIn N P M start.timeline.most (number_in x.0) new.report.bytes.items v) (sym (plan_of-append d r.lines_read x.0 false)) b in
       record {
         refusal = record {
@@ -223,7 +278,13 @@ module _ (d : Domain) (N : Labels) (P : Problem) (text : List ℕ) (start run : 
           few = k.stopped.reported.few;
           clear = k.stopped.reported.clear;
           alone = k.stopped.alone;
-          cause = inr (record { lines = refl; stands = k.stopped.stands; names = k.names });
+          cause = inr (record {
+            lines = refl;
+            worked = are_worked d P r.lines_read (x.0 ∷ []) false start.timeline.most g k.stopped.history v ready.prefix ready.clear w k.stopped.reported.prefix k.stopped.stands
+                (is_begun (lines_meant d (r.lines_read ++ x.0 ∷ [])));
+            stands = k.stopped.stands;
+            names = k.names;
+          });
           longest = stands_longest P (plan_of d (r.lines_read ++ x.0 ∷ []) false) start.timeline.most k.stopped.history v k.stopped.stands;
           final = stands_refutes d P (r.lines_read ++ x.0 ∷ []) start.timeline.most k.stopped.history v k.stopped.stands;
         };
@@ -234,7 +295,8 @@ module _ (d : Domain) (N : Labels) (P : Problem) (text : List ℕ) (start run : 
   halts_in new x halt l s = record {
     stops = λ more piece h ready.
         let a = r.ready h ready in
-        line_stops new x halt more piece l
+        line_stops new x halt more piece a.0 (waiting_report d N P r.lines_read start.timeline.most a.0 run r.rests.can r.rests.most_is a.1)
+        (waits N P (plan_of d r.lines_read false) a.0 run a.1) l
         (subst (λ m. StopsInLine d N P (plan_of d r.lines_read false) m x.0 new.report.bytes.items halt) r.rests.most_is (s.stops (plan_of d r.lines_read false) a.0 a.1));
   }
 
@@ -244,9 +306,15 @@ module _ (d : Domain) (N : Labels) (P : Problem) (text : List ℕ) (start run : 
 -- ---- all lines are worked
 
 module _ (d : Domain) (N : Labels) (P : Problem) (text : List ℕ) (old mid : Run) (number : ℕ) (r : ReadsAll d N P text old mid number) where
-  end_stops : (report : List ℕ) (halt : Halt) → StopsOnWay N P (plan_of d r.lines true) old.timeline.most report halt → StopsInText d N P old.timeline.most false text [] report halt
-  end_stops report Memory s = tt
-  end_stops report (Refused v) s = record {
+  end_worked : (g h : List Part) (v : Verdict Frac64) → IsReported N P (plan_of d r.lines false) old.timeline.most g mid.report.bytes.items → IsWaiting P (plan_of d r.lines false) g → Prefix P (plan_of d r.lines true) h → Stands P (plan_of d r.lines true) old.timeline.most h v → AreWorked P (plan_of d r.lines false) h
+  end_worked g h v a w p s =
+      let more : plan_of d r.lines true ≡ plan_of d (r.lines ++ []) true = ap (λ (ls : List Line). plan_of d ls true) (sym (append-nil r.lines)) in
+      are_worked d P r.lines [] true old.timeline.most g h v a.prefix a.clear w
+      (subst (λ (M : Plan). Prefix P M h) more p) (subst (λ (M : Plan). Stands P M old.timeline.most h v) more s) (inl (inr refl))
+
+  end_stops : (report : List ℕ) (halt : Halt) (g : List Part) → IsReported N P (plan_of d r.lines false) old.timeline.most g mid.report.bytes.items → IsWaiting P (plan_of d r.lines false) g → StopsOnWay N P (plan_of d r.lines true) old.timeline.most report halt → StopsInText d N P old.timeline.most false text [] report halt
+  end_stops report Memory g ready w s = tt
+  end_stops report (Refused v) g ready w s = record {
     refusal = record {
       before = r.lines;
       rest = [];
@@ -257,7 +325,7 @@ module _ (d : Domain) (N : Labels) (P : Problem) (text : List ℕ) (old mid : Ru
       few = s.stopped.reported.few;
       clear = s.stopped.reported.clear;
       alone = s.stopped.alone;
-      cause = record { lines = refl; stands = s.stopped.stands; names = s.names };
+      cause = record { lines = refl; worked = end_worked g s.stopped.history v ready w s.stopped.reported.prefix s.stopped.stands; stands = s.stopped.stands; names = s.names };
       longest = stands_longest P (plan_of d r.lines true) old.timeline.most s.stopped.history v s.stopped.stands;
       final = subst (λ (ls : List Line). Refutes d P ls v) (sym (append-nil r.lines)) (end_refutes d P r.lines old.timeline.most s.stopped.history v s.stopped.stands);
     };
@@ -269,7 +337,8 @@ module _ (d : Domain) (N : Labels) (P : Problem) (text : List ℕ) (old mid : Ru
   halts_after_all new halt s = record {
     stops = λ h ready.
         let a = r.ready h ready in
-        end_stops new.report.bytes.items halt
+        end_stops new.report.bytes.items halt a.0 (waiting_report d N P r.lines old.timeline.most a.0 mid r.rests.can r.rests.most_is a.1)
+        (waits N P (plan_of d r.lines false) a.0 mid a.1)
         (subst (λ m. StopsOnWay N P (plan_of d r.lines true) m new.report.bytes.items halt) r.rests.most_is (s.stops (plan_of d r.lines false) a.0 a.1));
   }
 

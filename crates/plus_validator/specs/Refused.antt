@@ -6,7 +6,7 @@ use Rattle.plus_model.specs.Plan.{Instance, Plan}
 use Rattle.plus_model.specs.History.{Part, View}
 use Rattle.plus_model.specs.Trajectory.{next_line, until, IsWorked, Prefix, Trajectory, view_of}
 use Rattle.plus_model.specs.Breach.{IsOpen, IsDue, Breaks, BreaksBy, TimeGoesBack, AfterEnd}
-use Rattle.plus_model.specs.Laws.{IsLongest}
+use Rattle.plus_model.specs.Laws.{Begins, IsLongest}
 use Rattle.plus_number.specs.declared.frac.Frac64.{Frac64}
 use Rattle.plus_number.specs.Frac.{fraction_of, IsFrac64}
 use Rattle.plus_state.specs.declared.term.Overflow.{Overflow}
@@ -170,15 +170,24 @@ pub record IsTimeRefused (d : Domain) (P : Problem) (before : List Line) (line :
   pub time_is : HasTime line time
   pub why : TimeFault P L h (number_in line) meant time v
 
--- a breach or a limit stands on the way to the next line or in it
+-- the lines of this plan are worked in a beginning of the history
+pub record AreWorked (P : Problem) (L : Plan) (h : List Part) : Type 0 where
+  pub front : List Part
+  pub prefix : Prefix P L front
+  pub waits : IsWaiting P L front
+  pub begins : Begins front h
+
+-- the lines before are worked, and then a breach or a limit stands on the way to the next line or in it
 pub record IsStopped (d : Domain) (P : Problem) (most : ℕ) (before : List Line) (line : Line) (L : Plan) (h : List Part) (v : Verdict Frac64) : Type 0 where
   pub lines : L ≡ plan_of d (before ++ line ∷ []) false
+  pub worked : AreWorked P (plan_of d before false) h
   pub stands : Stands P L most h v
   pub names : NamesLine (number_in line) (called_label (next_line L (view_of P h))) v
 
--- all lines are read and accepted, and a breach or a limit stands at the end
+-- all lines are read and worked, and then a breach or a limit stands at the end
 pub record IsStoppedAtEnd (d : Domain) (P : Problem) (most : ℕ) (before : List Line) (L : Plan) (h : List Part) (v : Verdict Frac64) : Type 0 where
   pub lines : L ≡ plan_of d before true
+  pub worked : AreWorked P (plan_of d before false) h
   pub stands : Stands P L most h v
   pub names : NamesNoLine v
 

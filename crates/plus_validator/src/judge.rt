@@ -169,7 +169,8 @@ fn outcome_of(verdict: &Verdict<Frac64>) -> Outcome
 
 // The verdict on a text whose lines are played.
 fn verdict_of(played: Result<(), Halt>) -> Result<Verdict<Frac64>, Halt>
-    ensures { IfOk result (GivesVerdict played) }
+    ensures gives { IfOk result (GivesVerdict played) }
+    ensures memory { IfErr result (λ halt. halt ≡ Halt.Memory) }
 {
     match played {
         Ok(()) => Ok(Verdict::Valid),
@@ -192,6 +193,7 @@ pub fn judge(
     requires few { length text.now.bytes.items ≤ 1048576 }
     ensures judged { IfOk result (IsJudged typed.now.domain typed.now.problem happenings
         text.now.bytes.items text.now.goes_on) }
+    ensures memory { IfErr result (λ halt. halt ≡ Halt.Memory) }
 {
     let mut run = Run::begin(alloc, ground, happenings)?;
     let verdict = verdict_of(play_text(&mut run, alloc, typed, ground, text))?;

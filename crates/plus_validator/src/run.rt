@@ -73,6 +73,7 @@ impl Run {
         requires fits { ProblemFits (problem_of fraction_of ground.now) }
         requires still { IsStill (problem_of fraction_of ground.now) }
         ensures begins { IfOk result (Begins (labels_of ground.now) (problem_of fraction_of ground.now) happenings) }
+        ensures memory { IfErr result (λ halt. halt ≡ Halt.Memory) }
     {
         let timeline = Timeline::begin(alloc, ground, happenings)?;
         let mut report = Report::new(alloc);

@@ -7,13 +7,11 @@ use Rattle.plus_validator.specs.Standing.{next_text}
 use Rattle.plus_validator.proofs.Closing.{begins}
 use Rattle.plus_validator.proofs.run.Run.begin.Goals as goal
 
-pub returns : goal.returns
-returns c =
+pub returns-clause-begins : goal.returns-clause-begins
+returns-clause-begins c =
     let N = labels_of c.args.ground.now in
     let P = problem_of fraction_of c.args.ground.now in
     let new : Run = record { timeline = c.in_ok-timeline.timeline; report = c.write_next.new.report; ended = false } in
-    record {
-      begins = begins N P c.args.happenings c.time.result new c.requires.fits c.requires.still c.requires.some c.in_ok-timeline.ensures refl
-          c.time.ensures
-          (c.in_ok-write_next.ensures ∙ ap (λ x. x ++ next_text fraction_of N P c.in_ok-timeline.timeline (Entry c.time.result)) c.new-report.ensures);
-    }
+    begins N P c.args.happenings c.time.result new c.requires.fits c.requires.still c.requires.some c.in_ok-timeline.ensures refl
+    c.time.ensures
+    (c.in_ok-write_next.ensures ∙ ap (λ x. x ++ next_text fraction_of N P c.in_ok-timeline.timeline (Entry c.time.result)) c.new-report.ensures)
