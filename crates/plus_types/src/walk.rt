@@ -7,8 +7,8 @@ ghost use Rattle.plus_types.specs.declared.faults.Wrong.TheVariants.{NotBuilt};
 use crate::faults::{File, TypeFault, Wrong};
 use crate::names::Names;
 use plus_tree::{
-    CondNode, CondTree, Domain, EffectNode, EffectTree, Head, Init, Leaf, LeafNode, Members, Schema,
-    Span, Spelled, TypedName, Use,
+    CondNode, CondTree, Domain, EffectNode, EffectTree, Head, Init, Leaf, LeafNode, Members,
+    Schema, Span, Spelled, TypedName, Use,
 };
 use std::alloc::Global;
 
