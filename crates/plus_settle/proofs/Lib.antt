@@ -1,0 +1,4 @@
+pub mod StepsLemmas
+pub mod RatesLemmas
+pub mod MembersLemmas
+pub mod ConfirmsLemmas

@@ -1,0 +1,5 @@
+pub mod Steps
+pub mod Rates
+pub mod Members
+pub mod Confirms
+pub mod Laws
