@@ -5,8 +5,10 @@
 //! once in the state and twice just after it, at two rates, and the rates of two sets of processes.
 #![tactic(auto)]
 
+mod choices;
 
 pub mod confirms;
+mod coupling;
 
 pub mod laws;
 pub mod net;
@@ -17,5 +19,5 @@ mod tests;
 
 pub use confirms::goes_on;
 pub use net::net_rates;
-pub use settling::Running;
+pub use settling::{Running, settle};
 pub use stops::{GoStop, RateStop, SettleStop};

@@ -1,5 +1,5 @@
 // Net rates.
-ghost use Rattle.std.specs.Prelude.{◌≡◌, ◌<◌, [], ◌∷◌, length, map, All, MatchResult};
+ghost use Rattle.std.specs.Prelude.{◌≡◌, ◌<◌, [], ◌∷◌, length, map, All, IfOk, MatchResult};
 ghost use Rattle.plus_model.specs.Value.{value as value_of, fluent_of};
 ghost use Rattle.plus_model.specs.Running.{rated, add_rates, rates as rates_of};
 ghost use Rattle.plus_state.specs.View.{rate_of, problem_of, overflow_of};
@@ -98,7 +98,8 @@ pub fn net_rates<Q: Exact>(
     requires fits { ProblemFits (problem_of Q.value ground.now) }
     requires state { StateFits (length (ground.now.atoms.items)) (length (ground.now.fluents.items)) state.now }
     requires members { AreMembers (length (ground.now.processes.items)) (process_numbers members.now) }
-    ensures { NetRates Q.value Q.fits (problem_of Q.value ground.now) state.now (process_numbers members.now) result }
+    ensures size { IfOk result (λ rs. length rs ≡ length (state.now.fluents)) }
+    ensures told { NetRates Q.value Q.fits (problem_of Q.value ground.now) state.now (process_numbers members.now) result }
 {
     match Rates::zero(alloc, state.fluents() as usize) {
         Err(_) => Err(RateStop::Memory),

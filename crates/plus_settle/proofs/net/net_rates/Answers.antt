@@ -20,8 +20,8 @@ add_all-requires-clause-fits g c =
     let h : (get_or c.args.members.now c.each.member-index (record { 0 = 0 })).0 < length c.args.ground.now.processes.items = summing_inside g.Q.Exact.value _ c.args.ground.now _ _ _ _ _ (rw e at c.each.invariant) in
     rw c.deref.ensures.value (process_fits g.Q.Exact.value _ _ c.args.ground.now.processes.items _ c.index.result.now h c.index.ensures (all_fit _ _ _ _ c.requires.state c.requires.fits.processes)).rates
 
-pub returns-in-Err-add_all : goal.returns-in-Err-add_all
-returns-in-Err-add_all g c =
+pub returns-in-Err-add_all-clause-told : goal.returns-in-Err-add_all-clause-told
+returns-in-Err-add_all-clause-told g c =
     let e = next_number c.args.members.now c.each.member-index (record { 0 = 0 }) c.each-test.true in
     let h : (get_or c.args.members.now c.each.member-index (record { 0 = 0 })).0 < length c.args.ground.now.processes.items = summing_inside g.Q.Exact.value _ c.args.ground.now _ _ _ _ _ (rw e at c.each.invariant) in
     let k = rates_here g.Q.Exact.value c.args.ground.now.processes.items _ c.index.result.now h c.index.ensures in
@@ -36,5 +36,5 @@ each-preserved g c =
     let t = rw c.deref.ensures.value at c.in-Ok-add_all.ensures.told in
     summing_next _ _ _ _ _ _ _ _ (rw e at c.each.invariant) k _ c.in-Ok-add_all.ensures.size t.0 t.1
 
-pub returns-after-each : goal.returns-after-each
-returns-after-each g c = summing_end _ _ _ _ _ (rw (no_number c.args.members.now c.each.member-index c.each-test.false) at c.each.invariant)
+pub returns-after-each-clause-told : goal.returns-after-each-clause-told
+returns-after-each-clause-told g c = summing_end _ _ _ _ _ (rw (no_number c.args.members.now c.each.member-index c.each-test.false) at c.each.invariant)
