@@ -18,11 +18,7 @@ use plus_state::term::ProcessId;
 use plus_state::truth::holds;
 use std::alloc::{AllocError, Global};
 
-fn append_if(
-    members: &mut Vec<ProcessId>,
-    member: ProcessId,
-    runs: bool,
-) -> Result<(), AllocError>
+fn append_if(members: &mut Vec<ProcessId>, member: ProcessId, runs: bool) -> Result<(), AllocError>
     ensures { IfOk result (λ _. process_numbers members.new.items
         ≡ process_numbers members.old.items ++ (if runs then member.0 ∷ [] else [])) }
 {

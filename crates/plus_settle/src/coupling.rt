@@ -29,7 +29,13 @@ fn moving_name<Q: Exact>(expr: &Expr<Q>, rates: &Rates<Q>) -> Option<FluentId>
 {
     match expr {
         Expr::Number(_) => None,
-        Expr::Fluent(f) => { if is_zero(rates.get(*f)) { None } else { Some(*f) } }
+        Expr::Fluent(f) => {
+            if is_zero(rates.get(*f)) {
+                None
+            } else {
+                Some(*f)
+            }
+        }
         Expr::Add(a, b) => first_of(moving_name(a, rates), moving_name(b, rates)),
         Expr::Sub(a, b) => first_of(moving_name(a, rates), moving_name(b, rates)),
         Expr::Mul(a, b) => first_of(moving_name(a, rates), moving_name(b, rates)),

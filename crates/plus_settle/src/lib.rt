@@ -6,10 +6,8 @@
 #![tactic(auto)]
 
 mod choices;
-
 pub mod confirms;
 mod coupling;
-
 pub mod laws;
 pub mod net;
 pub mod settling;

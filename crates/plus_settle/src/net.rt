@@ -105,7 +105,11 @@ pub fn net_rates<Q: Exact>(
         Err(_) => Err(RateStop::Memory),
         Ok(mut rates) => {
             'each: for member in members {
-                match add_all(&mut rates, &ground.processes[member.0 as usize].rates, state) {
+                match add_all(
+                    &mut rates,
+                    &ground.processes[member.0 as usize].rates,
+                    state,
+                ) {
                     Err(stop) => return Err(stop),
                     Ok(()) => {}
                 }
