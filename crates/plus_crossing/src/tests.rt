@@ -1,10 +1,10 @@
 // Outside vectors, with one fluent (x) at the value and rate given.
 ghost use Rattle.std.specs.Prelude.{◌≡◌, ◌<◌, ◌^◌, ◌<ℤ◌, length, pos, IfOk};
 ghost use Rattle.plus_fraction.specs.Fraction.{whole, ◌≤ℚ◌};
-ghost use Rattle.plus_state.specs.View.{condition_of};
-ghost use Rattle.plus_state.specs.Fits.{Fits, comparisons};
+ghost use Rattle.plus_state.specs.View.{condition_of, expression_of};
+ghost use Rattle.plus_state.specs.Fits.{Fits, IsIn, comparisons};
 
-use crate::{PieceStop, Rates, just_after, moved, next_crossing, piece};
+use crate::{Linear, PieceStop, Rates, just_after, moved, next_crossing, piece};
 use plus_number::consts::{one, zero};
 use plus_number::exact::Exact;
 use plus_number::frac::Frac64;
@@ -40,8 +40,44 @@ fn with_rate(alloc: Global, rate: Frac64) -> Result<Rates<Frac64>, AllocError>
     Ok(rates)
 }
 
-fn x() -> Expr<Frac64> {
+fn x() -> Expr<Frac64>
+    ensures { IsIn 1 (expression_of ⟦<Frac64 as Exact>⟧.value result) }
+{
     Expr::Fluent(FluentId(0))
+}
+
+fn product(alloc: Global, a: Expr<Frac64>, b: Expr<Frac64>) -> Result<Expr<Frac64>, AllocError>
+    requires a { IsIn 1 (expression_of ⟦<Frac64 as Exact>⟧.value a) }
+    requires b { IsIn 1 (expression_of ⟦<Frac64 as Exact>⟧.value b) }
+    ensures { IfOk result (λ e. IsIn 1 (expression_of ⟦<Frac64 as Exact>⟧.value e)) }
+{
+    Ok(Expr::Mul(Box::new(alloc, a)?, Box::new(alloc, b)?))
+}
+
+fn sum(alloc: Global, a: Expr<Frac64>, b: Expr<Frac64>) -> Result<Expr<Frac64>, AllocError>
+    requires a { IsIn 1 (expression_of ⟦<Frac64 as Exact>⟧.value a) }
+    requires b { IsIn 1 (expression_of ⟦<Frac64 as Exact>⟧.value b) }
+    ensures { IfOk result (λ e. IsIn 1 (expression_of ⟦<Frac64 as Exact>⟧.value e)) }
+{
+    Ok(Expr::Add(Box::new(alloc, a)?, Box::new(alloc, b)?))
+}
+
+// The piece where (x) has this value and moves at this rate.
+fn piece_at(
+    alloc: Global,
+    expr: &Expr<Frac64>,
+    value: i64,
+    rate: i64,
+) -> Result<Option<Linear<Frac64>>, PieceStop<Frac64>>
+    requires { IsIn 1 (expression_of ⟦<Frac64 as Exact>⟧.value expr.now) }
+{
+    match with_value(alloc, fraction(value, 1)) {
+        Err(_) => Ok(None),
+        Ok(state) => match with_rate(alloc, fraction(rate, 1)) {
+            Err(_) => Ok(None),
+            Ok(rates) => piece(expr, &state, &rates),
+        },
+    }
 }
 
 // The root of the condition between two moments, where (x) has this value and moves at this rate.
@@ -103,14 +139,8 @@ fn vectors(rt: HostRuntime) -> Result<(), Fail> {
 #[test]
 fn roots_of_two_moving_sides(rt: HostRuntime) -> Result<(), Fail> {
     let alloc = rt.alloc();
-    let twice = Expr::Mul(
-        Box::new(alloc, Expr::Number(fraction(2, 1)))?,
-        Box::new(alloc, x())?,
-    );
-    let more = Expr::Add(
-        Box::new(alloc, x())?,
-        Box::new(alloc, Expr::Number(fraction(5, 1)))?,
-    );
+    let twice = product(alloc, Expr::Number(fraction(2, 1)), x())?;
+    let more = sum(alloc, x(), Expr::Number(fraction(5, 1)))?;
     let same = Cond::Compare {
         test: Test::Equal,
         left: twice,
@@ -125,12 +155,9 @@ fn roots_of_two_moving_sides(rt: HostRuntime) -> Result<(), Fail> {
 #[test]
 fn pieces_and_moves(rt: HostRuntime) -> Result<(), Fail> {
     let alloc = rt.alloc();
-    let square = Expr::Mul(Box::new(alloc, x())?, Box::new(alloc, x())?);
-    let state = with_value(alloc, fraction(2, 1))?;
-    let moving = with_rate(alloc, one())?;
-    assert!(rt; matches!(piece(&square, &state, &moving), Err(PieceStop::Nonlinear)));
-    let still = with_rate(alloc, zero())?;
-    let line = piece(&square, &state, &still)
+    let square = product(alloc, x(), x())?;
+    assert!(rt; matches!(piece_at(alloc, &square, 2, 1), Err(PieceStop::Nonlinear)));
+    let line = piece_at(alloc, &square, 2, 0)
         .unwrap_or(None)
         .ok_or("no piece")?;
     assert!(rt; is(line.value, 4, 1));

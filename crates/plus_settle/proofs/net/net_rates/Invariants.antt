@@ -1,0 +1,9 @@
+use Rattle.std.proofs.Common.{drop}
+use Rattle.plus_state.specs.View.{problem_of}
+use Rattle.plus_settle.specs.Members.{process_numbers}
+use Rattle.plus_settle.proofs.RatesLemmas.{Summing}
+use Rattle.plus_settle.proofs.net.net_rates.Given as goal
+
+abbrev pub invariant-each : goal.invariant-each
+invariant-each g l =
+    Summing g.Q.Exact.fits (problem_of g.Q.Exact.value l.ground) (process_numbers (drop l.member-index l.members)) (process_numbers l.members) l.state l.rates

@@ -1,0 +1,6 @@
+pub mod Steps
+pub mod Rates
+pub mod Members
+pub mod Confirms
+pub mod Settles
+pub mod Laws

@@ -1,0 +1,101 @@
+// The processes that hold in a state, and those that hold just after it.
+ghost use Rattle.std.specs.Prelude.{◌≡◌, [], ◌∷◌, ◌++◌, length, IfOk, MatchResult, if◌then◌else◌};
+ghost use Rattle.plus_model.specs.Running.{holding as holding_of, GoesOn};
+ghost use Rattle.plus_state.specs.View.{problem_of};
+ghost use Rattle.plus_state.specs.Fits.{ProblemFits, StateFits};
+ghost use Rattle.plus_state.specs.Asked.{AllFit};
+ghost use Rattle.plus_settle.specs.Steps.{AllPass};
+ghost use Rattle.plus_settle.specs.Members.{process_numbers};
+ghost use Rattle.plus_settle.specs.Settles.{condition_nodes, chosen_steps, running_soon, ConditionStops, ChosenStops, of_go};
+
+use crate::confirms::runs_after;
+use crate::stops::{GoStop, SettleStop};
+use plus_crossing::rates::Rates;
+use plus_number::exact::Exact;
+use plus_state::problem::Ground;
+use plus_state::states::State;
+use plus_state::term::ProcessId;
+use plus_state::truth::holds;
+use std::alloc::{AllocError, Global};
+
+fn append_if(members: &mut Vec<ProcessId>, member: ProcessId, runs: bool) -> Result<(), AllocError>
+    ensures { IfOk result (λ _. process_numbers members.new.items
+        ≡ process_numbers members.old.items ++ (if runs then member.0 ∷ [] else [])) }
+{
+    if runs {
+        members.push(member)?;
+    }
+    Ok(())
+}
+
+// The processes whose condition holds, in ground order.
+pub fn holding<Q: Exact>(
+    alloc: Global,
+    ground: &Ground<Q>,
+    state: &State<Q>,
+) -> Result<Vec<ProcessId>, SettleStop<Q>>
+    requires fits { ProblemFits (problem_of Q.value ground.now) }
+    requires state { StateFits (length (ground.now.atoms.items)) (length (ground.now.fluents.items)) state.now }
+    ensures { MatchResult result
+        (λ members. AllFit Q.fits (condition_nodes ((problem_of Q.value ground.now).processes) state.now)
+        × (process_numbers members.items ≡ holding_of (problem_of Q.value ground.now) state.now))
+        (λ stop. ConditionStops Q.value Q.fits (condition_nodes ((problem_of Q.value ground.now).processes) state.now) stop) }
+{
+    let mut members = Vec::new(alloc);
+    'each: for number in 0..ground.processes.len() {
+        match holds(&ground.processes[number].condition, state) {
+            Err(overflow) => return Err(SettleStop::Number(overflow)),
+            Ok(truth) => match append_if(&mut members, ProcessId(number as u32), truth) {
+                Err(_) => return Err(SettleStop::Memory),
+                Ok(()) => {}
+            },
+        }
+    }
+    Ok(members)
+}
+
+// The stop of one process as that of the whole.
+pub fn settle_stop<Q: Exact>(stop: GoStop<Q>) -> SettleStop<Q>
+    ensures { result ≡ of_go stop }
+{
+    match stop {
+        GoStop::Number(overflow) => SettleStop::Number(overflow),
+        GoStop::Nonlinear {
+            process,
+            comparison,
+        } => SettleStop::Nonlinear {
+            process,
+            comparison,
+        },
+    }
+}
+
+// The processes that hold just after the state, at these rates, in ground order.
+pub fn chosen<Q: Exact>(
+    alloc: Global,
+    ground: &Ground<Q>,
+    state: &State<Q>,
+    rates: &Rates<Q>,
+) -> Result<Vec<ProcessId>, SettleStop<Q>>
+    requires fits { ProblemFits (problem_of Q.value ground.now) }
+    requires state { StateFits (length (ground.now.atoms.items)) (length (ground.now.fluents.items)) state.now }
+    requires rates { length rates.now ≡ length (state.now.fluents) }
+    ensures { MatchResult result
+        (λ members. AllPass Q.fits (chosen_steps 0 ((problem_of Q.value ground.now).processes) state.now rates.now)
+        × (process_numbers members.items ≡ running_soon (problem_of Q.value ground.now) state.now rates.now)
+        × GoesOn (problem_of Q.value ground.now) state.now rates.now (running_soon (problem_of Q.value ground.now) state.now rates.now))
+        (λ stop. ChosenStops Q.value Q.fits (chosen_steps 0 ((problem_of Q.value ground.now).processes) state.now rates.now) stop) }
+{
+    let mut members = Vec::new(alloc);
+    'each: for number in 0..ground.processes.len() {
+        let id = ProcessId(number as u32);
+        match runs_after(&ground.processes[number], id, state, rates) {
+            Err(stop) => return Err(settle_stop(stop)),
+            Ok(truth) => match append_if(&mut members, id, truth) {
+                Err(_) => return Err(SettleStop::Memory),
+                Ok(()) => {}
+            },
+        }
+    }
+    Ok(members)
+}

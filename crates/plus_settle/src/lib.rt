@@ -1,0 +1,19 @@
+//! Running sets of a ground PDDL+ problem: the processes that run from a state on, and their net rates.
+//!
+//! `net_rates` evaluates each rate of a member once. `goes_on` takes the condition of each process once,
+//! up to the first that differs, and takes no memory. `settle` evaluates the condition of each process
+//! once in the state and twice just after it, at two rates, and the rates of two sets of processes.
+#![tactic(auto)]
+
+mod choices;
+pub mod confirms;
+mod coupling;
+pub mod laws;
+pub mod net;
+pub mod settling;
+pub mod stops;
+
+pub use confirms::goes_on;
+pub use net::net_rates;
+pub use settling::{Running, settle};
+pub use stops::{GoStop, RateStop, SettleStop};

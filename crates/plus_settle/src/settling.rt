@@ -1,0 +1,105 @@
+// Settling.
+ghost use Rattle.std.specs.Prelude.{◌≡◌, length, IfOk};
+ghost use Rattle.plus_model.specs.Running.{rates as rates_of};
+ghost use Rattle.plus_state.specs.View.{problem_of};
+ghost use Rattle.plus_state.specs.Fits.{ProblemFits, StateFits};
+ghost use Rattle.plus_settle.specs.Steps.{AllPass};
+ghost use Rattle.plus_settle.specs.Rates.{rates_steps};
+ghost use Rattle.plus_settle.specs.Members.{process_numbers, AreMembers};
+ghost use Rattle.plus_settle.specs.Settles.{of_rate, OwnRates, Confirmed, own_then, SettleAnswers};
+
+use crate::choices::{chosen, holding, settle_stop};
+use crate::confirms::first_other;
+use crate::coupling::first_coupled;
+use crate::net::net_rates;
+use crate::stops::{RateStop, SettleStop};
+use plus_crossing::rates::Rates;
+use plus_number::exact::Exact;
+use plus_state::problem::Ground;
+use plus_state::states::State;
+use plus_state::term::ProcessId;
+use std::alloc::Global;
+
+/// A running set: its processes, in ground order, and the net rates under them.
+#[derive(Drop)]
+pub struct Running<Q: Exact> {
+    pub members: Vec<ProcessId>,
+    pub rates: Rates<Q>,
+}
+
+fn rate_stop<Q: Exact>(stop: RateStop<Q>) -> SettleStop<Q>
+    ensures { result ≡ of_rate stop }
+{
+    match stop {
+        RateStop::NoValue(fluent) => SettleStop::NoValue(fluent),
+        RateStop::Number(overflow) => SettleStop::Number(overflow),
+        RateStop::Memory => SettleStop::Memory,
+    }
+}
+
+// The net rates under these processes.
+fn own_rates<Q: Exact>(
+    alloc: Global,
+    ground: &Ground<Q>,
+    members: &[ProcessId],
+    state: &State<Q>,
+) -> Result<Rates<Q>, SettleStop<Q>>
+    requires fits { ProblemFits (problem_of Q.value ground.now) }
+    requires state { StateFits (length (ground.now.atoms.items)) (length (ground.now.fluents.items)) state.now }
+    requires members { AreMembers (length (ground.now.processes.items)) (process_numbers members.now) }
+    ensures size { IfOk result (λ rs. length rs ≡ length (state.now.fluents)) }
+    ensures told { OwnRates Q.value Q.fits (problem_of Q.value ground.now) state.now (process_numbers members.now) result }
+{
+    match net_rates(alloc, ground, members, state) {
+        Ok(rates) => Ok(rates),
+        Err(stop) => Err(rate_stop(stop)),
+    }
+}
+
+// Whether the chosen processes confirm themselves at their own rates, and none reads a moving fluent.
+fn confirmed<Q: Exact>(
+    ground: &Ground<Q>,
+    members: &[ProcessId],
+    state: &State<Q>,
+    rates: &Rates<Q>,
+) -> Result<(), SettleStop<Q>>
+    requires fits { ProblemFits (problem_of Q.value ground.now) }
+    requires state { StateFits (length (ground.now.atoms.items)) (length (ground.now.fluents.items)) state.now }
+    requires members { AreMembers (length (ground.now.processes.items)) (process_numbers members.now) }
+    requires rates { length rates.now ≡ length (state.now.fluents) }
+    ensures { Confirmed Q.value Q.fits (problem_of Q.value ground.now) state.now (process_numbers members.now) rates.now result }
+{
+    match first_other(ground, members, state, rates) {
+        Err(stop) => Err(settle_stop(stop)),
+        Ok(other) => match other {
+            Some(process) => Err(SettleStop::Unsettled(process)),
+            None => match first_coupled(ground, members, rates) {
+                Some(pair) => Err(SettleStop::Coupled(pair.0, pair.1)),
+                None => Ok(()),
+            },
+        },
+    }
+}
+
+/// The running set of a state and its net rates. The processes that hold in the state give rates, those
+/// that hold just after it at these rates are the set, and it must confirm itself: at its own rates
+/// exactly its members hold just after. No rate of a member may read a fluent that moves. The refusal
+/// is the first step that stops: the conditions of all processes, the rates of those that hold, all
+/// processes just after at these rates, the rates of the set, all processes just after at those up to
+/// the first that differs, and then the first member that reads a moving fluent; or want of memory.
+pub fn settle<Q: Exact>(
+    alloc: Global,
+    ground: &Ground<Q>,
+    state: &State<Q>,
+) -> Result<Running<Q>, SettleStop<Q>>
+    requires fits { ProblemFits (problem_of Q.value ground.now) }
+    requires state { StateFits (length (ground.now.atoms.items)) (length (ground.now.fluents.items)) state.now }
+    ensures { SettleAnswers Q.value Q.fits (problem_of Q.value ground.now) state.now result }
+{
+    let present = holding(alloc, ground, state)?;
+    let first = own_rates(alloc, ground, &present, state)?;
+    let members = chosen(alloc, ground, state, &first)?;
+    let rates = own_rates(alloc, ground, &members, state)?;
+    confirmed(ground, &members, state, &rates)?;
+    Ok(Running { members, rates })
+}
