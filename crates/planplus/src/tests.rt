@@ -77,7 +77,7 @@ const PAIR_ROWS: [(&str, &str, Status, &str); 6] = [
         "(define (domain f) (:functions (x)))",
         D1,
         Status::BadText,
-        "bad text: domain 31-34: not built\n",
+        "bad text: domain 20-30: not built\n",
     ),
     (
         "(define (domain door) (:predicates (p) (p)))",

@@ -1,7 +1,7 @@
 -- A domain that is read is spelled so, and one that is spelled is read.
-use Rattle.std.proofs.Common.{◌≡◌, ℕ, suc, ◌-◌, ◌<◌, Bool, true, false, cond, List, [], ◌∷◌, ◌++◌, length, Option, Some, None, Result, Ok, Err, refl, sym, ap, ◌∙◌, subst, inl, arith}
-use Rattle.std.specs.Prelude.{◌&&◌, map, is_some, codes}
-use Rattle.std.proofs.lemmas.Bool.{cond-false, cond-true, and_parts}
+use Rattle.std.proofs.Common.{◌≡◌, ℕ, suc, ◌-◌, ◌<◌, true, List, [], ◌∷◌, ◌++◌, length, Some, None, Result, Ok, Err, refl, sym, ap, ◌∙◌, subst, inl, arith}
+use Rattle.std.specs.Prelude.{map, is_some, codes}
+use Rattle.std.proofs.lemmas.Bool.{cond-false, cond-true}
 use Rattle.plus_tree.specs.declared.names.Span.{Span}
 use Rattle.plus_tree.specs.declared.names.Spelled.{Spelled}
 use Rattle.plus_tree.specs.declared.trees.Head.{Head}
@@ -13,11 +13,6 @@ use Rattle.plus_tree.specs.Cond.{Cond}
 use Rattle.plus_tree.specs.Effect.{Effect}
 use Rattle.plus_parser.specs.declared.parts.Keys.{Keys}
 use Rattle.plus_parser.specs.declared.parts.DomainParts.{DomainParts}
-use Rattle.plus_parser.specs.declared.parts.Functions.{Functions}
-use Rattle.plus_tokens.specs.declared.token.Kind.{Kind}
-use Rattle.plus_tokens.specs.declared.token.Kind.TheVariants as kinds
-use Rattle.plus_tokens.specs.declared.token.Op.{Op}
-use Rattle.plus_tokens.specs.declared.token.Op.TheVariants as ops
 use Rattle.plus_parser.specs.declared.words.KeyWord.{KeyWord}
 use Rattle.plus_parser.specs.declared.words.KeyWord.TheVariants as keys
 use Rattle.plus_parser.specs.declared.words.DomainWord.{DomainWord}
@@ -25,22 +20,21 @@ use Rattle.plus_parser.specs.declared.words.DomainWord.TheVariants as domains
 use Rattle.plus_parser.specs.declared.words.Later.TheVariants as laters
 use Rattle.plus_parser.specs.Items.{Piece, Item, tok}
 use Rattle.plus_parser.specs.Reading.{◌>>=◌, Read, is_open}
-use Rattle.plus_parser.specs.Words.{is_close, is_keyword, is_plain, is_word, is_minus_op, is_minus, key_of, domain_part_of, goes_on}
-use Rattle.plus_parser.specs.Grammar.{around, spelled_of, never, open_of, close_of, name_of, plain_of, word_of, until_close, Former, form_step, cond_at, effect_at}
-use Rattle.plus_parser.specs.ReadingDomain.{keyword_of, requirement_step, predicate_at, no_functions, number_type, function_step, no_keys, key_with, key_step, schema_made, schema_of, no_parts, domain_part_with, domain_part, never_full, end_of, front_of, domain_made, domain_step, domain_in}
+use Rattle.plus_parser.specs.Words.{is_close, is_keyword, is_plain, key_of, domain_part_of, goes_on}
+use Rattle.plus_parser.specs.Grammar.{around, spelled_of, never, open_of, close_of, name_of, plain_of, until_close, Former, form_step, cond_at, effect_at}
+use Rattle.plus_parser.specs.ReadingDomain.{keyword_of, requirement_step, predicate_at, no_keys, key_with, key_step, schema_made, schema_of, no_parts, domain_part_with, domain_part, never_full, end_of, front_of, domain_made, domain_step, domain_in}
 use Rattle.plus_parser.specs.Spells.{IsClose, Wrapped, with_last, SpellsCond, SpellsEffect, room_after}
-use Rattle.plus_parser.specs.SpellsDomain.{SpellsRequirement, SpellsHead, FunctionPart, f_head, f_number, SpellsFunctionPart, with_function, k_parameters, k_condition, k_effect, SpellsKey, with_key, SpellsSchema, d_requirements, d_predicates, d_functions, d_action, SpellsDomainPart, with_domain_part, DomainTokens}
-use Rattle.plus_parser.proofs.Tokens.{toks, toks_last, toks_all, enough, bind_ok, ok_is, next_again, next_open, wanted, refused, open_kind, close_kind, token_takes}
-use Rattle.plus_parser.proofs.Names.{plain_name, keyword_is, word_is}
-use Rattle.plus_parser.proofs.Level.{Even, Level, is_flat, after_flat, level_flat, level_at, level_wrapped, level_cond, level_effect, even_wrapped, even_open}
+use Rattle.plus_parser.specs.SpellsDomain.{SpellsRequirement, SpellsHead, k_parameters, k_condition, k_effect, SpellsKey, with_key, SpellsSchema, d_requirements, d_predicates, d_action, SpellsDomainPart, with_domain_part, DomainTokens}
+use Rattle.plus_parser.proofs.Tokens.{toks, toks_last, toks_all, enough, bind_ok, ok_is, wanted, refused, open_kind, close_kind, token_takes}
+use Rattle.plus_parser.proofs.Names.{plain_name, keyword_is}
+use Rattle.plus_parser.proofs.Level.{Even, Level, level_at, level_wrapped, level_cond, level_effect, even_wrapped, even_open}
 use Rattle.plus_parser.proofs.Flat.{IsFlat, keyword_flat, name_flat, says_flat, flat_next, flat_level}
 use Rattle.plus_parser.proofs.UntilTakes.{Took, Takes, until_takes}
 use Rattle.plus_parser.proofs.UntilAgain.{Again, Levels, level_chain, until_again}
 use Rattle.plus_parser.proofs.Forms.{FormTook, FormTakes, FormAgain, Begins, close_took, enters, form_takes, form_again, let_through, some_is, list_takes, list_again}
-use Rattle.plus_parser.proofs.Starts.{open_again, close_again, plain_again, opened_takes, opened_again}
-use Rattle.plus_parser.proofs.ConditionLaws.{cond_takes, cond_again, cond_begins}
-use Rattle.plus_parser.proofs.EffectLaws.{effect_takes, effect_again, effect_begins}
-use Rattle.plus_parser.proofs.Sections.{name_taken, name_read, word_read, PartTook, PartTakes, Shapes, PartAgain, section_takes, section_levels, section_again, end_takes, end_again, front_takes, framed, frame_even, frame_shape, front_again}
+use Rattle.plus_parser.proofs.ConditionLaws.{open_again, close_again, cond_takes, cond_again, cond_begins}
+use Rattle.plus_parser.proofs.EffectLaws.{plain_again, effect_takes, effect_again, effect_begins}
+use Rattle.plus_parser.proofs.Sections.{name_taken, name_read, PartTook, PartTakes, Shapes, PartAgain, section_takes, section_levels, section_again, end_takes, end_again, front_takes, framed, frame_even, frame_shape, front_again}
 
 -- ---- requirements
 
@@ -115,107 +109,28 @@ predicate_again room x ts first inner rest h e ev =
     predicate_step room w.first.span n w.last (tok n ∷ tok w.last ∷ rest) (tok w.last ∷ rest) rest (plain_again (room - 1) n (tok w.last ∷ rest) h.1) (close_again laters.Variable (room - 1) w.last rest w.closes)
     ∙ (λ i. Ok (record { name = sym h.3 i; params = sym h.4 i; span = sym w.place i }, rest)))
 
--- ---- functions
-
-minus_op_is : (op : Op) → is_minus_op op ≡ true → op ≡ ops.Minus
-minus_op_is ops.Minus e = refl
-minus_op_is _ e = absurd cc
-
-minus_is : (k : Kind) → is_minus k ≡ true → k ≡ kinds.Op ops.Minus
-minus_is (kinds.Op op) e = ap kinds.Op (minus_op_is op e)
-minus_is _ e = absurd cc
-
--- what a test let through
-kept : {S : Type 0} (b : Bool) (x y : S) → cond b (Some x) None ≡ Some y → (b ≡ true) × (x ≡ y)
-kept true x y e = (refl, cc)
-kept false x y e = absurd cc
-
-function_takes : (room : ℕ) → Takes SpellsFunctionPart with_function (function_step room) room
-unfolding function_step
-function_takes room s s' p r r' left e = at_open (is_open p.kind) refl e
-  where
-    at_minus : (b : Bool) → (is_minus p.kind && s.untyped) ≡ b → cond b (number_type room s r) (Err (faults.Form p.span)) ≡ Ok (s', r') → Took SpellsFunctionPart with_function (function_step room) room s s' p r r'
-    at_minus false m e = absurd cc
-    at_minus true m e =
-        let both = and_parts (is_minus p.kind) s.untyped m in
-        let made = record s { untyped = false } in
-        let a = bind_ok (word_of (codes "number") room r) (λ n. Ok (made, n.1)) (s', r') e in
-        let done = ok_is (made, a.0.1) (s', r') a.2 in
-        let w = token_takes (is_word (codes "number")) never room a.0.0 r a.0.1 a.1 in
-        let is = word_is (codes "number") a.0.0 w.fits in
-        let sign = minus_is p.kind both.0 in
-        record {
-          thing = f_number;
-          inner = a.0.0 ∷ [];
-          whole = w.whole ∙ ap (λ (x : Functions × List Item). tok a.0.0 ∷ x.1) done;
-          spelled = (p, a.0.0, sign, is, refl);
-          adds = cond-true s.untyped (Some made) None both.1 ∙ ap (λ (x : Functions × List Item). Some x.0) done;
-          even = after_flat room p (a.0.0 ∷ []) (ap is_flat sign) ∙ (name_flat a.0.0 is.0).room room [];
-        }
-
-    at_open : (b : Bool) → is_open p.kind ≡ b
-        → cond b (predicate_at room p.span r >>= λ h. Ok (record { heads = s.heads ++ h.0 ∷ []; untyped = true }, h.1)) (cond (is_minus p.kind && s.untyped) (number_type room s r) (Err (faults.Form p.span))) ≡ Ok (s', r')
-        → Took SpellsFunctionPart with_function (function_step room) room s s' p r r'
-    at_open false o e = at_minus (is_minus p.kind && s.untyped) refl e
-    at_open true o e =
-        let made = λ (h : Head). let x : Functions = record { heads = s.heads ++ h ∷ []; untyped = true } in x in
-        let a = bind_ok (predicate_at room p.span r) (λ h. Ok (made h.0, h.1)) (s', r') e in
-        let both = ok_is (made a.0.0, a.0.1) (s', r') a.2 in
-        let t = predicate_takes room p.span r a.0.0 a.0.1 (left o) a.1 in
-        let opens = open_kind p.kind o in
-        record {
-          thing = f_head a.0.0;
-          inner = t.inner;
-          whole = t.whole ∙ ap (λ (x : Functions × List Item). toks t.inner x.1) both;
-          spelled = t.spelled p opens refl;
-          adds = ap (λ (x : Functions × List Item). Some x.0) both;
-          even = t.even p opens;
-        }
-
-function_levels : (room : ℕ) → Levels SpellsFunctionPart with_function (function_step room) room
-function_levels room (f_head x) ts h = predicate_levels room x ts h
-function_levels room f_number ts h =
-    level_at ts (h.0 ∷ h.1 ∷ []) h.4 (level_flat h.0 (h.1 ∷ []) (ap is_flat h.2) (flat_level h.1 [] (name_flat h.1 h.3.0) (λ r. inl refl)))
-
-function_again : (room : ℕ) → Again SpellsFunctionPart with_function (function_step room) room
-unfolding function_step
-function_again room s s' (f_head x) ts rest h ev a =
-    let made = λ (h : Head). let y : Functions = record { heads = s.heads ++ h ∷ []; untyped = true } in y in
-    let b = predicate_begins room x ts h in
-    let same : made x ≡ s' = some_is (made x) s' a in
-    let left = toks b.1 rest in
-    record {
-      first = b.0;
-      inner = b.1;
-      whole = b.3;
-      next = next_open room b.0 left b.2 (even_open room b.0 b.1 b.2 (ap (room_after room) (sym b.3) ∙ ev));
-      goes = ap is_close b.2;
-      steps =
-          cond-true (is_open b.0.kind) (predicate_at room b.0.span left >>= λ h. Ok (made h.0, h.1)) (cond (is_minus b.0.kind && s.untyped) (number_type room s left) (Err (faults.Form b.0.span))) (ap is_open b.2)
-          ∙ ap (λ (q : Read Head). q >>= λ h. Ok (made h.0, h.1)) (predicate_again room x ts b.0 b.1 rest h b.3 ev)
-          ∙ ap (λ (fs : Functions). Ok (fs, rest)) same;
-    }
-function_again room s s' f_number ts rest h ev a =
-    let m = h.0 in
-    let n = h.1 in
-    let made = record s { untyped = false } in
-    let g = kept s.untyped made s' a in
-    let left = tok n ∷ rest in
-    let opened : Read Functions = predicate_at room m.span left >>= λ h. Ok (record { heads = s.heads ++ h.0 ∷ []; untyped = true }, h.1) in
-    record {
-      first = m;
-      inner = n ∷ [];
-      whole = h.4;
-      next = next_again room m left (ap is_open h.2);
-      goes = ap is_close h.2;
-      steps =
-          cond-false (is_open m.kind) opened (cond (is_minus m.kind && s.untyped) (number_type room s left) (Err (faults.Form m.span))) (ap is_open h.2)
-          ∙ cond-true (is_minus m.kind && s.untyped) (number_type room s left) (Err (faults.Form m.span)) (ap (λ k. is_minus k && s.untyped) h.2 ∙ g.0)
-          ∙ ap (λ (q : Read Piece). q >>= λ n. Ok (made, n.1)) (word_read (codes "number") room n rest h.3)
-          ∙ ap (λ (fs : Functions). Ok (fs, rest)) g.1;
-    }
-
 -- ---- actions
+
+-- a form behind a keyword
+pub record Opened {A : Type 0} (P : A → List Piece → Type 0) (room : ℕ) (x : A) (items rest : List Item) : Type 0 where
+  pub inner : List Piece
+  pub whole : items ≡ toks inner rest
+  pub spelled : P x inner
+  pub even : Even room inner
+
+pub opened_takes : {A : Type 0} (P : A → List Piece → Type 0) (room : ℕ) (read : Former A) → FormTakes P room read → (o : Piece) (x : A) (items r rest : List Item) → open_of room items ≡ Ok (o, r) → read o.span r ≡ Ok (x, rest) → Opened P room x items rest
+opened_takes P room read takes o x items r rest e h =
+    let f = token_takes (λ q. is_open q.kind) never room o items r e in
+    let opens = open_kind o.kind f.fits in
+    let t = takes o.span r x rest (f.room_left f.fits) h in
+    record { inner = o ∷ t.inner; whole = f.whole ∙ ap (λ (is : List Item). tok o ∷ is) t.whole; spelled = t.spelled o opens refl; even = t.even o opens }
+
+-- a form behind its opening parenthesis, read from there
+pub opened_again : {A : Type 0} (P : A → List Piece → Type 0) (room : ℕ) (read : Former A) → Begins P room → FormAgain P room read → (x : A) (ts : List Piece) (rest : List Item) → P x ts → Even room ts → (o : Piece) × (r : List Item) × (open_of room (toks ts rest) ≡ Ok (o, r)) × (read o.span r ≡ Ok (x, rest))
+opened_again P room read begins again x ts rest h ev =
+    let b = begins x ts h in
+    let some : 0 < room = even_open room b.0 b.1 b.2 (ap (room_after room) (sym b.3) ∙ ev) in
+    (b.0, toks b.1 rest, ap (λ (ps : List Piece). open_of room (toks ps rest)) b.3 ∙ open_again room b.0 (toks b.1 rest) b.2 some, again x ts b.0 b.1 rest h b.3 ev)
 
 key_flat : (p : Piece) (h : KeyWord) → key_of p ≡ h → (keys.Other ≡ h → ⊥) → IsFlat p
 key_flat p h e apart = says_flat key_of keys.Other (λ q k. cond-false (is_keyword q.kind) _ keys.Other k) p h e apart
@@ -438,24 +353,6 @@ part_takes r s s' front q rest rest' e = at_word (domain_part_of q) refl e
           spelled = λ ts w. (around front t.last.span, q, t.body, is, w, t.spelled);
           adds = cond-false (is_some s.predicates) None (Some (record s { predicates = Some t.things })) t.fresh ∙ ap Some t.is;
         }
-    at_word domains.Functions is e =
-        let step = function_step r in
-        let made = λ (hs : List Head). record s { functions = Some hs } in
-        let g = refused (is_some s.functions) (faults.Form q.span) (until_close step r (length rest) no_functions rest >>= λ xs. Ok (made xs.0.0.heads, xs.1)) (s', rest') e in
-        let a = bind_ok (until_close step r (length rest) no_functions rest) (λ xs. Ok (made xs.0.0.heads, xs.1)) (s', rest') g.1 in
-        let both = ok_is (made a.0.0.0.heads, a.0.1) (s', rest') a.2 in
-        let t = until_takes SpellsFunctionPart with_function step r (function_takes r) (length rest) no_functions a.0.0.0 a.0.0.1 rest a.0.1 a.1 in
-        record {
-          thing = d_functions a.0.0.0.heads;
-          body = t.inner;
-          last = t.last;
-          flat = part_flat q domains.Functions is (λ e. cc);
-          closes = t.closes;
-          whole = t.whole ∙ ap (λ (x : DomainParts × List Item). toks t.inner (tok t.last ∷ x.1)) both;
-          even = t.even;
-          spelled = λ ts w. (around front t.last.span, q, t.inner, is, w, record { parts = t.things; found = a.0.0.0; spelled = t.spelled; typed = t.adds; are = refl });
-          adds = cond-false (is_some s.functions) None (Some (made a.0.0.0.heads)) g.0 ∙ ap (λ (x : DomainParts × List Item). Some x.0) both;
-        }
     at_word domains.Action is e =
         let made = λ (x : Schema). record s { actions = s.actions ++ x ∷ [] } in
         let a = bind_ok (schema_of r front rest) (λ x. Ok (made x.0, x.1)) (s', rest') e in
@@ -492,14 +389,6 @@ part_shape (d_predicates hs) ts h = record {
   flat = part_flat h.1 domains.Predicates h.3 (λ e. cc);
   level = level_chain SpellsHead with_last (form_step (predicate_at 0)) 0 (predicate_levels 0) hs h.2 h.5;
 }
-part_shape (d_functions hs) ts h = record {
-  span = h.0;
-  keyword = h.1;
-  body = h.2;
-  wrapped = h.4;
-  flat = part_flat h.1 domains.Functions h.3 (λ e. cc);
-  level = level_chain SpellsFunctionPart with_function (function_step 0) 0 (function_levels 0) h.5.parts h.2 h.5.spelled;
-}
 part_shape (d_action x) ts h = record {
   span = h.0;
   keyword = h.1;
@@ -522,19 +411,6 @@ part_again r s s' (d_predicates hs) ts rest h ev a =
     let w = h.4 in
     ap (λ (word : DomainWord). domain_part_with word r s w.first.span h.1 (toks h.2 (tok w.last ∷ rest))) h.3
     ∙ list_again SpellsHead (form_step (predicate_at r)) r (is_some s.predicates) (λ xs. record s { predicates = Some xs }) h.1.span (predicate_levels r) (form_again SpellsHead r (predicate_at r) (predicate_begins r) (predicate_again r)) hs h.2 w.last rest g.0 h.5 ev w.closes
-    ∙ ap (λ (ps : DomainParts). Ok (ps, rest)) g.1
-part_again r s s' (d_functions hs) ts rest h ev a =
-    let g = let_through (is_some s.functions) (record s { functions = Some hs }) s' a in
-    let w = h.4 in
-    let f = h.5 in
-    let step = function_step r in
-    let left = toks h.2 (tok w.last ∷ rest) in
-    let made = λ (hs : List Head). record s { functions = Some hs } in
-    let loop = until_again SpellsFunctionPart with_function step r (function_levels r) (function_again r) (length left) no_functions f.found f.parts h.2 w.last rest f.spelled ev f.typed w.closes (enough h.2 w.last rest) in
-    ap (λ (word : DomainWord). domain_part_with word r s w.first.span h.1 left) h.3
-    ∙ cond-false (is_some s.functions) (Err (faults.Form h.1.span)) (until_close step r (length left) no_functions left >>= λ xs. Ok (made xs.0.0.heads, xs.1)) g.0
-    ∙ ap (λ (q : Read (Functions × Span)). q >>= λ xs. Ok (made xs.0.0.heads, xs.1)) loop
-    ∙ (λ i. Ok (made (f.are i), rest))
     ∙ ap (λ (ps : DomainParts). Ok (ps, rest)) g.1
 part_again r s s' (d_action x) ts rest h ev a =
     let w = h.4 in

@@ -15,7 +15,7 @@ use Rattle.plus_parser.proofs.UntilTakes.{Takes, until_takes}
 use Rattle.plus_parser.proofs.UntilAgain.{Again, Levels, until_again}
 
 -- things added one by one at the end are those things
-pub added_from : {X : Type 0} (front xs ys : List X) → added with_last front xs ≡ Some ys → front ++ xs ≡ ys
+added_from : {X : Type 0} (front xs ys : List X) → added with_last front xs ≡ Some ys → front ++ xs ≡ ys
 added_from front [] ys e = append-nil front ∙ (let same : front ≡ ys = cc in same)
 added_from front (x ∷ xs) ys e = sym (append_assoc front (x ∷ []) xs) ∙ added_from (front ++ x ∷ []) xs ys e
 

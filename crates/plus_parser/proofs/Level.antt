@@ -1,19 +1,16 @@
 -- Spelled tokens close as many parentheses as they open.
-use Rattle.std.proofs.Common.{◌≡◌, ℕ, zero, suc, ◌+◌, ◌<◌, ◌≤◌, Bool, true, false, List, [], ◌∷◌, ◌++◌, length, Option, Some, None, refl, sym, ap, ◌∙◌, subst, inl, inr, ⊎_elim, add-one, arith}
-use Rattle.std.specs.Prelude.{◌⊎◌, codes}
-use Rattle.plus_parser.specs.Literals.{kind_literal}
+use Rattle.std.proofs.Common.{◌≡◌, ℕ, zero, suc, ◌+◌, ◌<◌, ◌≤◌, List, [], ◌∷◌, ◌++◌, length, Option, Some, None, refl, sym, ap, ◌∙◌, subst, inl, inr, ⊎_elim, add-one, arith}
+use Rattle.std.specs.Prelude.{◌⊎◌}
 use Rattle.plus_tokens.specs.declared.token.Kind.{Kind}
 use Rattle.plus_tokens.specs.declared.token.Kind.TheVariants as kinds
 use Rattle.plus_tree.specs.declared.names.Span.{Span}
 use Rattle.plus_parser.specs.Items.{Piece}
-use Rattle.plus_tree.specs.declared.terms.Literal.{Literal}
-use Rattle.plus_tree.specs.Expr.{Expr, x_number, x_clock, x_fluent, x_sum, x_product, x_minus, x_difference, x_quotient, Exprs, no_exprs, more_exprs}
-use Rattle.plus_tree.specs.Cond.{Cond, c_all, c_any, c_not, c_imply, c_atom, c_compare, Conds, no_conds, more_conds}
+use Rattle.plus_tree.specs.Cond.{Cond, c_all, c_not, c_atom, Conds, no_conds, more_conds}
 use Rattle.plus_tree.specs.declared.terms.Use.{Use}
 use Rattle.plus_tree.specs.declared.trees.LeafNode.{LeafNode}
-use Rattle.plus_tree.specs.declared.trees.LeafNode.TheVariants.{Add, Delete, Assign, Increase, Decrease, ScaleUp, ScaleDown}
+use Rattle.plus_tree.specs.declared.trees.LeafNode.TheVariants.{Add, Delete}
 use Rattle.plus_tree.specs.Effect.{Effect, e_all, e_leaf, Effects, no_effects, more_effects}
-use Rattle.plus_parser.specs.Spells.{IsOpen, IsClose, Wrapped, IsNumber, SpellsUse, SpellsExpr, SpellsExprs, SpellsChange, SpellsCond, SpellsConds, SpellsLeafNode, SpellsEffect, SpellsEffects, room_step, room_after}
+use Rattle.plus_parser.specs.Spells.{IsOpen, IsClose, Wrapped, SpellsUse, SpellsCond, SpellsConds, SpellsLeafNode, SpellsEffect, SpellsEffects, room_step, room_after}
 use Rattle.plus_parser.proofs.Names.{plain_name}
 
 -- tokens that leave as much room as they find
@@ -87,62 +84,10 @@ level_at a b e l = subst Level (sym e) l
 pub level_use : (u : Use) (ts : List Piece) → SpellsUse u ts → Level ts
 level_use u ts h = level_wrapped u.span (h.0 ∷ []) ts h.2 (level_name h.0 [] (plain_name h.0 h.1) (λ room. inl refl))
 
--- ---- tokens that are no parenthesis
-
-abbrev pub is_flat : Kind → Bool
-is_flat kinds.Open = false
-is_flat kinds.Close = false
-is_flat _ = true
-
-flat_step : (k : Kind) (room : ℕ) (after : ℕ → Option ℕ) → is_flat k ≡ true → room_step k room after ≡ after room
-flat_step kinds.Open room after e = absurd cc
-flat_step kinds.Close room after e = absurd cc
-flat_step _ room after e = refl
-
-pub after_flat : (room : ℕ) (p : Piece) (ts : List Piece) → is_flat p.kind ≡ true → room_after room (p ∷ ts) ≡ room_after room ts
-after_flat room p ts e = flat_step p.kind room (λ r. room_after r ts) e
-
-pub level_flat : (p : Piece) (ts : List Piece) → is_flat p.kind ≡ true → Level ts → Level (p ∷ ts)
-level_flat p ts e l room = ⊎_elim (λ ev. inl (after_flat room p ts e ∙ ev)) (λ n. inr (after_flat room p ts e ∙ n)) (l room)
-
-pub level_none : Level []
-level_none room = inl refl
-
-number_kind_flat : (k : Kind) (s : Span) (n : Literal) → kind_literal k s ≡ Some n → is_flat k ≡ true
-unfolding kind_literal
-number_kind_flat kinds.Open s n e = absurd cc
-number_kind_flat kinds.Close s n e = absurd cc
-number_kind_flat _ s n e = refl
-
-pub number_flat : (p : Piece) (n : Literal) → IsNumber n p → is_flat p.kind ≡ true
-number_flat p n e = number_kind_flat p.kind p.span n e
-
-mutual
-  pub level_expr : (x : Expr) (ts : List Piece) → SpellsExpr x ts → Level ts
-  level_expr (x_number n s) ts h = level_at ts (h.0 ∷ []) h.3 (level_flat h.0 [] (number_flat h.0 n h.1) level_none)
-  level_expr (x_clock s) ts h = level_at ts (h.0 ∷ []) h.3 (level_flat h.0 [] (ap is_flat h.1) level_none)
-  level_expr (x_fluent u s) ts h = level_use u ts h.1
-  level_expr (x_sum es s) ts h = level_wrapped s (h.0 ∷ h.1) ts h.3 (level_flat h.0 h.1 (ap is_flat h.2) (level_exprs es h.1 h.5))
-  level_expr (x_product es s) ts h = level_wrapped s (h.0 ∷ h.1) ts h.3 (level_flat h.0 h.1 (ap is_flat h.2) (level_exprs es h.1 h.5))
-  level_expr (x_minus x s) ts h = level_wrapped s (h.0 ∷ h.1) ts h.3 (level_flat h.0 h.1 (ap is_flat h.2) (level_expr x h.1 h.4))
-  level_expr (x_difference x y s) ts h =
-      level_wrapped s (h.0 ∷ (h.1 ++ h.2)) ts h.4 (level_flat h.0 (h.1 ++ h.2) (ap is_flat h.3) (level_append h.1 h.2 (level_expr x h.1 h.5) (level_expr y h.2 h.6)))
-  level_expr (x_quotient x y s) ts h =
-      level_wrapped s (h.0 ∷ (h.1 ++ h.2)) ts h.4 (level_flat h.0 (h.1 ++ h.2) (ap is_flat h.3) (level_append h.1 h.2 (level_expr x h.1 h.5) (level_expr y h.2 h.6)))
-
-  pub level_exprs : (xs : Exprs) (ts : List Piece) → SpellsExprs xs ts → Level ts
-  level_exprs no_exprs ts h = level_at ts [] h level_none
-  level_exprs (more_exprs x xs) ts h = level_at ts (h.0 ++ h.1) h.4 (level_append h.0 h.1 (level_expr x h.0 h.2) (level_exprs xs h.1 h.3))
-
 mutual
   pub level_cond : (c : Cond) (ts : List Piece) → SpellsCond c ts → Level ts
   level_cond (c_all cs s) ts h =
       level_wrapped s h.0 ts h.1 (⊎_elim (λ e. level_at h.0 [] e.1 (λ room. inl refl)) (λ e. level_at h.0 _ e.3 (level_name e.0 e.1 e.2.0 (level_conds cs e.1 e.4))) h.2)
-  level_cond (c_any cs s) ts h = level_wrapped s (h.0 ∷ h.1) ts h.3 (level_name h.0 h.1 h.2.0 (level_conds cs h.1 h.4))
-  level_cond (c_imply c d s) ts h =
-      level_wrapped s (h.0 ∷ (h.1 ++ h.2)) ts h.4 (level_name h.0 (h.1 ++ h.2) h.3.0 (level_append h.1 h.2 (level_cond c h.1 h.5) (level_cond d h.2 h.6)))
-  level_cond (c_compare sign x y s) ts h =
-      level_wrapped s (h.0 ∷ (h.1 ++ h.2)) ts h.4 (level_flat h.0 (h.1 ++ h.2) (ap is_flat h.3) (level_append h.1 h.2 (level_expr x h.1 h.5) (level_expr y h.2 h.6)))
   level_cond (c_not c s) ts h = level_wrapped s (h.0 ∷ h.1) ts h.3 (level_name h.0 h.1 h.2.0 (level_cond c h.1 h.4))
   level_cond (c_atom u s) ts h = level_use u ts h.1
   level_cond _ ts h = absurd h
@@ -157,18 +102,10 @@ even_wrapped room s body ts w ev = wrapped_suc room s body ts w ∙ last_even ro
 pub even_append : (room : ℕ) (a b : List Piece) → Even room a → Even room b → Even room (a ++ b)
 even_append room a b ea eb = after_even room a b ea ∙ eb
 
-pub level_change : (w : List ℕ) (u : Use) (x : Expr) (s : Span) (ts : List Piece) → SpellsChange w u x s ts → Level ts
-level_change w u x s ts h =
-    level_wrapped s (h.0 ∷ (h.1 ++ h.2)) ts h.4 (level_name h.0 (h.1 ++ h.2) h.3.0 (level_append h.1 h.2 (level_use u h.1 h.5) (level_expr x h.2 h.6)))
-
 pub level_leaf : (n : LeafNode) (s : Span) (ts : List Piece) → SpellsLeafNode n s ts → Level ts
 level_leaf (Add u) s ts h = level_use u ts h.1
 level_leaf (Delete u) s ts h = level_wrapped s (h.0 ∷ h.1) ts h.3 (level_name h.0 h.1 h.2.0 (level_use u h.1 h.4))
-level_leaf (Assign u x) s ts h = level_change (codes "assign") u x s ts h
-level_leaf (Increase u x) s ts h = level_change (codes "increase") u x s ts h
-level_leaf (Decrease u x) s ts h = level_change (codes "decrease") u x s ts h
-level_leaf (ScaleUp u x) s ts h = level_change (codes "scale-up") u x s ts h
-level_leaf (ScaleDown u x) s ts h = level_change (codes "scale-down") u x s ts h
+level_leaf _ s ts h = absurd h
 
 mutual
   pub level_effect : (e : Effect) (ts : List Piece) → SpellsEffect e ts → Level ts

@@ -2,7 +2,7 @@
 use Rattle.std.proofs.Common.{◌≡◌, ℕ, zero, suc, ◌-◌, ◌<◌, List, ap, arith}
 use Rattle.plus_tree.specs.declared.names.Span.{Span}
 use Rattle.plus_parser.specs.Items.{Item}
-use Rattle.plus_parser.specs.Grammar.{expr_at, expr_body, cond_at, cond_body, effect_at, effect_body}
+use Rattle.plus_parser.specs.Grammar.{cond_at, cond_body, effect_at, effect_body}
 
 pub cond_at-inside : (room : ℕ) (front : Span) (items : List Item) → 0 < room → cond_at room front items ≡ cond_body (room - 1) (cond_at (room - 1)) front items
 unfolding cond_at
@@ -15,9 +15,3 @@ unfolding effect_at
 effect_at-inside zero front items lt = absurd (omega arith)
 effect_at-inside (suc room) front items lt =
     let same : room ≡ suc room - 1 = omega arith in ap (λ r. effect_body r (effect_at r) front items) same
-
-pub expr_at-inside : (room : ℕ) (front : Span) (items : List Item) → 0 < room → expr_at room front items ≡ expr_body (room - 1) (expr_at (room - 1)) front items
-unfolding expr_at
-expr_at-inside zero front items lt = absurd (omega arith)
-expr_at-inside (suc room) front items lt =
-    let same : room ≡ suc room - 1 = omega arith in ap (λ r. expr_body r (expr_at r) front items) same

@@ -6,12 +6,7 @@ use Rattle.plus_tree.specs.declared.names.Span.{Span}
 use Rattle.plus_tree.specs.declared.names.Spelled.{Spelled}
 use Rattle.plus_tree.specs.declared.terms.Use.{Use}
 use Rattle.plus_tree.specs.declared.trees.Init.{Init}
-use Rattle.plus_tree.specs.declared.trees.Init.TheVariants.{Holds, Absent, Value}
-use Rattle.plus_tree.specs.declared.terms.Literal.{Literal}
-use Rattle.plus_tree.specs.declared.terms.Comparison.TheVariants.{Equal}
-use Rattle.plus_parser.specs.declared.words.HeadWord.{HeadWord}
-use Rattle.plus_parser.specs.declared.words.HeadWord.TheVariants.{Not, Compare, Plain}
-use Rattle.plus_parser.specs.Literals.{literal_of}
+use Rattle.plus_tree.specs.declared.trees.Init.TheVariants.{Holds}
 use Rattle.plus_tree.specs.declared.trees.Problem.{Problem}
 use Rattle.plus_tree.specs.declared.faults.TextFault.{TextFault}
 use Rattle.plus_tree.specs.declared.faults.TextFault.TheVariants as faults
@@ -21,124 +16,58 @@ use Rattle.plus_parser.specs.declared.words.ProblemWord.{ProblemWord}
 use Rattle.plus_parser.specs.declared.words.ProblemWord.TheVariants as problems
 use Rattle.plus_parser.specs.declared.words.Later.TheVariants as laters
 use Rattle.plus_parser.specs.Items.{Piece, Item, tok}
-use Rattle.plus_parser.specs.Reading.{◌>>=◌, Read, next_of, is_open}
-use Rattle.plus_parser.specs.Words.{is_keyword, head_of, after_head, problem_part_of}
-use Rattle.plus_parser.specs.Grammar.{around, spelled_of, open_of, close_of, name_of, until_close, form_step, use_of, use_end, use_form, cond_at}
+use Rattle.plus_parser.specs.Reading.{◌>>=◌, Read, next_of}
+use Rattle.plus_parser.specs.Words.{is_keyword, is_plain, after_head, problem_part_of}
+use Rattle.plus_parser.specs.Grammar.{around, spelled_of, open_of, close_of, name_of, until_close, form_step, use_of, use_end, cond_at}
 use Rattle.plus_parser.specs.ReadingDomain.{requirement_step, end_of, front_of}
-use Rattle.plus_parser.specs.ReadingProblem.{literal_or, literal_next, init_with, init_at, no_problem_parts, problem_part_with, problem_part, all_found, problem_step, problem_made, or_early, problem_in}
-use Rattle.plus_parser.specs.Spells.{IsNumber, with_last, SpellsCond}
+use Rattle.plus_parser.specs.ReadingProblem.{init_with, init_at, no_problem_parts, problem_part_with, problem_part, all_found, problem_step, problem_made, or_early, problem_in}
+use Rattle.plus_parser.specs.Spells.{with_last, SpellsCond}
 use Rattle.plus_parser.specs.SpellsDomain.{SpellsRequirement, Framed}
 use Rattle.plus_parser.specs.SpellsProblem.{SpellsInit, ProblemPart, p_domain, p_requirements, p_init, p_goal, SpellsProblemPart, with_problem_part, ProblemTokens}
-use Rattle.plus_parser.proofs.Tokens.{toks, toks_last, toks_all, enough, bind_ok, ok_is, next_ok, next_again, refused}
+use Rattle.plus_parser.proofs.Tokens.{toks, toks_last, toks_all, enough, bind_ok, ok_is, next_ok, refused}
 use Rattle.plus_parser.proofs.Names.{plain_name}
-use Rattle.plus_parser.proofs.Level.{Even, Level, is_flat, after_flat, number_flat, level_flat, level_none, level_append, level_wrapped, level_name, level_use, level_cond, even_append, split_append}
+use Rattle.plus_parser.proofs.Level.{Even, Level, level_name, level_use, level_cond}
 use Rattle.plus_parser.proofs.Flat.{IsFlat, name_flat, says_flat, flat_level}
 use Rattle.plus_parser.proofs.UntilTakes.{Takes, until_takes}
 use Rattle.plus_parser.proofs.UntilAgain.{Again, Levels, level_chain, until_again}
 use Rattle.plus_parser.proofs.Forms.{FormTook, FormTakes, FormAgain, Begins, close_took, enters, form_takes, form_again, let_through, some_is, list_takes, list_again}
-use Rattle.plus_parser.proofs.Heads.{worded, compare_is, plain_is, plain_head, word_heads, sign_heads}
-use Rattle.plus_parser.proofs.Starts.{name_again, close_again, opened_takes, opened_again, use_takes, use_again, use_spelled, use_made, use_form_takes, use_form_again}
-use Rattle.plus_parser.proofs.ExprLaws.{not_open}
-use Rattle.plus_parser.proofs.ConditionLaws.{cond_takes, cond_again, cond_begins}
-use Rattle.plus_parser.proofs.DomainLaws.{requirement_takes, requirement_levels, requirement_again}
+use Rattle.plus_parser.proofs.ConditionLaws.{name_again, close_again, use_takes, use_again, use_spelled, use_made, cond_takes, cond_again, cond_begins}
+use Rattle.plus_parser.proofs.DomainLaws.{requirement_takes, requirement_levels, requirement_again, opened_takes, opened_again}
 use Rattle.plus_parser.proofs.Sections.{name_taken, close_taken, name_read, PartTook, PartTakes, Shapes, PartAgain, section_takes, section_levels, section_again, end_takes, end_again, front_takes, framed, frame_even, frame_shape, front_again}
 
 -- ---- the first state
 
--- a number that was read
-record NumberTook (n : Literal) (items rest : List Item) : Type 0 where
-  token : Piece
-  whole : items ≡ tok token ∷ rest
-  is : IsNumber n token
-
-number_takes : (room : ℕ) (items : List Item) (n : Literal) (rest : List Item) → literal_next room items ≡ Ok (n, rest) → NumberTook n items rest
-unfolding literal_next
-number_takes room items n rest e =
-    let a = bind_ok (next_of room items) (λ p. literal_or (literal_of p.0) p.0 p.1) (n, rest) e in
-    at_option a.0.0 a.0.1 (next_ok room items a.0.0 a.0.1 a.1) (literal_of a.0.0) refl a.2
-  where
-    at_option : (p : Piece) (r : List Item) → items ≡ tok p ∷ r → (o : Option Literal) → literal_of p ≡ o → literal_or o p r ≡ Ok (n, rest) → NumberTook n items rest
-    at_option p r whole None q e = absurd cc
-    at_option p r whole (Some m) q e =
-        let both = ok_is (m, r) (n, rest) e in
-        record { token = p; whole = whole ∙ ap (λ (x : Literal × List Item). tok p ∷ x.1) both; is = q ∙ ap (λ (x : Literal × List Item). Some x.0) both }
-
-number_again : (room : ℕ) (p : Piece) (n : Literal) (rest : List Item) → IsNumber n p → literal_next room (tok p ∷ rest) ≡ Ok (n, rest)
-unfolding literal_next
-number_again room p n rest h =
-    ap (λ (q : Read Piece). q >>= λ p. literal_or (literal_of p.0) p.0 p.1) (next_again room p rest (not_open p.kind p.span n h)) ∙ ap (λ (o : Option Literal). literal_or o p rest) h
-
 init_takes : (room : ℕ) → FormTakes SpellsInit room (init_at room)
 unfolding init_at
 init_takes room s items x rest some e =
-    let a = bind_ok (next_of (room - 1) items) (λ p. init_with (room - 1) s p.0 p.1 (head_of p.0)) (x, rest) e in
-    at_head a.0.0 a.0.1 (next_ok (room - 1) items a.0.0 a.0.1 a.1) (head_of a.0.0) refl a.2
+    let a = bind_ok (next_of (room - 1) items) (λ p. init_with (room - 1) s p.0 p.1 (is_plain p.0)) (x, rest) e in
+    at_plain a.0.0 a.0.1 (next_ok (room - 1) items a.0.0 a.0.1 a.1) (is_plain a.0.0) refl a.2
   where
-    at_head : (p : Piece) (r : List Item) → items ≡ tok p ∷ r → (h : HeadWord) → head_of p ≡ h → init_with (room - 1) s p r h ≡ Ok (x, rest) → FormTook SpellsInit room x s items rest
-    at_head p r whole Plain h e =
+    at_plain : (p : Piece) (r : List Item) → items ≡ tok p ∷ r → (b : Bool) → is_plain p ≡ b → init_with (room - 1) s p r b ≡ Ok (x, rest) → FormTook SpellsInit room x s items rest
+    at_plain p r whole true plain e =
         let a = bind_ok (use_end (after_head p) (room - 1) s p r) (λ u. Ok (Holds u.0, u.1)) (x, rest) e in
         let u = use_takes (after_head p) (room - 1) s p r a.0.0 a.0.1 a.1 in
-        let plain = plain_is p h in
         subst (λ (y : Init × List Item). FormTook SpellsInit room y.0 s items y.1) (ok_is (Holds a.0.0, a.0.1) (x, rest) a.2)
         (close_took SpellsInit room (room - 1) (omega (arith, some)) (Holds a.0.0) s (p ∷ []) u.last items a.0.1 u.closes
         (whole ∙ ap (λ (is : List Item). tok p ∷ is) u.whole)
         ((name_flat p (plain_name p plain)).room (room - 1) [])
         (λ first opens place w. use_spelled a.0.0 s p u.last first u.is plain opens u.closes place))
-    at_head p r whole Not h e =
-        let made = λ (u : Use) (k : Span). let y : Init = Absent u (around s k) in y in
-        let a = bind_ok (use_form laters.Name (room - 1) r) (λ u. close_of laters.Nothing (room - 1) u.1 >>= λ k. Ok (made u.0 k.0.span, k.1)) (x, rest) e in
-        let d = bind_ok (close_of laters.Nothing (room - 1) a.0.1) (λ k. Ok (made a.0.0 k.0.span, k.1)) (x, rest) a.2 in
-        let t = use_form_takes laters.Name (room - 1) r a.0.0 a.0.1 a.1 in
-        let k = close_taken (room - 1) d.0.0 a.0.1 d.0.1 d.1 in
-        let is = worded p Not h refl in
-        subst (λ (y : Init × List Item). FormTook SpellsInit room y.0 s items y.1) (ok_is (made a.0.0 d.0.0.span, d.0.1) (x, rest) d.2)
-        (close_took SpellsInit room (room - 1) (omega (arith, some)) (made a.0.0 d.0.0.span) s (p ∷ t.inner) d.0.0 items d.0.1 k.0
-        (whole ∙ ap (λ (is : List Item). tok p ∷ is) (t.whole ∙ ap (toks t.inner) k.1))
-        ((name_flat p is.0).room (room - 1) t.inner ∙ t.even)
-        (λ first opens place w. (p, t.inner, is, w, t.spelled)))
-    at_head p r whole (Compare Equal) h e =
-        let made = λ (u : Use) (n : Literal) (k : Span). let y : Init = Value u n (around s k) in y in
-        let a = bind_ok (use_form laters.Name (room - 1) r) (λ u. literal_next (room - 1) u.1 >>= λ n. close_of laters.Nothing (room - 1) n.1 >>= λ k. Ok (made u.0 n.0 k.0.span, k.1)) (x, rest) e in
-        let b = bind_ok (literal_next (room - 1) a.0.1) (λ n. close_of laters.Nothing (room - 1) n.1 >>= λ k. Ok (made a.0.0 n.0 k.0.span, k.1)) (x, rest) a.2 in
-        let d = bind_ok (close_of laters.Nothing (room - 1) b.0.1) (λ k. Ok (made a.0.0 b.0.0 k.0.span, k.1)) (x, rest) b.2 in
-        let t = use_form_takes laters.Name (room - 1) r a.0.0 a.0.1 a.1 in
-        let n = number_takes (room - 1) a.0.1 b.0.0 b.0.1 b.1 in
-        let k = close_taken (room - 1) d.0.0 b.0.1 d.0.1 d.1 in
-        let is = compare_is p Equal h in
-        let body = t.inner ++ n.token ∷ [] in
-        subst (λ (y : Init × List Item). FormTook SpellsInit room y.0 s items y.1) (ok_is (made a.0.0 b.0.0 d.0.0.span, d.0.1) (x, rest) d.2)
-        (close_took SpellsInit room (room - 1) (omega (arith, some)) (made a.0.0 b.0.0 d.0.0.span) s (p ∷ body) d.0.0 items d.0.1 k.0
-        (whole ∙ ap (λ (is : List Item). tok p ∷ is) (t.whole ∙ ap (toks t.inner) (n.whole ∙ ap (λ (is : List Item). tok n.token ∷ is) k.1) ∙ toks_last t.inner n.token (tok d.0.0 ∷ d.0.1)))
-        (after_flat (room - 1) p body (ap is_flat is) ∙ even_append (room - 1) t.inner (n.token ∷ []) t.even (after_flat (room - 1) n.token [] (number_flat n.token b.0.0 n.is)))
-        (λ first opens place w. (p, t.inner, n.token, is, w, t.spelled, n.is)))
-    at_head p r whole (Compare _) h e = absurd cc
-    at_head p r whole _ h e = absurd cc
+    at_plain p r whole false plain e = absurd cc
 
 init_begins : (room : ℕ) → Begins SpellsInit room
 init_begins room (Holds u) ts h = let w = h.2 in (w.first, (h.0 ∷ []) ++ w.last ∷ [], w.opens, w.whole)
-init_begins room (Absent u s) ts h = let w = h.3 in (w.first, (h.0 ∷ h.1) ++ w.last ∷ [], w.opens, w.whole)
-init_begins room (Value u n s) ts h = let w = h.4 in (w.first, (h.0 ∷ (h.1 ++ h.2 ∷ [])) ++ w.last ∷ [], w.opens, w.whole)
-
-number_level : (p : Piece) (n : Literal) → IsNumber n p → Level (p ∷ [])
-number_level p n h = level_flat p [] (number_flat p n h) level_none
+init_begins room _ ts h = absurd h
 
 init_levels : (room : ℕ) → Levels SpellsInit with_last (form_step (init_at room)) room
 init_levels room (Holds u) ts h = level_use u ts h
-init_levels room (Absent u s) ts h = level_wrapped s (h.0 ∷ h.1) ts h.3 (level_name h.0 h.1 h.2.0 (level_use u h.1 h.4))
-init_levels room (Value u n s) ts h =
-    level_wrapped s (h.0 ∷ (h.1 ++ h.2 ∷ [])) ts h.4 (level_flat h.0 (h.1 ++ h.2 ∷ []) (ap is_flat h.3) (level_append h.1 (h.2 ∷ []) (level_use u h.1 h.5) (number_level h.2 n h.6)))
+init_levels room _ ts h = absurd h
 
-init_turn : (room : ℕ) (front : Span) (p : Piece) (u : Use) (items r1 r2 : List Item) → next_of (room - 1) items ≡ Ok (p, r1) → head_of p ≡ Plain → use_end (after_head p) (room - 1) front p r1 ≡ Ok (u, r2) → init_at room front items ≡ Ok (Holds u, r2)
+init_turn : (room : ℕ) (front : Span) (p : Piece) (u : Use) (items r1 r2 : List Item) → next_of (room - 1) items ≡ Ok (p, r1) → is_plain p ≡ true → use_end (after_head p) (room - 1) front p r1 ≡ Ok (u, r2) → init_at room front items ≡ Ok (Holds u, r2)
 unfolding init_at
-init_turn room front p u items r1 r2 e plain e1 = rw (e, plain, e1) refl
-
-absent_turn : (room : ℕ) (front : Span) (p k : Piece) (u : Use) (items r1 r2 r3 : List Item) → next_of (room - 1) items ≡ Ok (p, r1) → head_of p ≡ Not → use_form laters.Name (room - 1) r1 ≡ Ok (u, r2) → close_of laters.Nothing (room - 1) r2 ≡ Ok (k, r3) → init_at room front items ≡ Ok (Absent u (around front k.span), r3)
-unfolding init_at
-absent_turn room front p k u items r1 r2 r3 e h e1 e2 = rw (e, h, e1, e2) refl
-
-value_turn : (room : ℕ) (front : Span) (p k : Piece) (u : Use) (n : Literal) (items r1 r2 r3 r4 : List Item) → next_of (room - 1) items ≡ Ok (p, r1) → head_of p ≡ Compare Equal → use_form laters.Name (room - 1) r1 ≡ Ok (u, r2) → literal_next (room - 1) r2 ≡ Ok (n, r3) → close_of laters.Nothing (room - 1) r3 ≡ Ok (k, r4) → init_at room front items ≡ Ok (Value u n (around front k.span), r4)
-unfolding init_at
-value_turn room front p k u n items r1 r2 r3 r4 e h e1 e2 e3 = rw (e, h, e1, e2, e3) refl
+init_turn room front p u items r1 r2 e plain e1 =
+    ap (λ (q : Read Piece). q >>= λ p. init_with (room - 1) front p.0 p.1 (is_plain p.0)) e
+    ∙ ap (init_with (room - 1) front p r1) plain
+    ∙ ap (λ (q : Read Use). q >>= λ u. Ok (Holds u.0, u.1)) e1
 
 init_again : (room : ℕ) → FormAgain SpellsInit room (init_at room)
 init_again room (Holds u) ts first inner rest h e ev =
@@ -146,31 +75,9 @@ init_again room (Holds u) ts first inner rest h e ev =
     let w = h.2 in
     let is_name = plain_name a h.1 in
     enters SpellsInit room (init_at room) (Holds u) u.span (a ∷ []) ts w first inner rest e (level_name a [] is_name (λ r. inl refl)) ev (λ r under er.
-    init_turn room w.first.span a (use_of a (around w.first.span w.last.span)) (tok a ∷ tok w.last ∷ rest) (tok w.last ∷ rest) rest (name_again (room - 1) a (tok w.last ∷ rest) is_name) (plain_head a h.1) (use_again (after_head a) (room - 1) w.first.span a w.last rest w.closes)
+    init_turn room w.first.span a (use_of a (around w.first.span w.last.span)) (tok a ∷ tok w.last ∷ rest) (tok w.last ∷ rest) rest (name_again (room - 1) a (tok w.last ∷ rest) is_name) h.1 (use_again (after_head a) (room - 1) w.first.span a w.last rest w.closes)
     ∙ ap (λ (v : Use). Ok (Holds v, rest)) (use_made u ts h))
-init_again room (Absent u s) ts first inner rest h e ev =
-    let a = h.0 in
-    let w = h.3 in
-    enters SpellsInit room (init_at room) (Absent u s) s (a ∷ h.1) ts w first inner rest e (level_name a h.1 h.2.0 (level_use u h.1 h.4)) ev (λ r under er.
-    let same : r ≡ room - 1 = omega (arith, under) in
-    let eb : Even (room - 1) h.1 = subst (λ n. Even n h.1) same (sym ((name_flat a h.2.0).room r h.1) ∙ er) in
-    let k = tok w.last ∷ rest in
-    absent_turn room w.first.span a w.last u (tok a ∷ toks h.1 k) (toks h.1 k) k rest (name_again (room - 1) a (toks h.1 k) h.2.0) (word_heads a Not h.2 refl) (use_form_again laters.Name (room - 1) u h.1 k h.4 eb) (close_again laters.Nothing (room - 1) w.last rest w.closes)
-    ∙ (λ i. Ok (Absent u (sym w.place i), rest)))
-init_again room (Value u n s) ts first inner rest h e ev =
-    let a = h.0 in
-    let w = h.4 in
-    let p = h.2 in
-    let body = h.1 ++ p ∷ [] in
-    enters SpellsInit room (init_at room) (Value u n s) s (a ∷ body) ts w first inner rest e (level_flat a body (ap is_flat h.3) (level_append h.1 (p ∷ []) (level_use u h.1 h.5) (number_level p n h.6))) ev (λ r under er.
-    let same : r ≡ room - 1 = omega (arith, under) in
-    let eb : Even (room - 1) body = subst (λ n. Even n body) same (sym (after_flat r a body (ap is_flat h.3)) ∙ er) in
-    let evens = split_append (room - 1) h.1 (p ∷ []) (level_use u h.1 h.5) eb in
-    let k = tok w.last ∷ rest in
-    ap (λ (is : List Item). init_at room w.first.span (tok a ∷ is)) (sym (toks_last h.1 p k))
-    ∙ value_turn room w.first.span a w.last u n (tok a ∷ toks h.1 (tok p ∷ k)) (toks h.1 (tok p ∷ k)) (tok p ∷ k) k rest (next_again (room - 1) a (toks h.1 (tok p ∷ k)) (ap is_open h.3)) (sign_heads a Equal h.3)
-    (use_form_again laters.Name (room - 1) u h.1 (tok p ∷ k) h.5 evens.0) (number_again (room - 1) p n k h.6) (close_again laters.Nothing (room - 1) w.last rest w.closes)
-    ∙ (λ i. Ok (Value u n (sym w.place i), rest)))
+init_again room _ ts first inner rest h e ev = absurd h
 
 -- ---- sections
 

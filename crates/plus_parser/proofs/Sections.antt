@@ -19,7 +19,7 @@ use Rattle.plus_parser.proofs.Level.{Even, Level, after_none, level_wrapped, spl
 use Rattle.plus_parser.proofs.Flat.{IsFlat, name_flat, flat_next, flat_level, open_room, close_room}
 use Rattle.plus_parser.proofs.UntilTakes.{Takes}
 use Rattle.plus_parser.proofs.UntilAgain.{Again, Levels}
-use Rattle.plus_parser.proofs.Starts.{open_again, close_again}
+use Rattle.plus_parser.proofs.ConditionLaws.{open_again, close_again}
 
 pub name_taken : (room : ℕ) (p : Piece) (items rest : List Item) → name_of room items ≡ Ok (p, rest) → IsName p × (items ≡ tok p ∷ rest)
 name_taken room p items rest e = let t = token_takes (λ q. is_name q.kind) never room p items rest e in (name_kind p.kind t.fits, t.whole)
@@ -31,7 +31,7 @@ close_taken room p items rest e =
 pub name_read : (room : ℕ) (p : Piece) (rest : List Item) → IsName p → name_of room (tok p ∷ rest) ≡ Ok (p, rest)
 name_read room p rest e = token_again (λ q. is_name q.kind) never room p rest (ap is_name e) (λ o. absurd (let no : false ≡ true = sym (ap is_open e) ∙ o in cc))
 
-pub word_read : (w : List ℕ) (room : ℕ) (p : Piece) (rest : List Item) → IsWord w p → word_of w room (tok p ∷ rest) ≡ Ok (p, rest)
+word_read : (w : List ℕ) (room : ℕ) (p : Piece) (rest : List Item) → IsWord w p → word_of w room (tok p ∷ rest) ≡ Ok (p, rest)
 word_read w room p rest e = token_again (is_word w) never room p rest (word_fits w p e) (λ o. absurd (let no : false ≡ true = sym (ap is_open e.0) ∙ o in cc))
 
 module _ {S X : Type 0} (P : X → List Piece → Type 0) (add : S → X → Option S) (read : Sectioner S) where

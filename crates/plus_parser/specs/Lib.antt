@@ -2,7 +2,6 @@ pub mod Items
 pub mod Reading
 pub mod Seen
 pub mod Words
-pub mod Literals
 pub mod Grammar
 pub mod ReadingDomain
 pub mod ReadingProblem

@@ -1,5 +1,5 @@
 -- Reading a domain from tokens.
-use Rattle.std.specs.Prelude.{ℕ, suc, ◌-◌, Bool, true, false, ◌&&◌, List, [], ◌∷◌, ◌++◌, length, drop, Option, Some, None, is_some, unwrap_or, Result, Ok, Err, if◌then◌else◌, codes}
+use Rattle.std.specs.Prelude.{ℕ, suc, ◌-◌, Bool, true, false, List, [], ◌∷◌, ◌++◌, length, drop, Option, Some, None, is_some, unwrap_or, Result, Ok, Err, if◌then◌else◌, codes}
 use Rattle.plus_tree.specs.declared.names.Span.{Span}
 use Rattle.plus_tree.specs.declared.names.Spelled.{Spelled}
 use Rattle.plus_tree.specs.declared.trees.Head.{Head}
@@ -11,7 +11,6 @@ use Rattle.plus_tree.specs.Cond.{Cond, c_all, no_conds}
 use Rattle.plus_tree.specs.Effect.{Effect, e_all, no_effects}
 use Rattle.plus_parser.specs.declared.parts.Keys.{Keys}
 use Rattle.plus_parser.specs.declared.parts.DomainParts.{DomainParts}
-use Rattle.plus_parser.specs.declared.parts.Functions.{Functions}
 use Rattle.plus_parser.specs.declared.words.KeyWord.{KeyWord}
 use Rattle.plus_parser.specs.declared.words.KeyWord.TheVariants as keys
 use Rattle.plus_parser.specs.declared.words.DomainWord.{DomainWord}
@@ -19,7 +18,7 @@ use Rattle.plus_parser.specs.declared.words.DomainWord.TheVariants as domains
 use Rattle.plus_parser.specs.declared.words.Later.TheVariants as laters
 use Rattle.plus_parser.specs.Items.{Piece, Item, tok, bad}
 use Rattle.plus_parser.specs.Reading.{◌>>=◌, Read, next_of, is_open}
-use Rattle.plus_parser.specs.Words.{is_keyword, is_minus, key_of, domain_part_of}
+use Rattle.plus_parser.specs.Words.{is_keyword, key_of, domain_part_of}
 use Rattle.plus_parser.specs.Grammar.{around, nowhere, spelled_of, open_of, close_of, name_of, plain_of, word_of, Step, until_close, Former, form_step, cond_at, effect_at}
 
 -- ---- requirements and predicates
@@ -37,24 +36,6 @@ predicate_at room front items = do
   n ← plain_of (room - 1) items
   e ← close_of laters.Variable (room - 1) n.1
   Ok (record { name = spelled_of n.0; params = []; span = around front e.0.span }, e.1)
-
--- ---- functions
-
-abbrev pub no_functions : Functions
-no_functions = record { heads = []; untyped = false }
-
--- the type `number` of the functions before it
-abbrev pub number_type : ℕ → Functions → List Item → Read Functions
-number_type room found rest = do
-  n ← word_of (codes "number") room rest
-  Ok (record found { untyped = false }, n.1)
-
--- one more function, or the type of those before it
-unfoldable pub function_step : ℕ → Step Functions
-function_step room found p rest =
-    if is_open p.kind
-    then (predicate_at room p.span rest >>= λ h. Ok (record { heads = found.heads ++ h.0 ∷ []; untyped = true }, h.1))
-    else (if is_minus p.kind && found.untyped then number_type room found rest else Err (faults.Form p.span))
 
 -- ---- actions
 
@@ -110,7 +91,7 @@ section_step full read room found p rest =
     else Err (faults.Form p.span)
 
 abbrev pub no_parts : DomainParts
-no_parts = record { requirements = None; predicates = None; functions = None; actions = [] }
+no_parts = record { requirements = None; predicates = None; actions = [] }
 
 abbrev pub domain_part_with : DomainWord → Sectioner DomainParts
 domain_part_with domains.Requirements room parts front q rest =
@@ -119,9 +100,6 @@ domain_part_with domains.Requirements room parts front q rest =
 domain_part_with domains.Predicates room parts front q rest =
     if is_some parts.predicates then Err (faults.Form q.span)
     else (until_close (form_step (predicate_at room)) room (length rest) [] rest >>= λ xs. Ok (record parts { predicates = Some xs.0.0 }, xs.1))
-domain_part_with domains.Functions room parts front q rest =
-    if is_some parts.functions then Err (faults.Form q.span)
-    else (until_close (function_step room) room (length rest) no_functions rest >>= λ xs. Ok (record parts { functions = Some xs.0.0.heads }, xs.1))
 domain_part_with domains.Action room parts front q rest =
     schema_of room front rest >>= λ s. Ok (record parts { actions = parts.actions ++ s.0 ∷ [] }, s.1)
 domain_part_with domains.Later room parts front q rest = Err (faults.NotBuilt q.span)
@@ -161,7 +139,7 @@ domain_made n parts s = record {
   types = [];
   constants = [];
   predicates = unwrap_or parts.predicates [];
-  functions = unwrap_or parts.functions [];
+  functions = [];
   actions = parts.actions;
   processes = [];
   events = [];

@@ -3,12 +3,7 @@ use Rattle.std.specs.Prelude.{ℕ, suc, ◌-◌, Bool, true, false, ◌&&◌, Li
 use Rattle.plus_tree.specs.declared.names.Span.{Span}
 use Rattle.plus_tree.specs.declared.names.Spelled.{Spelled}
 use Rattle.plus_tree.specs.declared.trees.Init.{Init}
-use Rattle.plus_tree.specs.declared.trees.Init.TheVariants.{Holds, Absent, Value}
-use Rattle.plus_tree.specs.declared.terms.Literal.{Literal}
-use Rattle.plus_tree.specs.declared.terms.Comparison.TheVariants.{Equal}
-use Rattle.plus_parser.specs.declared.words.HeadWord.{HeadWord}
-use Rattle.plus_parser.specs.declared.words.HeadWord.TheVariants.{Not, Compare, Plain}
-use Rattle.plus_parser.specs.Literals.{literal_of}
+use Rattle.plus_tree.specs.declared.trees.Init.TheVariants.{Holds}
 use Rattle.plus_tree.specs.declared.trees.Problem.{Problem}
 use Rattle.plus_tree.specs.declared.faults.TextFault.{TextFault}
 use Rattle.plus_tree.specs.declared.faults.TextFault.TheVariants as faults
@@ -18,42 +13,23 @@ use Rattle.plus_parser.specs.declared.words.ProblemWord.TheVariants as problems
 use Rattle.plus_parser.specs.declared.words.Later.TheVariants as laters
 use Rattle.plus_parser.specs.Items.{Piece, Item}
 use Rattle.plus_parser.specs.Reading.{◌>>=◌, Read, next_of}
-use Rattle.plus_parser.specs.Words.{head_of, after_head, problem_part_of}
-use Rattle.plus_parser.specs.Grammar.{around, spelled_of, open_of, close_of, name_of, Step, until_close, Former, form_step, use_end, use_form, cond_at}
+use Rattle.plus_parser.specs.Words.{is_plain, is_init_word, after_head, problem_part_of}
+use Rattle.plus_parser.specs.Grammar.{around, spelled_of, refusal, open_of, close_of, name_of, Step, until_close, Former, form_step, use_end, cond_at}
 use Rattle.plus_parser.specs.ReadingDomain.{requirement_step, Sectioner, section_step, front_of, end_of}
 
 -- ---- the first state
 
-abbrev pub literal_or : Option Literal → Piece → List Item → Read Literal
-literal_or (Some n) p rest = Ok (n, rest)
-literal_or None p rest = Err (faults.Form p.span)
-
--- the number that comes next
-unfoldable pub literal_next : ℕ → List Item → Read Literal
-literal_next room items = do
-  p ← next_of room items
-  literal_or (literal_of p.0) p.0 p.1
-
-abbrev pub init_with : ℕ → Span → Piece → List Item → HeadWord → Read Init
-init_with room front p rest Plain = do
+abbrev pub init_with : ℕ → Span → Piece → List Item → Bool → Read Init
+init_with room front p rest true = do
   u ← use_end (after_head p) room front p rest
   Ok (Holds u.0, u.1)
-init_with room front p rest Not = do
-  u ← use_form laters.Name room rest
-  e ← close_of laters.Nothing room u.1
-  Ok (Absent u.0 (around front e.0.span), e.1)
-init_with room front p rest (Compare Equal) = do
-  u ← use_form laters.Name room rest
-  n ← literal_next room u.1
-  e ← close_of laters.Nothing room n.1
-  Ok (Value u.0 n.0 (around front e.0.span), e.1)
-init_with room front p rest _ = Err (faults.Form p.span)
+init_with room front p rest false = Err (refusal (is_init_word p) p.span)
 
 -- a member of `:init` whose opening parenthesis takes one of so many places
 unfoldable pub init_at : ℕ → Former Init
 init_at room front items = do
   p ← next_of (room - 1) items
-  init_with (room - 1) front p.0 p.1 (head_of p.0)
+  init_with (room - 1) front p.0 p.1 (is_plain p.0)
 
 -- ---- sections
 

@@ -5,18 +5,11 @@ use Rattle.plus_tokens.specs.declared.token.Kind.TheVariants as kinds
 use Rattle.plus_tree.specs.declared.names.Span.{Span}
 use Rattle.plus_tree.specs.declared.terms.Use.{Use}
 use Rattle.plus_tree.specs.declared.trees.LeafNode.{LeafNode}
-use Rattle.plus_tree.specs.declared.trees.LeafNode.TheVariants.{Add, Delete, Assign, Increase, Decrease, ScaleUp, ScaleDown}
-use Rattle.plus_tokens.specs.declared.token.Op.{Op}
-use Rattle.plus_tokens.specs.declared.token.Op.TheVariants as ops
-use Rattle.plus_tree.specs.declared.terms.Literal.{Literal}
-use Rattle.plus_tree.specs.declared.terms.Comparison.{Comparison}
-use Rattle.plus_tree.specs.declared.terms.Comparison.TheVariants as comparisons
-use Rattle.plus_tree.specs.Expr.{Expr, x_number, x_clock, x_fluent, x_sum, x_product, x_minus, x_difference, x_quotient, Exprs, no_exprs, more_exprs}
-use Rattle.plus_tree.specs.Cond.{Cond, c_all, c_any, c_not, c_imply, c_atom, c_compare, Conds, no_conds, more_conds}
+use Rattle.plus_tree.specs.declared.trees.LeafNode.TheVariants.{Add, Delete}
+use Rattle.plus_tree.specs.Cond.{Cond, c_all, c_not, c_atom, Conds, no_conds, more_conds}
 use Rattle.plus_tree.specs.Effect.{Effect, e_all, e_leaf, Effects, no_effects, more_effects}
 use Rattle.plus_parser.specs.Items.{Piece}
 use Rattle.plus_parser.specs.Words.{is_plain}
-use Rattle.plus_parser.specs.Literals.{literal_of}
 use Rattle.plus_parser.specs.Grammar.{around, spelled_of}
 
 abbrev pub IsOpen : Piece → Type 0
@@ -31,14 +24,6 @@ IsName p = p.kind ≡ kinds.Name
 -- the token is this word, in small or large letters
 abbrev pub IsWord : List ℕ → Piece → Type 0
 IsWord w p = IsName p × (p.word ≡ w)
-
--- the token is this sign
-abbrev pub IsSign : Op → Piece → Type 0
-IsSign op p = p.kind ≡ kinds.Op op
-
--- the token spells this number
-abbrev pub IsNumber : Literal → Piece → Type 0
-IsNumber n p = literal_of p ≡ Some n
 
 -- a name that may be that of a predicate: none of the words that begin a form of another kind
 abbrev pub IsPlain : Piece → Type 0
@@ -71,55 +56,15 @@ with_last xs x = Some (xs ++ x ∷ [])
 abbrev pub SpellsUse : Use → List Piece → Type 0
 SpellsUse u ts = (a : Piece) × IsPlain a × Wrapped u.span (a ∷ []) ts × (u.head ≡ spelled_of a) × (u.args ≡ [])
 
-abbrev pub AreMany : Exprs → Type 0
-AreMany no_exprs = ⊥
-AreMany (more_exprs e no_exprs) = ⊥
-AreMany (more_exprs e (more_exprs f es)) = Unit {0}
-
--- a number, `#t`, a fluent, `(+ ..)` and `(* ..)` of two or more, `(- x)`, `(- x y)` and `(/ x y)`
-abbrev mutual
-  pub SpellsExpr : Expr → List Piece → Type 0
-  SpellsExpr (x_number n s) ts = (p : Piece) × IsNumber n p × (s ≡ p.span) × (ts ≡ p ∷ [])
-  SpellsExpr (x_clock s) ts = (p : Piece) × (p.kind ≡ kinds.Clock) × (s ≡ p.span) × (ts ≡ p ∷ [])
-  SpellsExpr (x_fluent u s) ts = (s ≡ u.span) × SpellsUse u ts
-  SpellsExpr (x_sum es s) ts =
-      (a : Piece) × (inner : List Piece) × IsSign ops.Plus a × Wrapped s (a ∷ inner) ts × AreMany es × SpellsExprs es inner
-  SpellsExpr (x_product es s) ts =
-      (a : Piece) × (inner : List Piece) × IsSign ops.Times a × Wrapped s (a ∷ inner) ts × AreMany es × SpellsExprs es inner
-  SpellsExpr (x_minus e s) ts =
-      (a : Piece) × (inner : List Piece) × IsSign ops.Minus a × Wrapped s (a ∷ inner) ts × SpellsExpr e inner
-  SpellsExpr (x_difference e f s) ts =
-      (a : Piece) × (left : List Piece) × (right : List Piece) × IsSign ops.Minus a × Wrapped s (a ∷ (left ++ right)) ts × SpellsExpr e left × SpellsExpr f right
-  SpellsExpr (x_quotient e f s) ts =
-      (a : Piece) × (left : List Piece) × (right : List Piece) × IsSign ops.Divide a × Wrapped s (a ∷ (left ++ right)) ts × SpellsExpr e left × SpellsExpr f right
-
-  pub SpellsExprs : Exprs → List Piece → Type 0
-  SpellsExprs no_exprs ts = ts ≡ []
-  SpellsExprs (more_exprs e es) ts =
-      (front : List Piece) × (back : List Piece) × SpellsExpr e front × SpellsExprs es back × (ts ≡ front ++ back)
-
-abbrev pub sign_of : Comparison → Op
-sign_of comparisons.Less = ops.Less
-sign_of comparisons.AtMost = ops.AtMost
-sign_of comparisons.Equal = ops.Equal
-sign_of comparisons.AtLeast = ops.AtLeast
-sign_of comparisons.Greater = ops.Greater
-
--- `()`, `(and ..)`, `(or ..)`, `(not ..)`, `(imply ..)`, an atom and a comparison
+-- `()`, `(and ..)`, `(not ..)` and an atom
 abbrev mutual
   pub SpellsCond : Cond → List Piece → Type 0
   SpellsCond (c_all cs s) ts =
       (body : List Piece) × Wrapped s body ts
       × (((cs ≡ no_conds) × (body ≡ []))
       ⊎ ((a : Piece) × (inner : List Piece) × IsWord (codes "and") a × (body ≡ a ∷ inner) × SpellsConds cs inner))
-  SpellsCond (c_any cs s) ts =
-      (a : Piece) × (inner : List Piece) × IsWord (codes "or") a × Wrapped s (a ∷ inner) ts × SpellsConds cs inner
   SpellsCond (c_not c s) ts =
       (a : Piece) × (inner : List Piece) × IsWord (codes "not") a × Wrapped s (a ∷ inner) ts × SpellsCond c inner
-  SpellsCond (c_imply c d s) ts =
-      (a : Piece) × (left : List Piece) × (right : List Piece) × IsWord (codes "imply") a × Wrapped s (a ∷ (left ++ right)) ts × SpellsCond c left × SpellsCond d right
-  SpellsCond (c_compare sign e f s) ts =
-      (a : Piece) × (left : List Piece) × (right : List Piece) × IsSign (sign_of sign) a × Wrapped s (a ∷ (left ++ right)) ts × SpellsExpr e left × SpellsExpr f right
   SpellsCond (c_atom u s) ts = (s ≡ u.span) × SpellsUse u ts
   SpellsCond _ ts = ⊥
 
@@ -128,21 +73,12 @@ abbrev mutual
   SpellsConds (more_conds c cs) ts =
       (front : List Piece) × (back : List Piece) × SpellsCond c front × SpellsConds cs back × (ts ≡ front ++ back)
 
--- `(assign (x) e)` or the like
-abbrev pub SpellsChange : List ℕ → Use → Expr → Span → List Piece → Type 0
-SpellsChange w u x s ts =
-    (a : Piece) × (left : List Piece) × (right : List Piece) × IsWord w a × Wrapped s (a ∷ (left ++ right)) ts × SpellsUse u left × SpellsExpr x right
-
--- an atom, `(not ..)` of one, or a change of a number
+-- an atom, or `(not ..)` of one
 abbrev pub SpellsLeafNode : LeafNode → Span → List Piece → Type 0
 SpellsLeafNode (Add u) s ts = (s ≡ u.span) × SpellsUse u ts
 SpellsLeafNode (Delete u) s ts =
     (a : Piece) × (inner : List Piece) × IsWord (codes "not") a × Wrapped s (a ∷ inner) ts × SpellsUse u inner
-SpellsLeafNode (Assign u x) s ts = SpellsChange (codes "assign") u x s ts
-SpellsLeafNode (Increase u x) s ts = SpellsChange (codes "increase") u x s ts
-SpellsLeafNode (Decrease u x) s ts = SpellsChange (codes "decrease") u x s ts
-SpellsLeafNode (ScaleUp u x) s ts = SpellsChange (codes "scale-up") u x s ts
-SpellsLeafNode (ScaleDown u x) s ts = SpellsChange (codes "scale-down") u x s ts
+SpellsLeafNode _ s ts = ⊥
 
 -- `()`, `(and ..)` and a leaf
 abbrev mutual

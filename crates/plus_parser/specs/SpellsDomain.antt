@@ -1,5 +1,5 @@
 -- Which texts spell a domain.
-use Rattle.std.specs.Prelude.{◌≡◌, ℕ, true, false, List, [], ◌∷◌, ◌++◌, map, Option, Some, None, is_some, if◌then◌else◌, codes}
+use Rattle.std.specs.Prelude.{◌≡◌, ℕ, true, List, [], ◌∷◌, ◌++◌, map, Option, Some, None, is_some, if◌then◌else◌, codes}
 use Rattle.plus_tokens.specs.declared.token.Kind.TheVariants as kinds
 use Rattle.plus_tree.specs.declared.names.Span.{Span}
 use Rattle.plus_tree.specs.declared.names.Spelled.{Spelled}
@@ -10,45 +10,19 @@ use Rattle.plus_tree.specs.Cond.{Cond}
 use Rattle.plus_tree.specs.Effect.{Effect}
 use Rattle.plus_parser.specs.declared.parts.Keys.{Keys}
 use Rattle.plus_parser.specs.declared.parts.DomainParts.{DomainParts}
-use Rattle.plus_parser.specs.declared.parts.Functions.{Functions}
-use Rattle.plus_tokens.specs.declared.token.Op.TheVariants.{Minus}
 use Rattle.plus_parser.specs.declared.words.KeyWord.TheVariants as keys
 use Rattle.plus_parser.specs.declared.words.DomainWord.TheVariants as domains
 use Rattle.plus_parser.specs.Items.{Piece, tok, items_of}
 use Rattle.plus_parser.specs.Words.{key_of, domain_part_of}
 use Rattle.plus_parser.specs.Grammar.{around, spelled_of}
-use Rattle.plus_parser.specs.ReadingDomain.{keyword_of, no_functions, no_keys, no_parts, schema_made, domain_made}
-use Rattle.plus_parser.specs.Spells.{IsOpen, IsClose, IsName, IsWord, IsSign, IsPlain, Wrapped, Chain, added, SpellsCond, SpellsEffect, FitsDepth}
+use Rattle.plus_parser.specs.ReadingDomain.{keyword_of, no_keys, no_parts, schema_made, domain_made}
+use Rattle.plus_parser.specs.Spells.{IsOpen, IsClose, IsName, IsWord, IsPlain, Wrapped, Chain, added, SpellsCond, SpellsEffect, FitsDepth}
 
 abbrev pub SpellsRequirement : Spelled → List Piece → Type 0
 SpellsRequirement x ts = (p : Piece) × (p.kind ≡ kinds.Keyword) × (x ≡ keyword_of p) × (ts ≡ p ∷ [])
 
 abbrev pub SpellsHead : Head → List Piece → Type 0
 SpellsHead h ts = (n : Piece) × IsPlain n × Wrapped h.span (n ∷ []) ts × (h.name ≡ spelled_of n) × (h.params ≡ [])
-
--- ---- functions
-
-pub data FunctionPart : Type 0 where
-  f_head : Head → FunctionPart
-  f_number : FunctionPart
-
--- a function, or the type `- number` of those before it
-abbrev pub SpellsFunctionPart : FunctionPart → List Piece → Type 0
-SpellsFunctionPart (f_head h) ts = SpellsHead h ts
-SpellsFunctionPart f_number ts = (m : Piece) × (n : Piece) × IsSign Minus m × IsWord (codes "number") n × (ts ≡ m ∷ n ∷ [])
-
--- a type follows a function
-abbrev pub with_function : Functions → FunctionPart → Option Functions
-with_function fs (f_head h) = Some (record { heads = fs.heads ++ h ∷ []; untyped = true })
-with_function fs f_number = if fs.untyped then Some (record fs { untyped = false }) else None
-
--- the functions `hs`, with types or without
-pub record SpellsFunctions (hs : List Head) (ts : List Piece) : Type 0 where
-  pub parts : List FunctionPart
-  pub found : Functions
-  pub spelled : Chain SpellsFunctionPart parts ts
-  pub typed : added with_function no_functions parts ≡ Some found
-  pub are : found.heads ≡ hs
 
 -- ---- actions
 
@@ -88,7 +62,6 @@ pub record SpellsSchema (s : Schema) (ts : List Piece) : Type 0 where
 pub data DomainPart : Type 0 where
   d_requirements : List Spelled → DomainPart
   d_predicates : List Head → DomainPart
-  d_functions : List Head → DomainPart
   d_action : Schema → DomainPart
 
 abbrev pub SpellsDomainPart : DomainPart → List Piece → Type 0
@@ -96,8 +69,6 @@ SpellsDomainPart (d_requirements xs) ts =
     (s : Span) × (k : Piece) × (body : List Piece) × (domain_part_of k ≡ domains.Requirements) × Wrapped s (k ∷ body) ts × Chain SpellsRequirement xs body
 SpellsDomainPart (d_predicates hs) ts =
     (s : Span) × (k : Piece) × (body : List Piece) × (domain_part_of k ≡ domains.Predicates) × Wrapped s (k ∷ body) ts × Chain SpellsHead hs body
-SpellsDomainPart (d_functions hs) ts =
-    (s : Span) × (k : Piece) × (body : List Piece) × (domain_part_of k ≡ domains.Functions) × Wrapped s (k ∷ body) ts × SpellsFunctions hs body
 SpellsDomainPart (d_action x) ts =
     (s : Span) × (k : Piece) × (body : List Piece) × (domain_part_of k ≡ domains.Action) × Wrapped s (k ∷ body) ts × SpellsSchema x body × (x.span ≡ s)
 
@@ -105,7 +76,6 @@ SpellsDomainPart (d_action x) ts =
 abbrev pub with_domain_part : DomainParts → DomainPart → Option DomainParts
 with_domain_part ps (d_requirements xs) = if is_some ps.requirements then None else Some (record ps { requirements = Some xs })
 with_domain_part ps (d_predicates hs) = if is_some ps.predicates then None else Some (record ps { predicates = Some hs })
-with_domain_part ps (d_functions hs) = if is_some ps.functions then None else Some (record ps { functions = Some hs })
 with_domain_part ps (d_action x) = Some (record ps { actions = ps.actions ++ x ∷ [] })
 
 -- ---- the whole

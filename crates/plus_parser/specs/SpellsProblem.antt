@@ -1,10 +1,9 @@
 -- Which texts spell a problem.
-use Rattle.std.specs.Prelude.{◌≡◌, ℕ, List, [], ◌∷◌, ◌++◌, map, Option, Some, None, is_some, if◌then◌else◌, codes}
+use Rattle.std.specs.Prelude.{◌≡◌, ℕ, List, [], ◌∷◌, map, Option, Some, None, is_some, if◌then◌else◌, codes}
 use Rattle.plus_tree.specs.declared.names.Span.{Span}
 use Rattle.plus_tree.specs.declared.names.Spelled.{Spelled}
 use Rattle.plus_tree.specs.declared.trees.Init.{Init}
-use Rattle.plus_tree.specs.declared.trees.Init.TheVariants.{Holds, Absent, Value}
-use Rattle.plus_tokens.specs.declared.token.Op.TheVariants.{Equal}
+use Rattle.plus_tree.specs.declared.trees.Init.TheVariants.{Holds}
 use Rattle.plus_tree.specs.declared.trees.Problem.{Problem}
 use Rattle.plus_tree.specs.Cond.{Cond}
 use Rattle.plus_parser.specs.declared.parts.ProblemParts.{ProblemParts}
@@ -13,16 +12,12 @@ use Rattle.plus_parser.specs.Items.{Piece, tok, items_of}
 use Rattle.plus_parser.specs.Words.{problem_part_of}
 use Rattle.plus_parser.specs.Grammar.{spelled_of}
 use Rattle.plus_parser.specs.ReadingProblem.{no_problem_parts, problem_made}
-use Rattle.plus_parser.specs.Spells.{IsName, IsWord, IsSign, IsNumber, Wrapped, Chain, added, SpellsUse, SpellsCond, FitsDepth}
+use Rattle.plus_parser.specs.Spells.{IsName, Wrapped, Chain, added, SpellsUse, SpellsCond, FitsDepth}
 use Rattle.plus_parser.specs.SpellsDomain.{SpellsRequirement, Framed}
 
--- `(locked)`, `(not (locked))` and `(= (fuel) 3)`
 abbrev pub SpellsInit : Init → List Piece → Type 0
 SpellsInit (Holds u) ts = SpellsUse u ts
-SpellsInit (Absent u s) ts =
-    (a : Piece) × (inner : List Piece) × IsWord (codes "not") a × Wrapped s (a ∷ inner) ts × SpellsUse u inner
-SpellsInit (Value u n s) ts =
-    (a : Piece) × (inner : List Piece) × (p : Piece) × IsSign Equal a × Wrapped s (a ∷ (inner ++ p ∷ [])) ts × SpellsUse u inner × IsNumber n p
+SpellsInit _ ts = ⊥
 
 pub data ProblemPart : Type 0 where
   p_domain : Spelled → ProblemPart

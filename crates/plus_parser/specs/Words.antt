@@ -1,16 +1,12 @@
 -- What a token begins, by its word. Words tell no case apart; here they are in small letters.
-use Rattle.std.specs.Prelude.{ℕ, Bool, true, false, not, ◌&&◌, ◌||◌, List, [], ◌∷◌, if◌then◌else◌, codes}
+use Rattle.std.specs.Prelude.{ℕ, Bool, true, false, not, ◌&&◌, ◌||◌, List, if◌then◌else◌, codes}
 use Rattle.std.specs.Str.{bytes_eq}
 use Rattle.plus_tokens.specs.declared.token.Kind.{Kind}
 use Rattle.plus_tokens.specs.declared.token.Kind.TheVariants as kinds
 use Rattle.plus_tokens.specs.declared.token.Op.{Op}
 use Rattle.plus_tokens.specs.declared.token.Op.TheVariants as ops
 use Rattle.plus_parser.specs.declared.words.HeadWord.{HeadWord}
-use Rattle.plus_parser.specs.declared.words.HeadWord.TheVariants.{Nothing, And, Or, Not, Imply, ForAll, Exists, When, Change, Compare, Plain, Other}
-use Rattle.plus_parser.specs.declared.words.Change.TheVariants.{Assign, Increase, Decrease, ScaleUp, ScaleDown}
-use Rattle.plus_parser.specs.declared.words.ExprWord.{ExprWord}
-use Rattle.plus_parser.specs.declared.words.ExprWord.TheVariants as exprs
-use Rattle.plus_tree.specs.declared.terms.Comparison.TheVariants as comparisons
+use Rattle.plus_parser.specs.declared.words.HeadWord.TheVariants.{Nothing, And, Not, ForAll, OfCondition, OfEffect, Plain, Other}
 use Rattle.plus_parser.specs.declared.words.KeyWord.{KeyWord}
 use Rattle.plus_parser.specs.declared.words.KeyWord.TheVariants as keys
 use Rattle.plus_parser.specs.declared.words.DomainWord.{DomainWord}
@@ -23,32 +19,31 @@ use Rattle.plus_parser.specs.Items.{Piece}
 
 -- ---- names
 
--- what a word says by a table; another word says something else
-abbrev pub look : {A : Type 0} → List ℕ → List (List ℕ × A) → A → A
-look w [] other = other
-look w (entry ∷ more) other = if bytes_eq w entry.0 then entry.1 else look w more other
+-- words that begin conditions alone, beside the signs of comparison
+abbrev pub is_condition_word : List ℕ → Bool
+is_condition_word w = (bytes_eq w (codes "or") || bytes_eq w (codes "imply")) || bytes_eq w (codes "exists")
 
--- the words of changes of numbers
-abbrev pub changes : List (List ℕ × HeadWord)
-changes =
-    (codes "assign", Change Assign) ∷ (codes "increase", Change Increase) ∷ (codes "decrease", Change Decrease)
-    ∷ (codes "scale-up", Change ScaleUp) ∷ (codes "scale-down", Change ScaleDown) ∷ []
-
--- the other words that begin a condition or an effect
-abbrev pub connectives : List (List ℕ × HeadWord)
-connectives =
-    (codes "and", And) ∷ (codes "or", Or) ∷ (codes "not", Not) ∷ (codes "imply", Imply) ∷ (codes "forall", ForAll)
-    ∷ (codes "exists", Exists) ∷ (codes "when", When) ∷ []
+-- words that begin effects alone
+abbrev pub is_effect_word : List ℕ → Bool
+is_effect_word w =
+    ((((bytes_eq w (codes "when") || bytes_eq w (codes "assign")) || bytes_eq w (codes "increase"))
+    || bytes_eq w (codes "decrease")) || bytes_eq w (codes "scale-up")) || bytes_eq w (codes "scale-down")
 
 abbrev pub word_head : List ℕ → HeadWord
-word_head w = look w connectives (look w changes Plain)
+word_head w =
+    if bytes_eq w (codes "and") then And
+    else (if bytes_eq w (codes "not") then Not
+    else (if bytes_eq w (codes "forall") then ForAll
+    else (if is_condition_word w then OfCondition
+    else (if is_effect_word w then OfEffect
+    else Plain))))
 
 abbrev pub op_head : Op → HeadWord
-op_head ops.Less = Compare comparisons.Less
-op_head ops.AtMost = Compare comparisons.AtMost
-op_head ops.Equal = Compare comparisons.Equal
-op_head ops.AtLeast = Compare comparisons.AtLeast
-op_head ops.Greater = Compare comparisons.Greater
+op_head ops.Less = OfCondition
+op_head ops.AtMost = OfCondition
+op_head ops.Equal = OfCondition
+op_head ops.AtLeast = OfCondition
+op_head ops.Greater = OfCondition
 op_head _ = Other
 
 abbrev pub kind_head : Kind → List ℕ → HeadWord
@@ -77,22 +72,6 @@ is_plain_head _ = false
 abbrev pub is_plain : Piece → Bool
 is_plain p = is_plain_head (head_of p)
 
-abbrev pub sign_expr : Op → ExprWord
-sign_expr ops.Plus = exprs.Sum
-sign_expr ops.Times = exprs.Product
-sign_expr ops.Minus = exprs.Minus
-sign_expr ops.Divide = exprs.Quotient
-sign_expr _ = exprs.Other
-
-abbrev pub kind_expr : Kind → List ℕ → ExprWord
-kind_expr (kinds.Op op) w = sign_expr op
-kind_expr kinds.Name w = if is_plain_head (word_head w) then exprs.Plain else exprs.Other
-kind_expr _ w = exprs.Other
-
--- what a token begins behind the opening parenthesis of an expression
-abbrev pub expr_head : Piece → ExprWord
-expr_head p = kind_expr p.kind p.word
-
 abbrev pub is_word : List ℕ → Piece → Bool
 is_word w p = is_name p.kind && bytes_eq p.word w
 
@@ -115,17 +94,16 @@ key_of = by_keyword keys.Other (λ w.
 
 abbrev pub is_later_in_domain : List ℕ → Bool
 is_later_in_domain w =
-    ((bytes_eq w (codes ":types") || bytes_eq w (codes ":constants")) || bytes_eq w (codes ":process"))
-    || bytes_eq w (codes ":event")
+    (((bytes_eq w (codes ":types") || bytes_eq w (codes ":constants")) || bytes_eq w (codes ":functions"))
+    || bytes_eq w (codes ":process")) || bytes_eq w (codes ":event")
 
 abbrev pub domain_part_of : Piece → DomainWord
 domain_part_of = by_keyword domains.Other (λ w.
     if bytes_eq w (codes ":requirements") then domains.Requirements
     else (if bytes_eq w (codes ":predicates") then domains.Predicates
-    else (if bytes_eq w (codes ":functions") then domains.Functions
     else (if bytes_eq w (codes ":action") then domains.Action
     else (if is_later_in_domain w then domains.Later
-    else domains.Other)))))
+    else domains.Other))))
 
 abbrev pub is_later_in_problem : List ℕ → Bool
 is_later_in_problem w = bytes_eq w (codes ":objects") || bytes_eq w (codes ":metric")
@@ -158,18 +136,17 @@ goes_on laters.Term p = is_variable p.kind || is_name p.kind
 goes_on laters.Name p = is_name p.kind
 goes_on laters.NameOrTime p = is_name p.kind || is_time p.kind
 
--- a sign
-abbrev pub is_minus_op : Op → Bool
-is_minus_op ops.Minus = true
-is_minus_op _ = false
+abbrev pub is_equal_op : Op → Bool
+is_equal_op ops.Equal = true
+is_equal_op _ = false
 
-abbrev pub is_minus : Kind → Bool
-is_minus (kinds.Op op) = is_minus_op op
-is_minus _ = false
+abbrev pub is_equal : Kind → Bool
+is_equal (kinds.Op op) = is_equal_op op
+is_equal _ = false
 
-abbrev pub is_number : Kind → Bool
-is_number (kinds.Number negative digits places) = true
-is_number _ = false
+-- a token that begins a member of `:init` in the whole grammar: a value or an absent atom
+abbrev pub is_init_word : Piece → Bool
+is_init_word p = is_equal p.kind || is_word (codes "not") p
 
 -- behind `at` a timed literal may have its time
 abbrev pub after_head : Piece → Later

@@ -1,77 +1,45 @@
 //! Reads a condition.
 
-ghost use Rattle.std.specs.Prelude.{◌≡◌, ◌&&◌, true, ◌<◌, ◌≤◌, [], length, OnOk, IfOk};
-ghost use Rattle.plus_tree.specs.Cond.{c_imply};
+ghost use Rattle.std.specs.Prelude.{◌≡◌, true, ◌<◌, ◌≤◌, [], length, OnOk};
 ghost use Rattle.plus_parser.specs.Reading.{Gives, is_open};
-ghost use Rattle.plus_parser.specs.Grammar.{around, until_close, form_step, expr_at, may_be_same, is_term, compared_of, comparison_of, cond_next, two_conds, cond_at, cond_body};
+ghost use Rattle.plus_parser.specs.Grammar.{around, until_close, form_step, use_end, cond_at, cond_body};
 ghost use Rattle.plus_parser.specs.Seen.{seen};
 
-use crate::expressions;
 use crate::reader::{Reader, Seen};
-use crate::uses::{around, use_end};
-use crate::words::{HeadWord, Later, head_of, is_close, is_open, is_term, may_be_same};
-use plus_tokens::Kind;
-use plus_tree::{Comparison, CondNode, CondTree, ExprTree, Span, TextFault};
-use std::alloc::{AllocError, Global};
+use crate::words::{HeadWord, Later, head_of, is_close, is_open};
+use plus_tree::{Args, CondNode, CondTree, Span, TextFault, Use};
+use std::alloc::Global;
 
-fn implied(
-    alloc: Global,
-    before: CondTree,
-    after: CondTree,
-    span: Span,
-) -> Result<CondTree, AllocError>
-    ensures { IfOk result (λ c. c ≡ c_imply before after span) }
+/// From an opening parenthesis to the end of a closing one.
+pub fn around(first: Span, last: Span) -> Span
+    ensures { result ≡ around first last }
 {
-    let before = Box::new(alloc, before)?;
-    let after = Box::new(alloc, after)?;
-    Ok(CondTree {
-        node: CondNode::Imply(before, after),
-        span,
-    })
-}
-
-// The expression behind the sign of a comparison. Terms are not read yet.
-#[tactic(auto, unfolding(crate::specs::Grammar::compared_of))]
-fn compared_first(
-    alloc: Global,
-    reader: &mut Reader<'_>,
-    sign: Comparison,
-    room: u8,
-) -> Result<ExprTree, TextFault>
-    ensures gives { Gives (λ x. x) reader.new result
-        (compared_of sign room (expr_at room) reader.old) }
-    ensures shorter { OnOk result (length reader.new < length reader.old) }
-{
-    let token = reader.next(room)?;
-    if is_same(sign, token.kind) {
-        return Err(TextFault::NotBuilt { span: token.span });
+    Span {
+        start: first.start,
+        end: last.end,
     }
-    expressions::from_token(alloc, reader, room, &token)
 }
 
-// Whether the first of two terms stands behind the sign.
-fn is_same(sign: Comparison, kind: Kind) -> bool
-    ensures { result ≡ (may_be_same sign && is_term kind) }
-{
-    may_be_same(sign) && is_term(kind)
-}
-
-// The two expressions of a comparison, and the closing parenthesis.
-#[tactic(auto, unfolding(crate::specs::Grammar::comparison_of))]
-fn compared(
+/// A predicate that is used, behind its name.
+#[tactic(auto, unfolding(crate::specs::Grammar::use_end))]
+pub fn use_end(
     alloc: Global,
     reader: &mut Reader<'_>,
-    sign: Comparison,
+    later: Later,
     room: u8,
-) -> Result<((ExprTree, ExprTree), Span), TextFault>
-    ensures gives { Gives (λ x. x) reader.new result
-        (comparison_of sign room (expr_at room) reader.old) }
+    front: Span,
+    head: &Seen<'_>,
+) -> Result<Use, TextFault>
+    ensures gives { Gives (λ u. u) reader.new result
+        (use_end later room front (seen head.now) reader.old) }
     ensures shorter { OnOk result (length reader.new < length reader.old) }
 {
-    let left = compared_first(alloc, reader, sign, room)?;
-    let right = expressions::next(alloc, reader, room)?;
-    let last = reader.close(Later::Nothing, room)?;
-    Ok(((left, right), last.span))
+    let last = reader.close(later, room)?;
+    Ok(Use {
+        head: head.spelled(alloc)?,
+        args: Args::new(alloc),
+        span: around(front, last.span),
+    })
 }
 
 // The condition behind an opening parenthesis, where room is left for so many more.
@@ -100,13 +68,6 @@ fn cond(
                 span: around(front, last),
             })
         }
-        HeadWord::Or => {
-            let (members, last) = conds(alloc, reader, room)?;
-            Ok(CondTree {
-                node: CondNode::Any(members),
-                span: around(front, last),
-            })
-        }
         HeadWord::Not => {
             let start = reader.open(room)?;
             let negated = inside(alloc, reader, room, start.span)?;
@@ -124,50 +85,9 @@ fn cond(
                 span,
             })
         }
-        HeadWord::Imply => {
-            let ((before, after), last) = two(alloc, reader, room)?;
-            Ok(implied(alloc, before, after, around(front, last))?)
-        }
-        HeadWord::Compare(sign) => {
-            let ((left, right), last) = compared(alloc, reader, sign, room)?;
-            Ok(CondTree {
-                node: CondNode::Compare(sign, left, right),
-                span: around(front, last),
-            })
-        }
-        HeadWord::ForAll | HeadWord::Exists => Err(TextFault::NotBuilt { span: token.span }),
-        HeadWord::When | HeadWord::Change(_) | HeadWord::Other => {
-            Err(TextFault::Form { span: token.span })
-        }
+        HeadWord::ForAll | HeadWord::OfCondition => Err(TextFault::NotBuilt { span: token.span }),
+        HeadWord::OfEffect | HeadWord::Other => Err(TextFault::Form { span: token.span }),
     }
-}
-
-// The condition that comes next.
-#[cycle(cond)]
-#[tactic(auto, unfolding(crate::specs::Grammar::cond_next))]
-fn next(alloc: Global, reader: &mut Reader<'_>, room: u8) -> Result<CondTree, TextFault>
-    ensures gives { Gives (λ c. c) reader.new result (cond_next room (cond_at room) reader.old) }
-    ensures shorter { OnOk result (length reader.new < length reader.old) }
-{
-    let start = reader.open(room)?;
-    inside(alloc, reader, room, start.span)
-}
-
-// Two conditions and the closing parenthesis.
-#[cycle(cond)]
-#[tactic(auto, unfolding(crate::specs::Grammar::two_conds))]
-fn two(
-    alloc: Global,
-    reader: &mut Reader<'_>,
-    room: u8,
-) -> Result<((CondTree, CondTree), Span), TextFault>
-    ensures gives { Gives (λ x. x) reader.new result (two_conds room (cond_at room) reader.old) }
-    ensures shorter { OnOk result (length reader.new < length reader.old) }
-{
-    let before = next(alloc, reader, room)?;
-    let after = next(alloc, reader, room)?;
-    let last = reader.close(Later::Nothing, room)?;
-    Ok(((before, after), last.span))
 }
 
 // One more condition, which begins with a token.

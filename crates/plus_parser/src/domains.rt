@@ -1,21 +1,18 @@
 //! Reads a domain.
 
-ghost use Rattle.std.specs.Prelude.{◌≡◌, ◌&&◌, true, ◌<◌, ◌≤◌, ◌-◌, ◌+◌, [], length, OnOk, List, Ok, MatchResult, unwrap_or, codes};
+ghost use Rattle.std.specs.Prelude.{◌≡◌, true, ◌<◌, ◌≤◌, ◌-◌, ◌+◌, [], length, OnOk, List, Ok, MatchResult, unwrap_or, codes};
 ghost use Rattle.plus_tree.specs.Lowered.{lowered};
 ghost use Rattle.plus_parser.specs.Items.{Item};
 ghost use Rattle.plus_parser.specs.Reading.{Gives, Fails, is_open};
 ghost use Rattle.plus_parser.specs.Grammar.{around, until_close, form_step, spelled_of};
-ghost use Rattle.plus_parser.specs.ReadingDomain.{keyword_of, requirement_step, predicate_at, no_functions, number_type, function_step, key_step, no_keys, or_all, or_nothing, schema_of, section_step, domain_part, never_full, domain_step, no_parts, front_of, end_of, domain_of, domain_in};
-ghost use Rattle.plus_parser.specs.Words.{is_minus};
+ghost use Rattle.plus_parser.specs.ReadingDomain.{keyword_of, requirement_step, predicate_at, key_step, no_keys, or_all, or_nothing, schema_of, section_step, domain_part, never_full, domain_step, no_parts, front_of, end_of, domain_of, domain_in};
 ghost use Rattle.plus_parser.specs.Seen.{seen};
 
-use crate::parts::{DomainParts, Functions, Keys};
+use crate::conditions::{self, around};
+use crate::effects;
+use crate::parts::{DomainParts, Keys};
 use crate::reader::{Reader, Seen};
-use crate::uses::around;
-use crate::words::{
-    DomainWord, KeyWord, Later, domain_part_of, is_close, is_minus, is_open, key_of,
-};
-use crate::{conditions, effects};
+use crate::words::{DomainWord, KeyWord, Later, domain_part_of, is_close, is_open, key_of};
 use plus_tokens::Kind;
 use plus_tree::{
     CondNode, CondTree, Domain, EffectNode, EffectTree, Head, Members, Name, Schema, Span, Spelled,
@@ -127,73 +124,6 @@ fn predicates(
             return Ok((found, token.span));
         }
         next_predicate(alloc, reader, room, &mut found, &token)?;
-    }
-}
-
-// The type `number` of the functions before it.
-fn number_type(reader: &mut Reader<'_>, room: u8, found: &mut Functions) -> Result<(), TextFault>
-    ensures gives { Gives (λ _. found.new) reader.new result
-        (number_type room found.old reader.old) }
-    ensures shorter { OnOk result (length reader.new < length reader.old) }
-{
-    reader.word(b"number", room)?;
-    found.untyped = false;
-    Ok(())
-}
-
-// Whether a token begins the type of the functions before it.
-fn begins_type(found: &Functions, kind: Kind) -> bool
-    ensures { result ≡ (is_minus kind && found.now.untyped) }
-{
-    is_minus(kind) && found.untyped
-}
-
-// One more function, or the type of those before it.
-#[tactic(auto, unfolding(crate::specs::ReadingDomain::function_step))]
-fn function(
-    alloc: Global,
-    reader: &mut Reader<'_>,
-    room: u8,
-    found: &mut Functions,
-    token: &Seen<'_>,
-) -> Result<(), TextFault>
-    requires { is_open token.now.kind ≡ true → 0 < room }
-    ensures gives { Gives (λ _. found.new) reader.new result
-        (function_step room found.old (seen token.now) reader.old) }
-    ensures shorter { OnOk result (length reader.new < length reader.old) }
-{
-    if is_open(token.kind) {
-        let head = predicate(alloc, reader, room, token.span)?;
-        found.heads.push(head)?;
-        found.untyped = true;
-        return Ok(());
-    }
-    if begins_type(found, token.kind) {
-        return number_type(reader, room, found);
-    }
-    Err(TextFault::Form { span: token.span })
-}
-
-// The functions up to the closing parenthesis.
-fn functions(
-    alloc: Global,
-    reader: &mut Reader<'_>,
-    room: u8,
-) -> Result<(Functions, Span), TextFault>
-    ensures gives { Gives (λ x. x) reader.new result
-        (until_close (function_step room) room (length reader.old) no_functions reader.old) }
-    ensures shorter { OnOk result (length reader.new < length reader.old) }
-{
-    let mut found = Functions {
-        heads: Members::new(alloc),
-        untyped: false,
-    };
-    'found: loop {
-        let token = reader.next(room)?;
-        if is_close(token.kind) {
-            return Ok((found, token.span));
-        }
-        function(alloc, reader, room, &mut found, &token)?;
     }
 }
 
@@ -341,11 +271,6 @@ fn part(
             found.predicates = Some(members);
             Ok(())
         }
-        DomainWord::Functions if found.functions.is_none() => {
-            let (read, _) = functions(alloc, reader, room)?;
-            found.functions = Some(read.heads);
-            Ok(())
-        }
         DomainWord::Action => {
             let action = schema(alloc, reader, room, front)?;
             found.actions.push(action)?;
@@ -390,7 +315,6 @@ fn sections(
     let mut found = DomainParts {
         requirements: None,
         predicates: None,
-        functions: None,
         actions: Members::new(alloc),
     };
     'found: loop {
@@ -460,7 +384,7 @@ pub fn domain(alloc: Global, reader: &mut Reader<'_>) -> Result<Domain, TextFaul
         types: Members::new(alloc),
         constants: Members::new(alloc),
         predicates: or_none(alloc, parts.predicates),
-        functions: or_none(alloc, parts.functions),
+        functions: Members::new(alloc),
         actions: parts.actions,
         processes: Members::new(alloc),
         events: Members::new(alloc),

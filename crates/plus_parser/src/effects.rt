@@ -2,15 +2,14 @@
 
 ghost use Rattle.std.specs.Prelude.{◌≡◌, true, ◌<◌, ◌≤◌, [], length, OnOk};
 ghost use Rattle.plus_parser.specs.Reading.{Gives, is_open};
-ghost use Rattle.plus_parser.specs.Grammar.{around, until_close, form_step, change_node, changed_of, effect_at, effect_body};
+ghost use Rattle.plus_parser.specs.Grammar.{around, until_close, form_step, effect_at, effect_body};
 ghost use Rattle.plus_tree.specs.Effect.{e_leaf};
 ghost use Rattle.plus_parser.specs.Seen.{seen};
 
-use crate::expressions;
+use crate::conditions::{around, use_end};
 use crate::reader::{Reader, Seen};
-use crate::uses::{around, use_end, use_form};
-use crate::words::{Change, HeadWord, Later, head_of, is_close, is_open};
-use plus_tree::{EffectNode, EffectTree, ExprTree, Leaf, LeafNode, Span, TextFault, Use};
+use crate::words::{HeadWord, Later, head_of, is_close, is_open};
+use plus_tree::{EffectNode, EffectTree, Leaf, LeafNode, Span, TextFault};
 use std::alloc::Global;
 
 fn of_leaf(node: LeafNode, span: Span) -> EffectTree
@@ -20,39 +19,6 @@ fn of_leaf(node: LeafNode, span: Span) -> EffectTree
         node: EffectNode::Leaf(Leaf { node, span }),
         span,
     }
-}
-
-fn change_node(change: Change, fluent: Use, amount: ExprTree) -> LeafNode
-    ensures { result ≡ change_node change fluent amount }
-{
-    match change {
-        Change::Assign => LeafNode::Assign(fluent, amount),
-        Change::Increase => LeafNode::Increase(fluent, amount),
-        Change::Decrease => LeafNode::Decrease(fluent, amount),
-        Change::ScaleUp => LeafNode::ScaleUp(fluent, amount),
-        Change::ScaleDown => LeafNode::ScaleDown(fluent, amount),
-    }
-}
-
-// The change of a number, behind its word.
-#[tactic(auto, unfolding(crate::specs::Grammar::changed_of))]
-fn changed(
-    alloc: Global,
-    reader: &mut Reader<'_>,
-    change: Change,
-    room: u8,
-    front: Span,
-) -> Result<EffectTree, TextFault>
-    ensures gives { Gives (λ e. e) reader.new result (changed_of change room front reader.old) }
-    ensures shorter { OnOk result (length reader.new < length reader.old) }
-{
-    let fluent = use_form(alloc, reader, Later::Term, room)?;
-    let amount = expressions::next(alloc, reader, room)?;
-    let last = reader.close(Later::Nothing, room)?;
-    Ok(of_leaf(
-        change_node(change, fluent, amount),
-        around(front, last.span),
-    ))
 }
 
 // The effect behind an opening parenthesis, where room is left for so many more.
@@ -82,7 +48,9 @@ fn effect(
             })
         }
         HeadWord::Not => {
-            let atom = use_form(alloc, reader, Later::Term, room)?;
+            let start = reader.open(room)?;
+            let head = reader.plain(room - 1)?;
+            let atom = use_end(alloc, reader, Later::Term, room - 1, start.span, &head)?;
             let last = reader.close(Later::Nothing, room)?;
             Ok(of_leaf(LeafNode::Delete(atom), around(front, last.span)))
         }
@@ -91,13 +59,8 @@ fn effect(
             let span = atom.span;
             Ok(of_leaf(LeafNode::Add(atom), span))
         }
-        HeadWord::Change(change) => changed(alloc, reader, change, room, front),
-        HeadWord::ForAll | HeadWord::When => Err(TextFault::NotBuilt { span: token.span }),
-        HeadWord::Or
-        | HeadWord::Imply
-        | HeadWord::Exists
-        | HeadWord::Compare(_)
-        | HeadWord::Other => Err(TextFault::Form { span: token.span }),
+        HeadWord::ForAll | HeadWord::OfEffect => Err(TextFault::NotBuilt { span: token.span }),
+        HeadWord::OfCondition | HeadWord::Other => Err(TextFault::Form { span: token.span }),
     }
 }
 

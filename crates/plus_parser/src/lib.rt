@@ -4,14 +4,12 @@
 pub mod conditions;
 pub mod domains;
 pub mod effects;
-pub mod expressions;
 pub mod parts;
 pub mod problems;
 pub mod reader;
 pub mod reading;
 #[cfg(test)]
 mod tests;
-pub mod uses;
 pub mod words;
 
 pub use reading::{read_domain, read_problem};

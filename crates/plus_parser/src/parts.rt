@@ -15,15 +15,7 @@ pub struct Keys {
 pub struct DomainParts {
     pub requirements: Option<Members<Spelled>>,
     pub predicates: Option<Members<Head>>,
-    pub functions: Option<Members<Head>>,
     pub actions: Members<Schema>,
-}
-
-/// What was read of `:functions`, and whether their type may follow.
-#[derive(Drop)]
-pub struct Functions {
-    pub heads: Members<Head>,
-    pub untyped: bool,
 }
 
 /// What was read of a problem.

@@ -2,21 +2,21 @@
 
 ghost use Rattle.std.specs.Prelude.{◌≡◌, true, ◌<◌, ◌≤◌, ◌-◌, ◌+◌, [], length, OnOk, Ok, MatchResult, codes};
 ghost use Rattle.plus_parser.specs.Reading.{Gives, Fails, is_open};
-ghost use Rattle.plus_parser.specs.Grammar.{around, until_close, form_step};
+ghost use Rattle.plus_parser.specs.Grammar.{around, until_close, form_step, refusal};
 ghost use Rattle.plus_parser.specs.ReadingDomain.{section_step};
-ghost use Rattle.plus_parser.specs.ReadingProblem.{literal_next, init_at, problem_part, all_found, problem_step, no_problem_parts, problem_made, or_early, problem_of, problem_in};
+ghost use Rattle.plus_parser.specs.ReadingProblem.{init_at, problem_part, all_found, problem_step, no_problem_parts, problem_made, or_early, problem_of, problem_in};
+ghost use Rattle.plus_parser.specs.Words.{is_init_word};
 ghost use Rattle.plus_parser.specs.Seen.{seen};
 
-use crate::conditions;
+use crate::conditions::{self, around, use_end};
 use crate::domains::{end, front, or_none, requirements};
-use crate::expressions::literal_of;
 use crate::parts::ProblemParts;
 use crate::reader::{Reader, Seen};
-use crate::uses::{around, use_end, use_form};
 use crate::words::{
-    HeadWord, Later, ProblemWord, after_head, head_of, is_close, is_open, problem_part_of,
+    HeadWord, Later, ProblemWord, after_head, head_of, is_close, is_init_word, is_open,
+    problem_part_of,
 };
-use plus_tree::{Comparison, CondTree, Init, Literal, Members, Problem, Span, Spelled, TextFault};
+use plus_tree::{CondTree, Init, Members, Problem, Span, Spelled, TextFault};
 use std::alloc::Global;
 
 // The member of `:init` whose opening parenthesis took one of so many places.
@@ -33,31 +33,18 @@ fn init(alloc: Global, reader: &mut Reader<'_>, room: u8, front: Span) -> Result
             let atom = use_end(alloc, reader, later, room - 1, front, &token)?;
             Ok(Init::Holds(atom))
         }
-        HeadWord::Not => {
-            let atom = use_form(alloc, reader, Later::Name, room - 1)?;
-            let last = reader.close(Later::Nothing, room - 1)?;
-            Ok(Init::Absent(atom, around(front, last.span)))
-        }
-        HeadWord::Compare(Comparison::Equal) => {
-            let fluent = use_form(alloc, reader, Later::Name, room - 1)?;
-            let value = number(reader, room - 1)?;
-            let last = reader.close(Later::Nothing, room - 1)?;
-            Ok(Init::Value(fluent, value, around(front, last.span)))
-        }
-        _ => Err(TextFault::Form { span: token.span }),
+        _ => Err(no_init(&token)),
     }
 }
 
-// The number that comes next.
-#[tactic(auto, unfolding(crate::specs::ReadingProblem::literal_next))]
-fn number(reader: &mut Reader<'_>, room: u8) -> Result<Literal, TextFault>
-    ensures gives { Gives (λ n. n) reader.new result (literal_next room reader.old) }
-    ensures shorter { OnOk result (length reader.new < length reader.old) }
+// Why a token begins no member of `:init`.
+fn no_init(token: &Seen<'_>) -> TextFault
+    ensures { result ≡ refusal (is_init_word (seen token.now)) token.now.span }
 {
-    let token = reader.next(room)?;
-    match literal_of(&token) {
-        Some(literal) => Ok(literal),
-        None => Err(TextFault::Form { span: token.span }),
+    if is_init_word(token) {
+        TextFault::NotBuilt { span: token.span }
+    } else {
+        TextFault::Form { span: token.span }
     }
 }
 

@@ -1,6 +1,6 @@
 use crate::reading::{read_domain, read_problem};
 use plus_tokens::LexFault;
-use plus_tree::{Init, Literal, Span, TextFault};
+use plus_tree::{Span, TextFault};
 use std::alloc::{AllocError, Global};
 use std::test::*;
 
@@ -18,7 +18,7 @@ fn later(start: usize, end: usize) -> TextFault {
 
 #[test]
 fn refused_domains(rt: HostRuntime) {
-    let rows: [(&[u8], TextFault); 37] = [
+    let rows: [(&[u8], TextFault); 36] = [
         (
             b"(define (domain d) (:requirements :strips) (:requirements))",
             form(44, 57),
@@ -65,11 +65,7 @@ fn refused_domains(rt: HostRuntime) {
         (b"(define (problem d))", form(9, 16)),
         (b"(define (domain d) (:types t))", later(20, 26)),
         (b"(define (domain d) (:constants))", later(20, 30)),
-        (
-            b"(define (domain d) (:functions (x) - object))",
-            form(37, 43),
-        ),
-        (b"(define (domain d) (:functions - number))", form(31, 32)),
+        (b"(define (domain d) (:functions (x)))", later(20, 30)),
         (b"(define (domain d) (:process p))", later(20, 28)),
         (b"(define (domain d) (:event e))", later(20, 26)),
         (b"(define (domain d) (:predicates (p ?x)))", later(35, 37)),
@@ -86,8 +82,8 @@ fn refused_domains(rt: HostRuntime) {
             later(47, 48),
         ),
         (
-            b"(define (domain d) (:action a :precondition (or p)))",
-            form(48, 49),
+            b"(define (domain d) (:action a :precondition (or)))",
+            later(45, 47),
         ),
         (
             b"(define (domain d) (:action a :precondition (forall (?x) ())))",
@@ -95,19 +91,19 @@ fn refused_domains(rt: HostRuntime) {
         ),
         (
             b"(define (domain d) (:action a :precondition (= a b)))",
-            later(47, 48),
+            later(45, 46),
         ),
         (
-            b"(define (domain d) (:action a :precondition (<= 1)))",
-            form(49, 50),
+            b"(define (domain d) (:action a :precondition (<= 1 2)))",
+            later(45, 47),
         ),
         (
             b"(define (domain d) (:action a :effect (when () ())))",
             later(39, 43),
         ),
         (
-            b"(define (domain d) (:action a :effect (scale-up (x) a)))",
-            form(52, 53),
+            b"(define (domain d) (:action a :effect (scale-up (x) 2)))",
+            later(39, 47),
         ),
         (
             b"(define (domain d) (:action a :effect (not (p a))))",
@@ -157,8 +153,8 @@ fn refused_problems(rt: HostRuntime) {
             b"(define (problem p) (:domain d) (:requirements) (:init) (:goal ()) (:metric))",
             later(67, 68),
         ),
-        (b"(define (problem p) (:init (not p)))", form(32, 33)),
-        (b"(define (problem p) (:init (= (x) y)))", form(34, 35)),
+        (b"(define (problem p) (:init (not (p))))", later(28, 31)),
+        (b"(define (problem p) (:init (= (x) 1)))", later(28, 29)),
         (b"(define (problem p) (:init (p a)))", later(30, 31)),
         (b"(define (problem p) (:init (at 5 (p))))", later(31, 32)),
         (b"(define (problem p) (:init (AT a)))", later(31, 32)),
@@ -203,40 +199,6 @@ fn read(rt: HostRuntime) -> Result<(), Fail> {
     assert_eq!(rt; problem.init.as_slice().len(), 3);
     assert_eq!(rt; problem.domain.span, Span { start: 52, end: 56 });
     assert_eq!(rt; problem.goal.span, Span { start: 28, end: 42 });
-    Ok(())
-}
-
-const TANK: &str =
-    "(define (domain tank) (:functions (level) (cap) - number (rate))\n (:action fill\n  :precondition (and (or (<= (+ (level) 1 2.50) (cap)) (= 0 (level))) (imply (open) (> (- (rate)) (/ 1 (* 2 (- 3 1))))))\n  :effect (and (increase (level) (* 2 (rate))) (assign (rate) -0.0) (scale-down (cap) #t))))";
-
-const FULL: &str =
-    "(define (problem t1) (:domain tank) (:init (= (level) -1.50) (not (open)) (= (cap) 007)) (:goal (>= (level) 3)))";
-
-#[test]
-fn numbers(rt: HostRuntime) -> Result<(), Fail> {
-    let domain = read_domain(rt.alloc(), TANK.as_bytes())
-        .ok()
-        .ok_or("the text is a domain")?;
-    assert_eq!(rt; domain.functions.as_slice().len(), 3);
-    let problem = read_problem(rt.alloc(), FULL.as_bytes())
-        .ok()
-        .ok_or("the text is a problem")?;
-    let init = problem.init.as_slice();
-    assert_eq!(rt; init.len(), 3);
-    let Init::Value(level, literal, span) = &init[0] else {
-        return Err("the first member is a value".into());
-    };
-    assert_eq!(rt; level.head.name.bytes(), b"level".as_slice());
-    assert_eq!(rt;
-        *literal,
-        Literal {
-            negative: true,
-            digits: 15,
-            places: 1,
-            span: Span { start: 54, end: 59 }
-        }
-    );
-    assert_eq!(rt; *span, Span { start: 43, end: 60 });
     Ok(())
 }
 

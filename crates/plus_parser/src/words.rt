@@ -1,16 +1,14 @@
 //! What a token begins, by its word.
 
-ghost use Rattle.std.specs.Prelude.{◌≡◌, ◌&&◌, ◌||◌, List, ℕ, length, map, if◌then◌else◌};
+ghost use Rattle.std.specs.Prelude.{◌≡◌, ◌&&◌, ◌||◌, List, ℕ, length, map};
 ghost use Rattle.std.specs.Str.{bytes_eq};
 ghost use Rattle.plus_tree.specs.Lowered.{lowered};
-ghost use Rattle.plus_parser.specs.Words.{look, changes, word_head, op_head, head_of, sign_expr, expr_head, is_plain_head, is_close, is_minus, is_word, key_of, domain_part_of, problem_part_of, goes_on, is_later_in_domain, is_later_in_problem, after_head};
-ghost use Rattle.plus_parser.specs.Grammar.{may_be_same, is_term};
+ghost use Rattle.plus_parser.specs.Words.{head_of, is_close, is_condition_word, is_effect_word, is_word, key_of, domain_part_of, problem_part_of, goes_on, is_init_word, is_later_in_domain, is_later_in_problem, after_head};
 ghost use Rattle.plus_parser.specs.Reading.{is_open};
 ghost use Rattle.plus_parser.specs.Seen.{seen};
 
 use crate::reader::Seen;
 use plus_tokens::{Kind, Op};
-use plus_tree::Comparison;
 
 /// What stands behind an opening parenthesis of a condition or an effect.
 #[derive(Clone, Copy, Debug, PartialEq, Eq)]
@@ -18,42 +16,15 @@ pub enum HeadWord {
     /// The closing parenthesis.
     Nothing,
     And,
-    Or,
     Not,
-    Imply,
     ForAll,
-    Exists,
-    When,
-    /// The word of a change of a number.
-    Change(Change),
-    /// The sign of a comparison.
-    Compare(Comparison),
+    /// Another word or sign that begins conditions alone.
+    OfCondition,
+    /// Another word that begins effects alone.
+    OfEffect,
     /// Any other name: that of a predicate.
     Plain,
-    /// A token that begins none.
-    Other,
-}
-
-/// What a change does to a number.
-#[derive(Clone, Copy, Debug, PartialEq, Eq)]
-pub enum Change {
-    Assign,
-    Increase,
-    Decrease,
-    ScaleUp,
-    ScaleDown,
-}
-
-/// What stands behind an opening parenthesis of an expression.
-#[derive(Clone, Copy, Debug, PartialEq, Eq)]
-pub enum ExprWord {
-    Sum,
-    Product,
-    Minus,
-    Quotient,
-    /// A name: that of a function.
-    Plain,
-    /// A token that begins none.
+    /// A token that begins neither.
     Other,
 }
 
@@ -71,7 +42,6 @@ pub enum KeyWord {
 pub enum DomainWord {
     Requirements,
     Predicates,
-    Functions,
     Action,
     /// A section that is not read yet.
     Later,
@@ -110,58 +80,21 @@ fn is_the(word: &[u8], small: &[u8]) -> bool
     word.eq_ignore_ascii_case(small)
 }
 
-// What a word of changes begins; any other name is plain.
-fn change_head(word: &[u8]) -> HeadWord
-    ensures { result ≡ look (lowered word.now) changes HeadWord.Plain }
+fn is_condition_word(word: &[u8]) -> bool
+    ensures { result ≡ is_condition_word (lowered word.now) }
 {
-    if is_the(word, b"assign") {
-        HeadWord::Change(Change::Assign)
-    } else if is_the(word, b"increase") {
-        HeadWord::Change(Change::Increase)
-    } else if is_the(word, b"decrease") {
-        HeadWord::Change(Change::Decrease)
-    } else if is_the(word, b"scale-up") {
-        HeadWord::Change(Change::ScaleUp)
-    } else if is_the(word, b"scale-down") {
-        HeadWord::Change(Change::ScaleDown)
-    } else {
-        HeadWord::Plain
-    }
+    is_the(word, b"or") || is_the(word, b"imply") || is_the(word, b"exists")
 }
 
-fn word_head(word: &[u8]) -> HeadWord
-    ensures { result ≡ word_head (lowered word.now) }
+fn is_effect_word(word: &[u8]) -> bool
+    ensures { result ≡ is_effect_word (lowered word.now) }
 {
-    if is_the(word, b"and") {
-        HeadWord::And
-    } else if is_the(word, b"or") {
-        HeadWord::Or
-    } else if is_the(word, b"not") {
-        HeadWord::Not
-    } else if is_the(word, b"imply") {
-        HeadWord::Imply
-    } else if is_the(word, b"forall") {
-        HeadWord::ForAll
-    } else if is_the(word, b"exists") {
-        HeadWord::Exists
-    } else if is_the(word, b"when") {
-        HeadWord::When
-    } else {
-        change_head(word)
-    }
-}
-
-fn op_head(op: Op) -> HeadWord
-    ensures { result ≡ op_head op }
-{
-    match op {
-        Op::Less => HeadWord::Compare(Comparison::Less),
-        Op::AtMost => HeadWord::Compare(Comparison::AtMost),
-        Op::Equal => HeadWord::Compare(Comparison::Equal),
-        Op::AtLeast => HeadWord::Compare(Comparison::AtLeast),
-        Op::Greater => HeadWord::Compare(Comparison::Greater),
-        Op::Plus | Op::Minus | Op::Times | Op::Divide => HeadWord::Other,
-    }
+    is_the(word, b"when")
+        || is_the(word, b"assign")
+        || is_the(word, b"increase")
+        || is_the(word, b"decrease")
+        || is_the(word, b"scale-up")
+        || is_the(word, b"scale-down")
 }
 
 /// What a token begins behind an opening parenthesis.
@@ -170,42 +103,25 @@ pub fn head_of(token: &Seen<'_>) -> HeadWord
 {
     match token.kind {
         Kind::Close => HeadWord::Nothing,
-        Kind::Name => word_head(token.word),
-        Kind::Op(op) => op_head(op),
+        Kind::Name => {
+            if is_the(token.word, b"and") {
+                HeadWord::And
+            } else if is_the(token.word, b"not") {
+                HeadWord::Not
+            } else if is_the(token.word, b"forall") {
+                HeadWord::ForAll
+            } else if is_condition_word(token.word) {
+                HeadWord::OfCondition
+            } else if is_effect_word(token.word) {
+                HeadWord::OfEffect
+            } else {
+                HeadWord::Plain
+            }
+        }
+        Kind::Op(Op::Less | Op::AtMost | Op::Equal | Op::AtLeast | Op::Greater) => {
+            HeadWord::OfCondition
+        }
         _ => HeadWord::Other,
-    }
-}
-
-// What a name begins in an expression.
-fn name_expr(word: &[u8]) -> ExprWord
-    ensures { result ≡ (if is_plain_head (word_head (lowered word.now)) then ExprWord.Plain else ExprWord.Other) }
-{
-    match word_head(word) {
-        HeadWord::Plain => ExprWord::Plain,
-        _ => ExprWord::Other,
-    }
-}
-
-fn op_expr(op: Op) -> ExprWord
-    ensures { result ≡ sign_expr op }
-{
-    match op {
-        Op::Plus => ExprWord::Sum,
-        Op::Times => ExprWord::Product,
-        Op::Minus => ExprWord::Minus,
-        Op::Divide => ExprWord::Quotient,
-        Op::Less | Op::AtMost | Op::Equal | Op::AtLeast | Op::Greater => ExprWord::Other,
-    }
-}
-
-/// What a token begins behind the opening parenthesis of an expression.
-pub fn expr_head(token: &Seen<'_>) -> ExprWord
-    ensures { result ≡ expr_head (seen token.now) }
-{
-    match token.kind {
-        Kind::Op(op) => op_expr(op),
-        Kind::Name => name_expr(token.word),
-        _ => ExprWord::Other,
     }
 }
 
@@ -251,6 +167,7 @@ fn is_later_in_domain(word: &[u8]) -> bool
 {
     is_the(word, b":types")
         || is_the(word, b":constants")
+        || is_the(word, b":functions")
         || is_the(word, b":process")
         || is_the(word, b":event")
 }
@@ -265,8 +182,6 @@ pub fn domain_part_of(token: &Seen<'_>) -> DomainWord
         DomainWord::Requirements
     } else if is_the(token.word, b":predicates") {
         DomainWord::Predicates
-    } else if is_the(token.word, b":functions") {
-        DomainWord::Functions
     } else if is_the(token.word, b":action") {
         DomainWord::Action
     } else if is_later_in_domain(token.word) {
@@ -323,25 +238,11 @@ pub fn goes_on(later: Later, token: &Seen<'_>) -> bool
     }
 }
 
-/// Whether the token is a minus sign.
-pub fn is_minus(kind: Kind) -> bool
-    ensures { result ≡ is_minus kind }
+/// Whether a token begins a member of `:init` that is not read yet.
+pub fn is_init_word(token: &Seen<'_>) -> bool
+    ensures { result ≡ is_init_word (seen token.now) }
 {
-    matches!(kind, Kind::Op(Op::Minus))
-}
-
-/// Whether the token is a name or a variable.
-pub fn is_term(kind: Kind) -> bool
-    ensures { result ≡ is_term kind }
-{
-    matches!(kind, Kind::Name | Kind::Variable)
-}
-
-/// Whether two terms may follow the sign of a comparison.
-pub fn may_be_same(sign: Comparison) -> bool
-    ensures { result ≡ may_be_same sign }
-{
-    matches!(sign, Comparison::Equal)
+    matches!(token.kind, Kind::Op(Op::Equal)) || is_word(token, b"not")
 }
 
 /// What may follow the head of a member of `:init`: names, or the time of a timed literal.

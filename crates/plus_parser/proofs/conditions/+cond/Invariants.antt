@@ -21,9 +21,3 @@ decreases-conds l = 4 * l.room + 2
 
 abbrev pub decreases-cond : goal.decreases-cond
 decreases-cond l = 4 * l.room + 3
-
-abbrev pub decreases-next : goal.decreases-next
-decreases-next l = 4 * l.room + 1
-
-abbrev pub decreases-two : goal.decreases-two
-decreases-two l = 4 * l.room + 2
