@@ -64,10 +64,10 @@ const TIMES: [(&str, Status, &str); 9] = [
     ),
 ];
 
-// The text, and then this piece so often that it has so many bytes.
+// The text, and then this byte so often that it has so many.
 fn filled(alloc: Global, text: &str, piece: &str, size: usize) -> Result<String, Fail> {
     let mut filled = String::from_str(alloc, text)?;
-    while filled.len() < size {
+    for _ in 0..size.saturating_sub(text.len()) {
         filled.push_str(piece)?;
     }
     Ok(filled)
@@ -224,7 +224,7 @@ fn happenings(rt: HostRuntime) -> Result<(), Fail> {
         let words = check_words(alloc)?;
         let answer = run(alloc, &words, &mut shelf, &mut out);
         assert_eq!(rt; answer, status);
-        let from = out.bytes().len() - end.len();
+        let from = out.bytes().len().saturating_sub(end.len());
         assert_eq!(rt; &out.bytes()[from..], end.as_bytes(), "{end}");
     }
     Ok(())
