@@ -5,34 +5,33 @@ use Rattle.std.proofs.lemmas.Bool.{cond-false, cond-true}
 use Rattle.plus_tree.specs.declared.names.Span.{Span}
 use Rattle.plus_tree.specs.declared.names.Spelled.{Spelled}
 use Rattle.plus_tree.specs.declared.faults.TextFault.TheVariants as faults
-use Rattle.plus_parser.specs.declared.words.Later.TheVariants as laters
-use Rattle.plus_parser.specs.Items.{Piece, Item, tok, bad}
-use Rattle.plus_parser.specs.Reading.{◌>>=◌, Read, next_of, is_open}
-use Rattle.plus_parser.specs.Words.{is_close, is_name, is_word, goes_on}
-use Rattle.plus_parser.specs.Grammar.{around, spelled_of, never, open_of, close_of, name_of, word_of}
+use Rattle.plus_reading.specs.Items.{Piece, Item, tok, bad}
+use Rattle.plus_reading.specs.Reading.{◌>>=◌, Read, next_of, is_open}
+use Rattle.plus_reading.specs.Words.{is_close, is_name, is_word}
+use Rattle.plus_reading.specs.Grammar.{around, spelled_of, open_of, close_of, name_of, word_of}
 use Rattle.plus_parser.specs.ReadingDomain.{Sectioner, section_step, front_of, end_of}
-use Rattle.plus_parser.specs.Spells.{IsOpen, IsClose, IsName, IsWord, Wrapped, room_after}
+use Rattle.plus_reading.specs.Spells.{IsOpen, IsClose, IsName, IsWord, Wrapped, room_after}
 use Rattle.plus_parser.specs.SpellsDomain.{Framed}
-use Rattle.plus_parser.proofs.Tokens.{toks, toks_last, bind_ok, ok_is, next_ok, next_open, wanted, refused, open_kind, close_kind, token_takes, token_again}
-use Rattle.plus_parser.proofs.Names.{name_kind, word_is, word_fits}
-use Rattle.plus_parser.proofs.Level.{Even, Level, after_none, level_wrapped, split_wrapped, even_wrapped, last_even}
-use Rattle.plus_parser.proofs.Flat.{IsFlat, name_flat, flat_next, flat_level, open_room, close_room}
-use Rattle.plus_parser.proofs.UntilTakes.{Takes}
-use Rattle.plus_parser.proofs.UntilAgain.{Again, Levels}
-use Rattle.plus_parser.proofs.ConditionLaws.{open_again, close_again}
+use Rattle.plus_reading.proofs.Tokens.{toks, toks_last, bind_ok, ok_is, next_ok, next_open, wanted, refused, open_kind, close_kind, token_takes, token_again}
+use Rattle.plus_reading.proofs.Names.{name_kind, word_is, word_fits}
+use Rattle.plus_reading.proofs.Level.{Even, Level, after_none, level_wrapped, split_wrapped, even_wrapped, last_even}
+use Rattle.plus_reading.proofs.Flat.{IsFlat, name_flat, flat_next, flat_level, open_room, close_room}
+use Rattle.plus_reading.proofs.UntilTakes.{Takes}
+use Rattle.plus_reading.proofs.UntilAgain.{Again, Levels}
+use Rattle.plus_reading.proofs.Starts.{open_again, close_again}
 
 pub name_taken : (room : ℕ) (p : Piece) (items rest : List Item) → name_of room items ≡ Ok (p, rest) → IsName p × (items ≡ tok p ∷ rest)
-name_taken room p items rest e = let t = token_takes (λ q. is_name q.kind) never room p items rest e in (name_kind p.kind t.fits, t.whole)
+name_taken room p items rest e = let t = token_takes (λ q. is_name q.kind) room p items rest e in (name_kind p.kind t.fits, t.whole)
 
-pub close_taken : (room : ℕ) (p : Piece) (items rest : List Item) → close_of laters.Nothing room items ≡ Ok (p, rest) → IsClose p × (items ≡ tok p ∷ rest)
+pub close_taken : (room : ℕ) (p : Piece) (items rest : List Item) → close_of room items ≡ Ok (p, rest) → IsClose p × (items ≡ tok p ∷ rest)
 close_taken room p items rest e =
-    let t = token_takes (λ q. is_close q.kind) (goes_on laters.Nothing) room p items rest e in (close_kind p.kind t.fits, t.whole)
+    let t = token_takes (λ q. is_close q.kind) room p items rest e in (close_kind p.kind t.fits, t.whole)
 
 pub name_read : (room : ℕ) (p : Piece) (rest : List Item) → IsName p → name_of room (tok p ∷ rest) ≡ Ok (p, rest)
-name_read room p rest e = token_again (λ q. is_name q.kind) never room p rest (ap is_name e) (λ o. absurd (let no : false ≡ true = sym (ap is_open e) ∙ o in cc))
+name_read room p rest e = token_again (λ q. is_name q.kind) room p rest (ap is_name e) (λ o. absurd (let no : false ≡ true = sym (ap is_open e) ∙ o in cc))
 
-word_read : (w : List ℕ) (room : ℕ) (p : Piece) (rest : List Item) → IsWord w p → word_of w room (tok p ∷ rest) ≡ Ok (p, rest)
-word_read w room p rest e = token_again (is_word w) never room p rest (word_fits w p e) (λ o. absurd (let no : false ≡ true = sym (ap is_open e.0) ∙ o in cc))
+pub word_read : (w : List ℕ) (room : ℕ) (p : Piece) (rest : List Item) → IsWord w p → word_of w room (tok p ∷ rest) ≡ Ok (p, rest)
+word_read w room p rest e = token_again (is_word w) room p rest (word_fits w p e) (λ o. absurd (let no : false ≡ true = sym (ap is_open e.0) ∙ o in cc))
 
 module _ {S X : Type 0} (P : X → List Piece → Type 0) (add : S → X → Option S) (read : Sectioner S) where
   -- what a section took behind its keyword
@@ -54,8 +53,8 @@ module _ {S X : Type 0} (P : X → List Piece → Type 0) (add : S → X → Opt
   unfolding section_step
   section_takes full takes room s s' p r r' left e =
       let go = next_of (room - 1) r >>= λ q. read (room - 1) s p.span q.0 q.1 in
-      let w = wanted (is_open p.kind) (faults.Form p.span) (cond (full s) (Err (faults.NotBuilt p.span)) go) (s', r') e in
-      let g = refused (full s) (faults.NotBuilt p.span) go (s', r') w.1 in
+      let w = wanted (is_open p.kind) (faults.Form p.span) (cond (full s) (Err (faults.Form p.span)) go) (s', r') e in
+      let g = refused (full s) (faults.Form p.span) go (s', r') w.1 in
       let a = bind_ok (next_of (room - 1) r) (λ q. read (room - 1) s p.span q.0 q.1) (s', r') g.1 in
       let q = a.0.0 in
       let t = takes (room - 1) s s' p.span q a.0.1 r' a.2 in
@@ -113,8 +112,8 @@ module _ {S X : Type 0} (P : X → List Piece → Type 0) (add : S → X → Opt
         next = next_open room o (toks inner rest) a.wrapped.opens some;
         goes = ap is_close a.wrapped.opens;
         steps =
-            cond-true (is_open o.kind) (cond (full s) (Err (faults.NotBuilt o.span)) (go (toks inner rest))) (Err (faults.Form o.span)) (ap is_open a.wrapped.opens)
-            ∙ cond-false (full s) (Err (faults.NotBuilt o.span)) (go (toks inner rest)) (fresh s s' x e)
+            cond-true (is_open o.kind) (cond (full s) (Err (faults.Form o.span)) (go (toks inner rest))) (Err (faults.Form o.span)) (ap is_open a.wrapped.opens)
+            ∙ cond-false (full s) (Err (faults.Form o.span)) (go (toks inner rest)) (fresh s s' x e)
             ∙ ap go (ap (λ (is : List Item). tok k ∷ is) (sym (toks_last a.body a.wrapped.last rest)))
             ∙ ap (λ (q : Read Piece). q >>= λ q. read (room - 1) s o.span q.0 q.1) (flat_next (room - 1) k left a.flat)
             ∙ again (room - 1) s s' x ts rest h inside e;
@@ -150,7 +149,7 @@ pub record FrontTook (w : List ℕ) (x : Spelled × Span) (items rest : List Ite
 pub front_takes : (w : List ℕ) (room : ℕ) (x : Spelled × Span) (items rest : List Item) → front_of w room items ≡ Ok (x, rest) → FrontTook w x items rest
 unfolding front_of
 front_takes w room x items rest e =
-    let f4 = λ (o : Piece) (n : Piece × List Item). close_of laters.Nothing room n.1 >>= λ e. Ok ((spelled_of n.0, o.span), e.1) in
+    let f4 = λ (o : Piece) (n : Piece × List Item). close_of room n.1 >>= λ e. Ok ((spelled_of n.0, o.span), e.1) in
     let f3 = λ (o : Piece) (k : Piece × List Item). name_of room k.1 >>= f4 o in
     let f2 = λ (o : Piece) (i : Piece × List Item). word_of w room i.1 >>= f3 o in
     let f1 = λ (o : Piece) (d : Piece × List Item). open_of (suc room) d.1 >>= f2 o in
@@ -159,12 +158,12 @@ front_takes w room x items rest e =
     let c = bind_ok (open_of (suc room) b.0.1) (f2 a.0.0) (x, rest) b.2 in
     let d = bind_ok (word_of w room c.0.1) (f3 a.0.0) (x, rest) c.2 in
     let n = bind_ok (name_of room d.0.1) (f4 a.0.0) (x, rest) d.2 in
-    let k = bind_ok (close_of laters.Nothing room n.0.1) (λ e. Ok ((spelled_of n.0.0, a.0.0.span), e.1)) (x, rest) n.2 in
+    let k = bind_ok (close_of room n.0.1) (λ e. Ok ((spelled_of n.0.0, a.0.0.span), e.1)) (x, rest) n.2 in
     let both = ok_is ((spelled_of n.0.0, a.0.0.span), k.0.1) (x, rest) k.2 in
-    let ta = token_takes (λ q. is_open q.kind) never (suc (suc room)) a.0.0 items a.0.1 a.1 in
-    let tb = token_takes (is_word (codes "define")) never (suc room) b.0.0 a.0.1 b.0.1 b.1 in
-    let tc = token_takes (λ q. is_open q.kind) never (suc room) c.0.0 b.0.1 c.0.1 c.1 in
-    let td = token_takes (is_word w) never room d.0.0 c.0.1 d.0.1 d.1 in
+    let ta = token_takes (λ q. is_open q.kind) (suc (suc room)) a.0.0 items a.0.1 a.1 in
+    let tb = token_takes (is_word (codes "define")) (suc room) b.0.0 a.0.1 b.0.1 b.1 in
+    let tc = token_takes (λ q. is_open q.kind) (suc room) c.0.0 b.0.1 c.0.1 c.1 in
+    let td = token_takes (is_word w) room d.0.0 c.0.1 d.0.1 d.1 in
     let tn = name_taken room n.0.0 d.0.1 n.0.1 n.1 in
     let tk = close_taken room k.0.0 n.0.1 k.0.1 k.1 in
     let cons = λ (p : Piece) (is : List Item). let all : List Item = tok p ∷ is in all in
@@ -220,7 +219,7 @@ module _ (w : List ℕ) (name : Spelled) (span : Span) (body ts : List Piece) (h
   pub front_again : (room : ℕ) → front_of w room (tok h.first ∷ tok h.define ∷ tok h.inner ∷ tok h.kind ∷ tok h.named ∷ tok h.close ∷ frame_left) ≡ Ok ((spelled_of h.named, h.first.span), frame_left)
   unfolding front_of
   front_again room =
-      rw (open_again (suc (suc room)) h.first (tok h.define ∷ tok h.inner ∷ tok h.kind ∷ tok h.named ∷ tok h.close ∷ frame_left) h.opens.0 (omega arith), word_read (codes "define") (suc room) h.define (tok h.inner ∷ tok h.kind ∷ tok h.named ∷ tok h.close ∷ frame_left) h.words.0, open_again (suc room) h.inner (tok h.kind ∷ tok h.named ∷ tok h.close ∷ frame_left) h.opens.1 (omega arith), word_read w room h.kind (tok h.named ∷ tok h.close ∷ frame_left) h.words.1, name_read room h.named (tok h.close ∷ frame_left) h.is_name, close_again laters.Nothing room h.close frame_left h.closes.0) refl
+      rw (open_again (suc (suc room)) h.first (tok h.define ∷ tok h.inner ∷ tok h.kind ∷ tok h.named ∷ tok h.close ∷ frame_left) h.opens.0 (omega arith), word_read (codes "define") (suc room) h.define (tok h.inner ∷ tok h.kind ∷ tok h.named ∷ tok h.close ∷ frame_left) h.words.0, open_again (suc room) h.inner (tok h.kind ∷ tok h.named ∷ tok h.close ∷ frame_left) h.opens.1 (omega arith), word_read w room h.kind (tok h.named ∷ tok h.close ∷ frame_left) h.words.1, name_read room h.named (tok h.close ∷ frame_left) h.is_name, close_again room h.close frame_left h.closes.0) refl
 
 -- a front, a body and a last parenthesis are a frame
 pub framed : (w : List ℕ) (x : Spelled × Span) (items rest : List Item) (t : FrontTook w x items rest) (body : List Piece) (last : Piece) → IsClose last

@@ -5,14 +5,14 @@ use Rattle.plus_tree.specs.declared.trees.Domain.{Domain}
 use Rattle.plus_tree.specs.declared.trees.Problem.{Problem}
 use Rattle.plus_tree.specs.declared.faults.TextFault.{TextFault}
 use Rattle.plus_tree.specs.declared.faults.TextFault.TheVariants as faults
-use Rattle.plus_parser.specs.Items.{items_of}
-use Rattle.plus_parser.specs.Reading.{Fails}
+use Rattle.plus_reading.specs.Items.{items_of}
+use Rattle.plus_reading.specs.Reading.{Fails}
 use Rattle.plus_parser.specs.ReadingDomain.{domain_in, domain_of}
 use Rattle.plus_parser.specs.ReadingProblem.{problem_in, problem_of}
 use Rattle.plus_parser.specs.SpellsDomain.{Spells, SpellsWithin}
 use Rattle.plus_parser.specs.SpellsProblem.{SpellsProblem, SpellsProblemWithin}
-use Rattle.plus_parser.proofs.Tokens.{ok_is, done}
-use Rattle.plus_parser.proofs.Level.{even_there}
+use Rattle.plus_reading.proofs.Tokens.{ok_is, done}
+use Rattle.plus_reading.proofs.Level.{even_there}
 use Rattle.plus_parser.proofs.Sections.{body_even, body_short}
 use Rattle.plus_parser.proofs.DomainLaws.{domain_takes, domain_level, domain_again}
 use Rattle.plus_parser.proofs.ProblemLaws.{problem_takes, problem_level, problem_again}
@@ -27,7 +27,6 @@ answer_only (Err e) d read h is = fault_only e h
     fault_only faults.Unclosed h = absurd cc
     fault_only (faults.Depth at) h = absurd cc
     fault_only (faults.Form s) h = absurd cc
-    fault_only (faults.NotBuilt s) h = absurd cc
     fault_only faults.Memory h = refl
 
 pub domain_found : (text : List ℕ) (r : Result Domain TextFault) → MatchResult r (λ d. domain_of 64 (items_of text) ≡ Ok d) (λ e. Fails e (domain_of 64 (items_of text))) → IfOk r (λ d. SpellsWithin 64 text d)

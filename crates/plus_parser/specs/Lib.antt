@@ -1,10 +1,11 @@
-pub mod Items
-pub mod Reading
-pub mod Seen
-pub mod Words
-pub mod Grammar
+pub use Rattle.plus_reading.specs.Items
+pub use Rattle.plus_reading.specs.Reading
+pub use Rattle.plus_reading.specs.Words
+pub use Rattle.plus_reading.specs.Grammar
+pub use Rattle.plus_reading.specs.Spells
+pub mod Keywords
+pub mod Balanced
 pub mod ReadingDomain
 pub mod ReadingProblem
-pub mod Spells
 pub mod SpellsDomain
 pub mod SpellsProblem

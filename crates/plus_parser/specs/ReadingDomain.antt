@@ -1,7 +1,9 @@
 -- Reading a domain from tokens.
-use Rattle.std.specs.Prelude.{ℕ, suc, ◌-◌, Bool, true, false, List, [], ◌∷◌, ◌++◌, length, drop, Option, Some, None, is_some, unwrap_or, Result, Ok, Err, if◌then◌else◌, codes}
+use Rattle.std.specs.Prelude.{ℕ, suc, ◌-◌, Bool, true, false, not, ◌&&◌, List, [], ◌∷◌, ◌++◌, length, filter, Option, Some, None, is_some, unwrap_or, Result, Ok, Err, if◌then◌else◌, codes}
 use Rattle.plus_tree.specs.declared.names.Span.{Span}
 use Rattle.plus_tree.specs.declared.names.Spelled.{Spelled}
+use Rattle.std.specs.Str.{bytes_eq}
+use Rattle.plus_tree.specs.declared.terms.TypedName.{TypedName}
 use Rattle.plus_tree.specs.declared.trees.Head.{Head}
 use Rattle.plus_tree.specs.declared.trees.Schema.{Schema}
 use Rattle.plus_tree.specs.declared.trees.Domain.{Domain}
@@ -11,41 +13,66 @@ use Rattle.plus_tree.specs.Cond.{Cond, c_all, no_conds}
 use Rattle.plus_tree.specs.Effect.{Effect, e_all, no_effects}
 use Rattle.plus_parser.specs.declared.parts.Keys.{Keys}
 use Rattle.plus_parser.specs.declared.parts.DomainParts.{DomainParts}
-use Rattle.plus_parser.specs.declared.words.KeyWord.{KeyWord}
-use Rattle.plus_parser.specs.declared.words.KeyWord.TheVariants as keys
-use Rattle.plus_parser.specs.declared.words.DomainWord.{DomainWord}
-use Rattle.plus_parser.specs.declared.words.DomainWord.TheVariants as domains
-use Rattle.plus_parser.specs.declared.words.Later.TheVariants as laters
-use Rattle.plus_parser.specs.Items.{Piece, Item, tok, bad}
-use Rattle.plus_parser.specs.Reading.{◌>>=◌, Read, next_of, is_open}
-use Rattle.plus_parser.specs.Words.{is_keyword, key_of, domain_part_of}
-use Rattle.plus_parser.specs.Grammar.{around, nowhere, spelled_of, open_of, close_of, name_of, plain_of, word_of, Step, until_close, Former, form_step, cond_at, effect_at}
+use Rattle.plus_parser.specs.declared.parts.Functions.{Functions}
+use Rattle.plus_parser.specs.declared.keywords.KeyWord.{KeyWord}
+use Rattle.plus_parser.specs.declared.keywords.KeyWord.TheVariants as keys
+use Rattle.plus_parser.specs.declared.keywords.DomainWord.{DomainWord}
+use Rattle.plus_parser.specs.declared.keywords.DomainWord.TheVariants as domains
+use Rattle.plus_reading.specs.Items.{Piece, Item, tok, bad}
+use Rattle.plus_reading.specs.Reading.{◌>>=◌, Read, next_of, is_open}
+use Rattle.plus_reading.specs.Words.{is_keyword, is_minus}
+use Rattle.plus_parser.specs.Keywords.{key_of, domain_part_of}
+use Rattle.plus_reading.specs.declared.words.Allowed.TheVariants as allows
+use Rattle.plus_reading.specs.Grammar.{around, nowhere, spelled_of, bare_of, open_of, close_of, name_of, plain_of, word_of, Step, until_close, Former, form_step, Listing, no_names, list_step, all_typed, list_of, variables_of}
+use Rattle.plus_forms.specs.ReadingForms.{cond_at, effect_at}
 
--- ---- requirements and predicates
-
--- a keyword without its colon
-abbrev pub keyword_of : Piece → Spelled
-keyword_of p = record { name = drop 1 p.word; span = p.span }
+-- ---- requirements, types and predicates
 
 unfoldable pub requirement_step : Step (List Spelled)
-requirement_step xs p rest = if is_keyword p.kind then Ok (xs ++ keyword_of p ∷ [], rest) else Err (faults.Form p.span)
+requirement_step xs p rest = if is_keyword p.kind then Ok (xs ++ bare_of p ∷ [], rest) else Err (faults.Form p.span)
+
+-- any type but `object`
+abbrev pub is_own_type : Spelled → Bool
+is_own_type x = not (bytes_eq x.name (codes "object"))
+
+-- the types: `object` without a type above it is none of them
+abbrev pub types_of : Listing → List TypedName
+types_of l = all_typed (record l { waiting = filter is_own_type l.waiting })
 
 -- a predicate whose opening parenthesis takes one of so many places
 unfoldable pub predicate_at : ℕ → Former Head
 predicate_at room front items = do
   n ← plain_of (room - 1) items
-  e ← close_of laters.Variable (room - 1) n.1
-  Ok (record { name = spelled_of n.0; params = []; span = around front e.0.span }, e.1)
+  vs ← list_of allows.Variables (room - 1) n.1
+  Ok (record { name = spelled_of n.0; params = vs.0.0; span = around front vs.0.1 }, vs.1)
 
--- ---- actions
+-- ---- functions
+
+abbrev pub no_functions : Functions
+no_functions = record { heads = []; untyped = false }
+
+-- the type `number` of the functions before it
+abbrev pub number_type : ℕ → Functions → List Item → Read Functions
+number_type room found rest = do
+  n ← word_of (codes "number") room rest
+  Ok (record found { untyped = false }, n.1)
+
+-- one more function, or the type of those before it
+unfoldable pub function_step : ℕ → Step Functions
+function_step room found p rest =
+    if is_open p.kind
+    then (predicate_at room p.span rest >>= λ h. Ok (record { heads = found.heads ++ h.0 ∷ []; untyped = true }, h.1))
+    else (if is_minus p.kind && found.untyped then number_type room found rest else Err (faults.Form p.span))
+
+-- ---- actions, processes and events
 
 abbrev pub no_keys : Keys
-no_keys = record { parameters = false; condition = None; effect = None }
+no_keys = record { parameters = None; condition = None; effect = None }
 
 abbrev pub key_with : ℕ → Keys → Piece → List Item → KeyWord → Read Keys
 key_with room found p rest keys.Parameters =
-    if found.parameters then Err (faults.Form p.span)
-    else (open_of room rest >>= λ o. close_of laters.Variable (room - 1) o.1 >>= λ e. Ok (record found { parameters = true }, e.1))
+    if is_some found.parameters then Err (faults.Form p.span)
+    else (variables_of room rest >>= λ vs. Ok (record found { parameters = Some vs.0 }, vs.1))
 key_with room found p rest keys.Precondition =
     if is_some found.condition then Err (faults.Form p.span)
     else (open_of room rest >>= λ o. cond_at room o.0.span o.1 >>= λ c. Ok (record found { condition = Some c.0 }, c.1))
@@ -68,7 +95,7 @@ or_nothing None = e_all no_effects nowhere
 or_nothing (Some e) = e
 
 abbrev pub schema_made : Spelled → Keys → Span → Schema
-schema_made n found s = record { name = n; params = []; condition = or_all found.condition; effect = or_nothing found.effect; span = s }
+schema_made n found s = record { name = n; params = unwrap_or found.parameters []; condition = or_all found.condition; effect = or_nothing found.effect; span = s }
 
 unfoldable pub schema_of : ℕ → Span → List Item → Read Schema
 schema_of room front items = do
@@ -83,32 +110,62 @@ schema_of room front items = do
 abbrev pub Sectioner : Type 0 → Type 0
 Sectioner S = ℕ → S → Span → Piece → List Item → Read S
 
--- one more section, unless all that are read were found
+-- one more section, unless all were found
 unfoldable pub section_step : {S : Type 0} → (S → Bool) → Sectioner S → ℕ → Step S
 section_step full read room found p rest =
     if is_open p.kind
-    then (if full found then Err (faults.NotBuilt p.span) else (next_of (room - 1) rest >>= λ q. read (room - 1) found p.span q.0 q.1))
+    then (if full found then Err (faults.Form p.span) else (next_of (room - 1) rest >>= λ q. read (room - 1) found p.span q.0 q.1))
     else Err (faults.Form p.span)
 
 abbrev pub no_parts : DomainParts
-no_parts = record { requirements = None; predicates = None; actions = [] }
+no_parts = record {
+  requirements = None;
+  types = None;
+  constants = None;
+  predicates = None;
+  functions = None;
+  actions = [];
+  processes = [];
+  events = [];
+}
 
+-- an action, a process or an event
+abbrev pub schema_part_with : DomainWord → Sectioner DomainParts
+schema_part_with domains.Action room parts front q rest =
+    schema_of room front rest >>= λ s. Ok (record parts { actions = parts.actions ++ s.0 ∷ [] }, s.1)
+schema_part_with domains.Process room parts front q rest =
+    schema_of room front rest >>= λ s. Ok (record parts { processes = parts.processes ++ s.0 ∷ [] }, s.1)
+schema_part_with domains.Event room parts front q rest =
+    schema_of room front rest >>= λ s. Ok (record parts { events = parts.events ++ s.0 ∷ [] }, s.1)
+schema_part_with _ room parts front q rest = Err (faults.Form q.span)
+
+-- the predicates or the functions; another word begins another section
+abbrev pub declared_part_with : DomainWord → Sectioner DomainParts
+declared_part_with domains.Predicates room parts front q rest =
+    if is_some parts.predicates then Err (faults.Form q.span)
+    else (until_close (form_step (predicate_at room)) room (length rest) [] rest >>= λ xs. Ok (record parts { predicates = Some xs.0.0 }, xs.1))
+declared_part_with domains.Functions room parts front q rest =
+    if is_some parts.functions then Err (faults.Form q.span)
+    else (until_close (function_step room) room (length rest) no_functions rest >>= λ xs. Ok (record parts { functions = Some xs.0.0.heads }, xs.1))
+declared_part_with word room parts front q rest = schema_part_with word room parts front q rest
+
+-- the requirements, the types or the constants; another word begins another section
 abbrev pub domain_part_with : DomainWord → Sectioner DomainParts
 domain_part_with domains.Requirements room parts front q rest =
     if is_some parts.requirements then Err (faults.Form q.span)
     else (until_close requirement_step room (length rest) [] rest >>= λ xs. Ok (record parts { requirements = Some xs.0.0 }, xs.1))
-domain_part_with domains.Predicates room parts front q rest =
-    if is_some parts.predicates then Err (faults.Form q.span)
-    else (until_close (form_step (predicate_at room)) room (length rest) [] rest >>= λ xs. Ok (record parts { predicates = Some xs.0.0 }, xs.1))
-domain_part_with domains.Action room parts front q rest =
-    schema_of room front rest >>= λ s. Ok (record parts { actions = parts.actions ++ s.0 ∷ [] }, s.1)
-domain_part_with domains.Later room parts front q rest = Err (faults.NotBuilt q.span)
-domain_part_with domains.Other room parts front q rest = Err (faults.Form q.span)
+domain_part_with domains.Types room parts front q rest =
+    if is_some parts.types then Err (faults.Form q.span)
+    else (until_close (list_step allows.Names room) room (length rest) no_names rest >>= λ l. Ok (record parts { types = Some (types_of l.0.0) }, l.1))
+domain_part_with domains.Constants room parts front q rest =
+    if is_some parts.constants then Err (faults.Form q.span)
+    else (list_of allows.Names room rest >>= λ xs. Ok (record parts { constants = Some xs.0.0 }, xs.1))
+domain_part_with word room parts front q rest = declared_part_with word room parts front q rest
 
 unfoldable pub domain_part : Sectioner DomainParts
 domain_part room parts front q rest = domain_part_with (domain_part_of q) room parts front q rest
 
--- there are always more actions
+-- there may always be more actions
 abbrev pub never_full : DomainParts → Bool
 never_full parts = false
 
@@ -129,20 +186,20 @@ front_of word room items = do
   i ← open_of (suc room) d.1
   k ← word_of word room i.1
   n ← name_of room k.1
-  e ← close_of laters.Nothing room n.1
+  e ← close_of room n.1
   Ok ((spelled_of n.0, o.0.span), e.1)
 
 abbrev pub domain_made : Spelled → DomainParts → Span → Domain
 domain_made n parts s = record {
   name = n;
   requirements = unwrap_or parts.requirements [];
-  types = [];
-  constants = [];
+  types = unwrap_or parts.types [];
+  constants = unwrap_or parts.constants [];
   predicates = unwrap_or parts.predicates [];
-  functions = [];
+  functions = unwrap_or parts.functions [];
   actions = parts.actions;
-  processes = [];
-  events = [];
+  processes = parts.processes;
+  events = parts.events;
   span = s;
 }
 

@@ -1,15 +1,15 @@
 //! Reads domains and problems of PDDL+ from their text.
 #![tactic(auto)]
 
-pub mod conditions;
+pub mod declarations;
 pub mod domains;
-pub mod effects;
+pub mod keywords;
+pub mod metric;
 pub mod parts;
 pub mod problems;
-pub mod reader;
 pub mod reading;
+pub mod schemas;
 #[cfg(test)]
 mod tests;
-pub mod words;
 
 pub use reading::{read_domain, read_problem};

@@ -1,23 +1,51 @@
 //! Reads a problem.
 
 ghost use Rattle.std.specs.Prelude.{◌≡◌, true, ◌<◌, ◌≤◌, ◌-◌, ◌+◌, [], length, OnOk, Ok, MatchResult, codes};
-ghost use Rattle.plus_parser.specs.Reading.{Gives, Fails, is_open};
-ghost use Rattle.plus_parser.specs.Grammar.{around, until_close, form_step, refusal};
+ghost use Rattle.plus_reading.specs.Reading.{Gives, Fails, is_open};
+ghost use Rattle.plus_reading.specs.Grammar.{around, until_close, form_step};
 ghost use Rattle.plus_parser.specs.ReadingDomain.{section_step};
-ghost use Rattle.plus_parser.specs.ReadingProblem.{init_at, problem_part, all_found, problem_step, no_problem_parts, problem_made, or_early, problem_of, problem_in};
-ghost use Rattle.plus_parser.specs.Words.{is_init_word};
-ghost use Rattle.plus_parser.specs.Seen.{seen};
+ghost use Rattle.plus_parser.specs.ReadingProblem.{literal_next, timed_of, init_at, problem_part, all_found, problem_step, no_problem_parts, problem_made, or_early, problem_of, problem_in};
+ghost use Rattle.plus_reading.specs.Seen.{seen};
 
-use crate::conditions::{self, around, use_end};
-use crate::domains::{end, front, or_none, requirements};
-use crate::parts::ProblemParts;
-use crate::reader::{Reader, Seen};
-use crate::words::{
-    HeadWord, Later, ProblemWord, after_head, head_of, is_close, is_init_word, is_open,
-    problem_part_of,
-};
-use plus_tree::{CondTree, Init, Members, Problem, Span, Spelled, TextFault};
+use crate::declarations::requirements;
+use crate::domains::{end, front};
+use crate::keywords::{ProblemWord, problem_part_of};
+use crate::metric::skip;
+use crate::parts::{Kept, ProblemParts};
+use crate::schemas::or_none;
+use plus_forms::conditions;
+use plus_reading::expressions::literal_of;
+use plus_reading::lists::list;
+use plus_reading::reader::{Reader, Seen};
+use plus_reading::uses::{around, use_end, use_form};
+use plus_reading::words::{Allowed, HeadWord, head_of, is_close, is_open, is_word};
+use plus_tree::{Comparison, CondTree, Init, Literal, Members, Problem, Span, Spelled, TextFault};
 use std::alloc::Global;
+
+// A timed literal, behind its `at`.
+#[tactic(auto, unfolding(crate::specs::ReadingProblem::timed_of))]
+fn timed(alloc: Global, reader: &mut Reader<'_>, room: u8, front: Span) -> Result<Init, TextFault>
+    ensures gives { Gives (λ i. i) reader.new result (timed_of room front reader.old) }
+    ensures shorter { OnOk result (length reader.new < length reader.old) }
+{
+    let time = number(reader, room)?;
+    let start = reader.open(room)?;
+    let token = reader.next(room - 1)?;
+    match head_of(&token) {
+        HeadWord::Plain => {
+            let atom = use_end(alloc, reader, Allowed::Terms, room - 1, start.span, &token)?;
+            let last = reader.close(room)?;
+            Ok(Init::At(time, atom, around(front, last.span)))
+        }
+        HeadWord::Not => {
+            let atom = use_form(alloc, reader, Allowed::Terms, room - 1)?;
+            reader.close(room - 1)?;
+            let last = reader.close(room)?;
+            Ok(Init::AtNot(time, atom, around(front, last.span)))
+        }
+        _ => Err(TextFault::Form { span: token.span }),
+    }
+}
 
 // The member of `:init` whose opening parenthesis took one of so many places.
 #[tactic(auto, unfolding(crate::specs::ReadingProblem::init_at))]
@@ -29,27 +57,42 @@ fn init(alloc: Global, reader: &mut Reader<'_>, room: u8, front: Span) -> Result
     let token = reader.next(room - 1)?;
     match head_of(&token) {
         HeadWord::Plain => {
-            let later = after_head(&token);
-            let atom = use_end(alloc, reader, later, room - 1, front, &token)?;
+            if is_word(&token, b"at") && reader.is_time_next(room - 1) {
+                return timed(alloc, reader, room - 1, front);
+            }
+            let atom = use_end(alloc, reader, Allowed::Names, room - 1, front, &token)?;
             Ok(Init::Holds(atom))
         }
-        _ => Err(no_init(&token)),
+        HeadWord::Not => {
+            let atom = use_form(alloc, reader, Allowed::Names, room - 1)?;
+            let last = reader.close(room - 1)?;
+            Ok(Init::Absent(atom, around(front, last.span)))
+        }
+        HeadWord::Compare(Comparison::Equal) => {
+            let fluent = use_form(alloc, reader, Allowed::Names, room - 1)?;
+            let value = number(reader, room - 1)?;
+            let last = reader.close(room - 1)?;
+            Ok(Init::Value(fluent, value, around(front, last.span)))
+        }
+        _ => Err(TextFault::Form { span: token.span }),
     }
 }
 
-// Why a token begins no member of `:init`.
-fn no_init(token: &Seen<'_>) -> TextFault
-    ensures { result ≡ refusal (is_init_word (seen token.now)) token.now.span }
+// The number that comes next.
+#[tactic(auto, unfolding(crate::specs::ReadingProblem::literal_next))]
+fn number(reader: &mut Reader<'_>, room: u8) -> Result<Literal, TextFault>
+    ensures gives { Gives (λ n. n) reader.new result (literal_next room reader.old) }
+    ensures shorter { OnOk result (length reader.new < length reader.old) }
 {
-    if is_init_word(token) {
-        TextFault::NotBuilt { span: token.span }
-    } else {
-        TextFault::Form { span: token.span }
+    let token = reader.next(room)?;
+    match literal_of(&token) {
+        Some(literal) => Ok(literal),
+        None => Err(TextFault::Form { span: token.span }),
     }
 }
 
 // One more member of `:init`, which begins with a token.
-#[tactic(auto, unfolding(crate::specs::Grammar::form_step))]
+#[tactic(auto, unfolding(plus_reading::specs::Grammar::form_step))]
 fn next_init(
     alloc: Global,
     reader: &mut Reader<'_>,
@@ -107,13 +150,18 @@ fn part(
     match problem_part_of(keyword) {
         ProblemWord::Domain if found.domain.is_none() => {
             let name = reader.name(room)?;
-            reader.close(Later::Nothing, room)?;
+            reader.close(room)?;
             found.domain = Some(name.spelled(alloc)?);
             Ok(())
         }
         ProblemWord::Requirements if found.requirements.is_none() => {
             let (members, _) = requirements(alloc, reader, room)?;
             found.requirements = Some(members);
+            Ok(())
+        }
+        ProblemWord::Objects if found.objects.is_none() => {
+            let (members, _) = list(alloc, reader, Allowed::Names, room)?;
+            found.objects = Some(members);
             Ok(())
         }
         ProblemWord::Init if found.init.is_none() => {
@@ -124,24 +172,31 @@ fn part(
         ProblemWord::Goal if found.goal.is_none() => {
             let start = reader.open(room)?;
             let goal = conditions::inside(alloc, reader, room, start.span)?;
-            reader.close(Later::Nothing, room)?;
+            let goal = Kept::new(alloc, goal)?;
+            reader.close(room)?;
             found.goal = Some(goal);
             Ok(())
         }
-        ProblemWord::Later => Err(TextFault::NotBuilt { span: keyword.span }),
+        ProblemWord::Metric if !found.metric => {
+            skip(reader, room)?;
+            found.metric = true;
+            Ok(())
+        }
         _ => Err(TextFault::Form { span: keyword.span }),
     }
 }
 
 impl ProblemParts {
-    // Whether each section that is read was found.
+    // Whether each section was found.
     fn all_found(&self) -> bool
         ensures { result ≡ all_found self.now }
     {
         self.domain.is_some()
             && self.requirements.is_some()
+            && self.objects.is_some()
             && self.init.is_some()
             && self.goal.is_some()
+            && self.metric
     }
 }
 
@@ -163,7 +218,7 @@ fn section(
         return Err(TextFault::Form { span: token.span });
     }
     if found.all_found() {
-        return Err(TextFault::NotBuilt { span: token.span });
+        return Err(TextFault::Form { span: token.span });
     }
     let keyword = reader.next(room - 1)?;
     part(alloc, reader, room - 1, found, token.span, &keyword)
@@ -182,8 +237,10 @@ fn sections(
     let mut found = ProblemParts {
         domain: None,
         requirements: None,
+        objects: None,
         init: None,
         goal: None,
+        metric: false,
     };
     'found: loop {
         let token = reader.next(room)?;
@@ -208,8 +265,10 @@ fn made(
     let ProblemParts {
         domain,
         requirements,
+        objects,
         init,
         goal,
+        ..
     } = parts;
     let Some(domain) = domain else {
         return Err(early);
@@ -224,9 +283,9 @@ fn made(
         name,
         domain,
         requirements: or_none(alloc, requirements),
-        objects: Members::new(alloc),
+        objects: or_none(alloc, objects),
         init,
-        goal,
+        goal: goal.into_tree(),
         span,
     })
 }
@@ -236,6 +295,7 @@ fn made(
 pub fn problem(alloc: Global, reader: &mut Reader<'_>) -> Result<Problem, TextFault>
     ensures gives { MatchResult result
         (λ p. problem_of 64 reader.old ≡ Ok p) (λ e. Fails e (problem_of 64 reader.old)) }
+    ensures rest { OnOk result (reader.new ≡ []) }
 {
     let (name, start) = front(alloc, reader, b"problem")?;
     let (parts, last) = sections(alloc, reader, 63)?;

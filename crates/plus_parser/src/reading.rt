@@ -4,8 +4,8 @@ ghost use Rattle.std.specs.Prelude.{◌≡◌, List, ℕ, Ok, IfOk, MatchResult}
 ghost use Rattle.plus_tree.specs.declared.faults.TextFault.{TextFault};
 ghost use Rattle.plus_tree.specs.declared.trees.Domain.{Domain as DomainTree};
 ghost use Rattle.plus_tree.specs.declared.trees.Problem.{Problem as ProblemTree};
-ghost use Rattle.plus_parser.specs.Items.{items_of};
-ghost use Rattle.plus_parser.specs.Reading.{Fails};
+ghost use Rattle.plus_reading.specs.Items.{items_of};
+ghost use Rattle.plus_reading.specs.Reading.{Fails};
 ghost use Rattle.plus_parser.specs.ReadingDomain.{domain_of};
 ghost use Rattle.plus_parser.specs.ReadingProblem.{problem_of};
 ghost use Rattle.plus_parser.specs.SpellsDomain.{Spells, SpellsWithin};
@@ -13,7 +13,7 @@ ghost use Rattle.plus_parser.specs.SpellsProblem.{SpellsProblem, SpellsProblemWi
 
 use crate::domains::domain;
 use crate::problems::problem;
-use crate::reader::Reader;
+use plus_reading::reader::Reader;
 use plus_tree::{Domain, Problem, TextFault};
 use std::alloc::Global;
 

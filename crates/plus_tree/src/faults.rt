@@ -26,9 +26,6 @@ pub enum TextFault {
     /// A token with which no text of the grammar goes on.
     #[error("bytes {}-{} do not fit the grammar", .span.start, .span.end)]
     Form { span: Span },
-    /// A token with which the grammar goes on, but not the part of it that is read so far.
-    #[error("bytes {}-{} are not read yet", .span.start, .span.end)]
-    NotBuilt { span: Span },
     /// There was no memory for the tree.
     #[error("out of memory")]
     Memory,

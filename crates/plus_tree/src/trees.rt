@@ -217,6 +217,12 @@ pub enum Init {
     Absent(Use, Span),
     /// The first value of a fluent: `(= ..)`, with the place of the whole form.
     Value(Use, Literal, Span),
+    /// A timed initial literal: from this time on the atom is true. `(at 2 ..)`, with the place of
+    /// the whole form.
+    At(Literal, Use, Span),
+    /// A timed initial literal: from this time on the atom is false. `(at 2 (not ..))`, with the place
+    /// of the whole form.
+    AtNot(Literal, Use, Span),
 }
 
 /// A problem.

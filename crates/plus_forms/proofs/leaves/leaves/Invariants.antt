@@ -1,0 +1,12 @@
+use Rattle.std.proofs.Common.{length, []}
+use Rattle.plus_reading.specs.Grammar.{until_close, form_step}
+use Rattle.plus_forms.specs.ReadingForms.{leaf_at}
+use Rattle.plus_reading.proofs.Until.{Stays}
+use Rattle.plus_forms.proofs.leaves.leaves.Given as goal
+
+abbrev pub invariant-found : goal.invariant-found
+invariant-found l =
+    Stays (form_step (leaf_at l.room)) l.room l.found l.reader (until_close (form_step (leaf_at l.room)) l.room (length l.initial.reader) [] l.initial.reader) (length l.initial.reader)
+
+abbrev pub decreases-found : goal.decreases-found
+decreases-found l = length l.reader

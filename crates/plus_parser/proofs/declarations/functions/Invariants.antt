@@ -1,0 +1,12 @@
+use Rattle.std.proofs.Common.{length}
+use Rattle.plus_reading.specs.Grammar.{until_close}
+use Rattle.plus_parser.specs.ReadingDomain.{function_step, no_functions}
+use Rattle.plus_reading.proofs.Until.{Stays}
+use Rattle.plus_parser.proofs.declarations.functions.Given as goal
+
+abbrev pub invariant-found : goal.invariant-found
+invariant-found l =
+    Stays (function_step l.room) l.room l.found l.reader (until_close (function_step l.room) l.room (length l.initial.reader) no_functions l.initial.reader) (length l.initial.reader)
+
+abbrev pub decreases-found : goal.decreases-found
+decreases-found l = length l.reader

@@ -1,0 +1,12 @@
+use Rattle.std.proofs.Common.{length, []}
+use Rattle.plus_reading.specs.Grammar.{until_close, form_step}
+use Rattle.plus_parser.specs.ReadingDomain.{predicate_at}
+use Rattle.plus_reading.proofs.Until.{Stays}
+use Rattle.plus_parser.proofs.declarations.predicates.Given as goal
+
+abbrev pub invariant-found : goal.invariant-found
+invariant-found l =
+    Stays (form_step (predicate_at l.room)) l.room l.found l.reader (until_close (form_step (predicate_at l.room)) l.room (length l.initial.reader) [] l.initial.reader) (length l.initial.reader)
+
+abbrev pub decreases-found : goal.decreases-found
+decreases-found l = length l.reader

@@ -1,0 +1,25 @@
+use Rattle.std.proofs.Common.{sym, arith}
+use Rattle.std.proofs.lemmas.Result.{err_from_is_err_and}
+use Rattle.plus_reading.specs.Reading.{next_of}
+use Rattle.plus_parser.specs.ReadingDomain.{key_step}
+use Rattle.plus_reading.specs.Seen.{seen}
+use Rattle.plus_reading.proofs.Until.{fails_along, stops, closes, fails, goes_on}
+use Rattle.plus_parser.proofs.schemas.keys_into.Goals as goal
+
+pub returns-in_err-token-clause-gives : goal.returns-in_err-token-clause-gives
+returns-in_err-token-clause-gives c =
+    let p = err_from_is_err_and c.from_residual.result c.from_residual.ensures.1 in
+    rw (p.1, p.2) (fails_along c.in_err-token.field-0.0 (next_of c.args.room c.found.reader) _ (λ f e. stops (key_step c.args.room) c.args.room c.found.found c.found.reader _ _ f c.found.invariant e) c.in_err-token.ensures.gives)
+
+pub returns-then-is_close-clause-gives : goal.returns-then-is_close-clause-gives
+returns-then-is_close-clause-gives c =
+    closes (key_step c.args.room) c.args.room c.found.found c.found.reader c.next.new.self _ _ (seen c.in_ok-token.token) c.found.invariant c.in_ok-token.ensures.shorter c.in_ok-token.ensures.gives (sym c.if-is_close.ensures)
+
+pub found-preserved : goal.found-preserved
+found-preserved c =
+    goes_on (key_step c.args.room) c.args.room c.found.found c.key.new.found c.found.reader c.next.new.self c.key.new.reader _ _ (seen c.in_ok-token.token) c.found.invariant c.in_ok-token.ensures.shorter (omega (arith, c.in_ok-key.ensures.shorter)) c.in_ok-token.ensures.gives (sym c.if-is_close.ensures) c.in_ok-key.ensures.gives
+
+pub returns-in_err-key-clause-gives : goal.returns-in_err-key-clause-gives
+returns-in_err-key-clause-gives c =
+    let p = err_from_is_err_and c.from_residual-in_err-key.result c.from_residual-in_err-key.ensures.1 in
+    rw (p.1, p.2) (fails_along c.in_err-key.field-0.0 ((key_step c.args.room) c.found.found (seen c.in_ok-token.token) c.next.new.self) _ (λ f none. fails (key_step c.args.room) c.args.room c.found.found c.found.reader c.next.new.self _ _ (seen c.in_ok-token.token) f c.found.invariant c.in_ok-token.ensures.shorter c.in_ok-token.ensures.gives (sym c.if-is_close.ensures) none) c.in_err-key.ensures.gives)

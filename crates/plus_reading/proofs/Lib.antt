@@ -1,0 +1,16 @@
+pub mod Stream
+pub mod Until
+pub mod Nest
+pub mod Trimmed
+pub mod Tokens
+pub mod Names
+pub mod Heads
+pub mod Level
+pub mod Flat
+pub mod UntilTakes
+pub mod UntilAgain
+pub mod Forms
+pub mod Starts
+pub mod TypedLists
+pub mod ExprLaws
+pub mod ExprForms

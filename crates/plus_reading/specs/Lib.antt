@@ -1,0 +1,8 @@
+pub mod Items
+pub mod Reading
+pub mod Seen
+pub mod Words
+pub mod Literals
+pub mod Grammar
+pub mod Spells
+pub mod Listings

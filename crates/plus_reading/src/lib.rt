@@ -1,0 +1,9 @@
+//! Reads tokens, lists, uses and expressions of PDDL+: what conditions, effects and whole texts are
+//! read from.
+#![tactic(auto)]
+
+pub mod expressions;
+pub mod lists;
+pub mod reader;
+pub mod uses;
+pub mod words;
