@@ -1,0 +1,3 @@
+pub mod Appended
+pub mod Words
+pub mod Canon
