@@ -1,5 +1,8 @@
 -- Searching a table of names is searching the list of their bytes.
-use Rattle.std.proofs.Common.{◌≡◌, ℕ, ◌+◌, Bool, true, List, [], ◌∷◌, ap, refl, map, length, cond, not, position, ◌||◌}
+use Rattle.std.proofs.Common.{◌≡◌, ℕ, zero, suc, ◌+◌, ◌<◌, ◌≤◌, Bool, true, false, List, [], ◌∷◌, ap, sym, refl, ◌∙◌, map, length, cond, position, ◌||◌, drop, drop-cons, get_or, arith, Vec, Global, ◌&&◌}
+use Rattle.std.specs.Str.{bytes_eq}
+use Rattle.std.specs.Cmp.Lexicographic.{pointwise}
+use Rattle.plus_types.specs.Faults.{same_names}
 use Rattle.std.specs.List.{list_any, prefix_len}
 use Rattle.std.proofs.lemmas.List.{length-map}
 
@@ -13,3 +16,32 @@ prefix_len-map p f (x ∷ xs) = ap (λ n. cond (p (f x)) (1 + n) 0) (prefix_len-
 
 pub position-map : {X Y : Type 0} (p : Y → Bool) (f : X → Y) (xs : List X) → position (λ x. p (f x)) xs ≡ position p (map f xs)
 position-map p f xs = simp (prefix_len-map, length-map)
+
+-- the member at the index passes
+pub any-found : {X : Type 0} (p : X → Bool) (xs : List X) (i : ℕ) (x : X) → i < length xs → x ≡ get_or xs i x → p x ≡ true → list_any p (drop i xs) ≡ true
+any-found p xs i x h m e = ap (list_any p) (drop-cons xs i x h) ∙ ap (λ y. p y || list_any p (drop (suc i) xs)) (sym m) ∙ ap (λ b. b || list_any p (drop (suc i) xs)) e
+
+-- no member is left
+pub any-passed : {X : Type 0} (p : X → Bool) (xs : List X) (i : ℕ) → length xs ≤ i → list_any p (drop i xs) ≡ false
+any-passed p [] zero h = refl
+any-passed p [] (suc i) h = refl
+any-passed p (x ∷ xs) zero h = absurd (omega arith)
+any-passed p (x ∷ xs) (suc i) h = any-passed p xs i (omega arith)
+
+-- two keys are the same where their names are
+pub same-shown :
+    (xs ys : List (Vec ℕ Global))
+    → pointwise (λ x y. bytes_eq x.items y.items) xs ys ≡ same_names (map (λ n. n.items) xs) (map (λ n. n.items) ys)
+same-shown [] [] = refl
+same-shown [] (y ∷ ys) = refl
+same-shown (x ∷ xs) [] = refl
+same-shown (x ∷ xs) (y ∷ ys) = ap (λ b. bytes_eq x.items y.items && b) (same-shown xs ys)
+
+pub any-same-shown :
+    (k : List (Vec ℕ Global)) (keys : List (Vec (Vec ℕ Global) Global))
+    → list_any (λ y. pointwise (λ x z. bytes_eq x.items z.items) k y.items) keys
+    ≡ list_any (same_names (map (λ n. n.items) k)) (map (λ key. map (λ n. n.items) key.items) keys)
+any-same-shown k [] = refl
+any-same-shown k (y ∷ ys) =
+    ap (λ b. b || list_any (λ z. pointwise (λ x w. bytes_eq x.items w.items) k z.items) ys) (same-shown k y.items)
+    ∙ ap (λ b. same_names (map (λ n. n.items) k) (map (λ n. n.items) y.items) || b) (any-same-shown k ys)

@@ -1,15 +1,15 @@
 -- How the faults of forms that are walked one after the other come together.
-use Rattle.std.proofs.Common.{◌≡◌, ℕ, suc, ◌<◌, rules, IsTrue, List, [], ◌∷◌, ◌++◌, ◌∙◌, ap, sym, length, drop, get_or, drop-cons}
-use Rattle.plus_tree.specs.Cond.{Cond, conds_of}
-use Rattle.plus_tree.specs.Effect.{Effect, effects_of}
-use Rattle.plus_tree.specs.declared.trees.Schema.{Schema}
-use Rattle.plus_tree.specs.declared.trees.Domain.{Domain}
-use Rattle.plus_tree.specs.declared.trees.Problem.{Problem}
-use Rattle.plus_types.specs.declared.faults.File.{File}
-use Rattle.plus_types.specs.declared.faults.File.TheVariants as files
+use Rattle.std.proofs.Common.{◌≡◌, ℕ, suc, ◌<◌, List, [], ◌∷◌, ◌++◌, ◌∙◌, ap, sym, length, drop, get_or, drop-cons, IsTrue, rules}
 use Rattle.plus_types.specs.declared.faults.TypeFault.{TypeFault}
 use Rattle.plus_types.specs.declared.faults.TypeFault.TheVariants.{At, Memory}
-use Rattle.plus_types.specs.Faults.{IsFirstFault, cond_faults, conds_faults, effect_faults, effects_faults, schema_faults, section_faults, predicate_faults, action_faults, domain_name_faults, object_faults, init_faults, predicate_names, faults_of, is_well_typed}
+use Rattle.plus_tree.specs.declared.terms.Term.{Term}
+use Rattle.plus_tree.specs.declared.terms.TypedName.{TypedName}
+use Rattle.plus_tree.specs.declared.trees.Domain.{Domain}
+use Rattle.plus_tree.specs.declared.trees.Problem.{Problem}
+use Rattle.plus_types.specs.Types.{Binding, bindings_of, bound_names}
+use Rattle.plus_types.specs.Faults.{IsFirstFault, Context, argument_faults, arguments_faults, faults_of, is_well_typed, types_faults, list_faults, heads_faults, declaration_faults, rule_faults, problem_faults, state_faults, domain_name_faults}
+use Rattle.plus_types.specs.Unbuilt.{unbuilt_faults}
+use Rattle.plus_types.specs.declared.faults.File.TheVariants as files
 
 -- the first form has none, and neither has the rest
 pub none_more : (xs ys : List TypeFault) → xs ≡ [] → ys ≡ [] → xs ++ ys ≡ []
@@ -27,83 +27,115 @@ pub first_later : (xs ys : List TypeFault) (e : TypeFault) → xs ≡ [] → IsF
 first_later [] ys e n h = h
 first_later (x ∷ xs) ys e n h = cc
 
--- a member of several conditions has a fault, and those before it have none
-pub conds_err :
-    (names : List (List ℕ)) (file : File) (xs : List Cond) (i : ℕ) (x : Cond) (e : TypeFault)
-    → i < length xs → x ≡ get_or xs i x
-    → conds_faults names file (conds_of xs) ≡ conds_faults names file (conds_of (drop i xs))
-    → IsFirstFault (cond_faults names file x) e → IsFirstFault (conds_faults names file (conds_of xs)) e
-conds_err names file xs i x e h m w f =
-    let d : drop i xs ≡ x ∷ drop (suc i) xs = drop-cons xs i x h ∙ ap (λ y. y ∷ drop (suc i) xs) (sym m) in
-    rw w (rw d (first_here _ _ e f))
+pub ruleset walking = (none_more, first_here, first_later)
 
-pub effects_err :
-    (names : List (List ℕ)) (xs : List Effect) (i : ℕ) (x : Effect) (e : TypeFault)
-    → i < length xs → x ≡ get_or xs i x
-    → effects_faults names (effects_of xs) ≡ effects_faults names (effects_of (drop i xs))
-    → IsFirstFault (effect_faults names x) e → IsFirstFault (effects_faults names (effects_of xs)) e
-effects_err names xs i x e h m w f =
+-- a member of a list has a fault, and those before it have none
+pub member_err :
+    {X : Type 0} (all : List X → List TypeFault) (one : X → List TypeFault)
+    → ((x : X) (xs : List X) → all (x ∷ xs) ≡ one x ++ all xs)
+    → (xs : List X) (i : ℕ) (x : X) (e : TypeFault) → i < length xs → x ≡ get_or xs i x → all xs ≡ all (drop i xs)
+    → IsFirstFault (one x) e → IsFirstFault (all xs) e
+member_err all one step xs i x e h m w f =
     let d : drop i xs ≡ x ∷ drop (suc i) xs = drop-cons xs i x h ∙ ap (λ y. y ∷ drop (suc i) xs) (sym m) in
-    rw w (rw d (first_here _ _ e f))
+    rw w (rw d (rw (step x (drop (suc i) xs)) (first_here _ _ e f)))
 
--- an action has a fault, and those before it have none
-pub schemas_err :
-    (names earlier table : List (List ℕ)) (xs : List Schema) (i : ℕ) (x : Schema) (e : TypeFault)
-    → i < length xs → x ≡ get_or xs i x
-    → action_faults names earlier xs ≡ action_faults names table (drop i xs)
-    → IsFirstFault (schema_faults names table x) e → IsFirstFault (action_faults names earlier xs) e
-schemas_err names earlier table xs i x e h m w f =
+-- the same, where a walk carries more than the list
+pub walk_err :
+    {X : Type 0} (whole : List TypeFault) (all : List X → List TypeFault) (one : X → List TypeFault) (rest : X → List X → List TypeFault)
+    → ((x : X) (xs : List X) → all (x ∷ xs) ≡ one x ++ rest x xs)
+    → (xs : List X) (i : ℕ) (x : X) (e : TypeFault) → i < length xs → x ≡ get_or xs i x → whole ≡ all (drop i xs)
+    → IsFirstFault (one x) e → IsFirstFault whole e
+walk_err whole all one rest step xs i x e h m w f =
     let d : drop i xs ≡ x ∷ drop (suc i) xs = drop-cons xs i x h ∙ ap (λ y. y ∷ drop (suc i) xs) (sym m) in
-    rw w (rw d (first_here _ _ e f))
+    rw w (rw d (rw (step x (drop (suc i) xs)) (first_here _ _ e f)))
+
+-- an argument does not fit its parameter, and those before it do
+pub pairs_err :
+    (c : Context) (vars : List Binding) (whole : List TypeFault) (ps : List TypedName) (ts : List Term) (i : ℕ) (p : TypedName) (t : Term) (e : TypeFault)
+    → i < length ps → i < length ts → p ≡ get_or ps i p → t ≡ get_or ts i t
+    → whole ≡ arguments_faults c vars (drop i ps) (drop i ts) → IsFirstFault (argument_faults c vars p.kind.name t) e → IsFirstFault whole e
+pairs_err c vars whole ps ts i p t e h k m n w f =
+    let d : drop i ps ≡ p ∷ drop (suc i) ps = drop-cons ps i p h ∙ ap (λ y. y ∷ drop (suc i) ps) (sym m) in
+    let g : drop i ts ≡ t ∷ drop (suc i) ts = drop-cons ts i t k ∙ ap (λ y. y ∷ drop (suc i) ts) (sym n) in
+    rw w (rw (d, g) (first_here _ _ e f))
 
 -- a pair without faults is well typed
 pub well_typed_if_none : (d : Domain) (p : Problem) → faults_of d p ≡ [] → IsTrue (is_well_typed d p)
 well_typed_if_none d p e = rw e search rules
 
-pub ruleset walking = (none_more, first_here, first_later)
+-- the parts of the walk: the four declarations, the three kinds of rules, the problem, what is not handled yet
+pub declared_none :
+    (d : Domain) → types_faults (bindings_of d.types) [] d.types ≡ [] → list_faults (bindings_of d.types) files.Domain [] [] d.constants ≡ []
+    → heads_faults (bindings_of d.types) [] d.predicates ≡ [] → heads_faults (bindings_of d.types) [] d.functions ≡ [] → declaration_faults d ≡ []
+unfolding declaration_faults
+declared_none d a b c e = none_more _ _ a (none_more _ _ b (none_more _ _ c e))
 
--- the seven parts of the walk, the last four over the table of the predicates
-pub pair_none :
-    (d : Domain) (p : Problem) (names : List (List ℕ)) → names ≡ predicate_names d → section_faults d ≡ []
-    → predicate_faults [] d.predicates ≡ [] → action_faults names [] d.actions ≡ [] → domain_name_faults d p ≡ []
-    → object_faults p ≡ [] → init_faults names p.init ≡ [] → cond_faults names files.Problem p.goal ≡ [] → faults_of d p ≡ []
-pair_none d p names e z a b c o i g =
-    none_more _ _ z (none_more _ _ a (none_more _ _ (rw e at b) (none_more _ _ c (none_more _ _ o (none_more _ _ (rw e at i) (rw e at g))))))
+pub declared_types : (d : Domain) (f : TypeFault) → IsFirstFault (types_faults (bindings_of d.types) [] d.types) f → IsFirstFault (declaration_faults d) f
+unfolding declaration_faults
+declared_types d f h = first_here _ _ f h
 
-pub pair_sections : (d : Domain) (p : Problem) (f : TypeFault) → IsFirstFault (section_faults d) f → IsFirstFault (faults_of d p) f
-pair_sections d p f h = first_here _ _ f h
+pub declared_constants :
+    (d : Domain) (f : TypeFault) → types_faults (bindings_of d.types) [] d.types ≡ [] → IsFirstFault (list_faults (bindings_of d.types) files.Domain [] [] d.constants) f
+    → IsFirstFault (declaration_faults d) f
+unfolding declaration_faults
+declared_constants d f a h = first_later _ _ f a (first_here _ _ f h)
 
-pub pair_predicates : (d : Domain) (p : Problem) (f : TypeFault) → section_faults d ≡ [] → IsFirstFault (predicate_faults [] d.predicates) f → IsFirstFault (faults_of d p) f
-pair_predicates d p f z h = first_later _ _ f z (first_here _ _ f h)
+pub declared_predicates :
+    (d : Domain) (f : TypeFault) → types_faults (bindings_of d.types) [] d.types ≡ [] → list_faults (bindings_of d.types) files.Domain [] [] d.constants ≡ []
+    → IsFirstFault (heads_faults (bindings_of d.types) [] d.predicates) f → IsFirstFault (declaration_faults d) f
+unfolding declaration_faults
+declared_predicates d f a b h = first_later _ _ f a (first_later _ _ f b (first_here _ _ f h))
 
-pub pair_actions :
-    (d : Domain) (p : Problem) (names : List (List ℕ)) (f : TypeFault) → names ≡ predicate_names d → section_faults d ≡ []
-    → predicate_faults [] d.predicates ≡ [] → IsFirstFault (action_faults names [] d.actions) f → IsFirstFault (faults_of d p) f
-pair_actions d p names f e z a h = first_later _ _ f z (first_later _ _ f a (first_here _ _ f (rw e at h)))
+pub declared_functions :
+    (d : Domain) (f : TypeFault) → types_faults (bindings_of d.types) [] d.types ≡ [] → list_faults (bindings_of d.types) files.Domain [] [] d.constants ≡ []
+    → heads_faults (bindings_of d.types) [] d.predicates ≡ [] → IsFirstFault (heads_faults (bindings_of d.types) [] d.functions) f → IsFirstFault (declaration_faults d) f
+unfolding declaration_faults
+declared_functions d f a b c h = first_later _ _ f a (first_later _ _ f b (first_later _ _ f c h))
 
-pub pair_name :
-    (d : Domain) (p : Problem) (names : List (List ℕ)) (f : TypeFault) → names ≡ predicate_names d → section_faults d ≡ []
-    → predicate_faults [] d.predicates ≡ [] → action_faults names [] d.actions ≡ [] → IsFirstFault (domain_name_faults d p) f → IsFirstFault (faults_of d p) f
-pair_name d p names f e z a b h = first_later _ _ f z (first_later _ _ f a (first_later _ _ f (rw e at b) (first_here _ _ f h)))
+pub pair_none : (d : Domain) (p : Problem) → declaration_faults d ≡ [] → rule_faults d ≡ [] → problem_faults d p ≡ [] → unbuilt_faults d p ≡ [] → faults_of d p ≡ []
+pair_none d p a b c u = none_more _ _ (none_more _ _ a (none_more _ _ b c)) u
 
-pub pair_objects :
-    (d : Domain) (p : Problem) (names : List (List ℕ)) (f : TypeFault) → names ≡ predicate_names d → section_faults d ≡ []
-    → predicate_faults [] d.predicates ≡ [] → action_faults names [] d.actions ≡ [] → domain_name_faults d p ≡ []
-    → IsFirstFault (object_faults p) f → IsFirstFault (faults_of d p) f
-pair_objects d p names f e z a b c h = first_later _ _ f z (first_later _ _ f a (first_later _ _ f (rw e at b) (first_later _ _ f c (first_here _ _ f h))))
+pub pair_declared : (d : Domain) (p : Problem) (f : TypeFault) → IsFirstFault (declaration_faults d) f → IsFirstFault (faults_of d p) f
+pair_declared d p f h = first_here _ _ f (first_here _ _ f h)
 
-pub pair_init :
-    (d : Domain) (p : Problem) (names : List (List ℕ)) (f : TypeFault) → names ≡ predicate_names d → section_faults d ≡ []
-    → predicate_faults [] d.predicates ≡ [] → action_faults names [] d.actions ≡ [] → domain_name_faults d p ≡ [] → object_faults p ≡ []
-    → IsFirstFault (init_faults names p.init) f → IsFirstFault (faults_of d p) f
-pair_init d p names f e z a b c o h =
-    first_later _ _ f z (first_later _ _ f a (first_later _ _ f (rw e at b) (first_later _ _ f c (first_later _ _ f o (first_here _ _ f (rw e at h))))))
+pub pair_rules : (d : Domain) (p : Problem) (f : TypeFault) → declaration_faults d ≡ [] → IsFirstFault (rule_faults d) f → IsFirstFault (faults_of d p) f
+pair_rules d p f a h = first_here _ _ f (first_later _ _ f a (first_here _ _ f h))
 
-pub pair_goal :
-    (d : Domain) (p : Problem) (names : List (List ℕ)) (f : TypeFault) → names ≡ predicate_names d → section_faults d ≡ []
-    → predicate_faults [] d.predicates ≡ [] → action_faults names [] d.actions ≡ [] → domain_name_faults d p ≡ [] → object_faults p ≡ []
-    → init_faults names p.init ≡ [] → IsFirstFault (cond_faults names files.Problem p.goal) f → IsFirstFault (faults_of d p) f
-pair_goal d p names f e z a b c o i h =
-    first_later _ _ f z (first_later _ _ f a (first_later _ _ f (rw e at b) (first_later _ _ f c (first_later _ _ f o (first_later _ _ f (rw e at i) (rw e at h))))))
+pub pair_problem :
+    (d : Domain) (p : Problem) (f : TypeFault) → declaration_faults d ≡ [] → rule_faults d ≡ [] → IsFirstFault (problem_faults d p) f → IsFirstFault (faults_of d p) f
+pair_problem d p f a b h = first_here _ _ f (first_later _ _ f a (first_later _ _ f b h))
 
-pub ruleset walking_pair = (pair_none, pair_sections, pair_predicates, pair_actions, pair_name, pair_objects, pair_init, pair_goal)
+pub pair_unbuilt :
+    (d : Domain) (p : Problem) (f : TypeFault) → declaration_faults d ≡ [] → rule_faults d ≡ [] → problem_faults d p ≡ [] → IsFirstFault (unbuilt_faults d p) f → IsFirstFault (faults_of d p) f
+pair_unbuilt d p f a b c h = first_later _ _ f (none_more _ _ a (none_more _ _ b c)) h
+
+-- the objects, the name of the domain, the initial state and the goal
+pub problem_none :
+    (d : Domain) (p : Problem) → list_faults (bindings_of d.types) files.Problem [] (bound_names (bindings_of d.constants)) p.objects ≡ [] → domain_name_faults d p ≡ [] → state_faults d p ≡ []
+    → problem_faults d p ≡ []
+unfolding problem_faults
+problem_none d p a b c = none_more _ _ a (none_more _ _ b c)
+
+pub problem_objects :
+    (d : Domain) (p : Problem) (f : TypeFault) → IsFirstFault (list_faults (bindings_of d.types) files.Problem [] (bound_names (bindings_of d.constants)) p.objects) f
+    → IsFirstFault (problem_faults d p) f
+unfolding problem_faults
+problem_objects d p f h = first_here _ _ f h
+
+pub problem_name :
+    (d : Domain) (p : Problem) (f : TypeFault) → list_faults (bindings_of d.types) files.Problem [] (bound_names (bindings_of d.constants)) p.objects ≡ []
+    → IsFirstFault (domain_name_faults d p) f → IsFirstFault (problem_faults d p) f
+unfolding problem_faults
+problem_name d p f a h = first_later _ _ f a (first_here _ _ f h)
+
+pub problem_state :
+    (d : Domain) (p : Problem) (f : TypeFault) → list_faults (bindings_of d.types) files.Problem [] (bound_names (bindings_of d.constants)) p.objects ≡ [] → domain_name_faults d p ≡ []
+    → IsFirstFault (state_faults d p) f → IsFirstFault (problem_faults d p) f
+unfolding problem_faults
+problem_state d p f a b h = first_later _ _ f a (first_later _ _ f b h)
+
+pub ruleset walking_declarations = (declared_none, declared_types, declared_constants, declared_predicates, declared_functions)
+
+pub ruleset walking_problem = (problem_none, problem_objects, problem_name, problem_state)
+
+pub ruleset walking_pair = (pair_none, pair_declared, pair_rules, pair_problem, pair_unbuilt)

@@ -1,11 +1,22 @@
 //! Which domains and problems are well typed.
 #![tactic(auto)]
 
+mod conditions;
+mod declarations;
+pub mod effects;
 pub mod faults;
+mod initial;
+pub mod kinds;
+pub mod known;
 pub mod names;
+mod schemas;
 pub mod typed;
-mod walk;
+pub mod types;
+mod unbuilt;
+mod uses;
 
 pub use faults::{File, TypeFault, Wrong};
+pub use kinds::Kinds;
 pub use names::Names;
 pub use typed::{Typed, check};
+pub use types::Types;

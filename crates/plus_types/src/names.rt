@@ -57,6 +57,18 @@ impl Names {
         self.table.contains(name)
     }
 
+    /// Whether there is a name other than this one.
+    pub fn has_another(&self, name: &[u8]) -> bool
+        ensures { result ≡ list_any (λ x. not (bytes_eq x name.now)) self.now }
+    {
+        'keys: for key in self.table.as_slice() {
+            if key.as_slice() != name {
+                return true;
+            }
+        }
+        false
+    }
+
     /// How many names there are.
     pub fn len(&self) -> usize
         ensures { result ≡ length self.now }

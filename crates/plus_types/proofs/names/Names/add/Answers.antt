@@ -1,5 +1,4 @@
-use Rattle.std.proofs.Common.{◌≡◌, ◌∙◌, ap, sym, not, Vec, Global, ℕ, List}
-use Rattle.std.specs.List.{list_any}
+use Rattle.std.proofs.Common.{◌∙◌, ap, sym, not, Vec, Global, ℕ}
 use Rattle.std.specs.Str.{bytes_eq}
 use Rattle.plus_types.proofs.NamesLemmas.{list_any-map}
 use Rattle.plus_types.proofs.names.Names.add.Goals as goal

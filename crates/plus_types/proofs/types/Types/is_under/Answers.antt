@@ -1,0 +1,12 @@
+use Rattle.std.proofs.Common.{◌∙◌, ap, sym, ◌||◌}
+use Rattle.plus_types.specs.Types.{is_above}
+use Rattle.plus_types.proofs.TypesLemmas.{under-is}
+use Rattle.plus_types.proofs.types.Types.is_under.Goals as goal
+
+pub returns-then-eq : goal.returns-then-eq
+returns-then-eq c =
+    sym (under-is c.args.self.now c.args.low.now c.args.high.now ∙ ap (λ b. b || is_above c.args.self.now c.args.high.now c.args.low.now) (sym c.eq.ensures ∙ c.if-eq.true))
+
+pub returns : goal.returns
+returns c =
+    c.is_above.ensures ∙ sym (under-is c.args.self.now c.args.low.now c.args.high.now ∙ ap (λ b. b || is_above c.args.self.now c.args.high.now c.args.low.now) (sym c.eq.ensures ∙ c.if-eq.false))

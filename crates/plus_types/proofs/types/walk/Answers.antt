@@ -1,0 +1,24 @@
+use Rattle.std.proofs.Common.{refl, ◌++◌, [], ◌∷◌, ◌∙◌, ap}
+use Rattle.std.proofs.lemmas.Result.{err_from_is_err_and}
+use Rattle.plus_types.specs.Types.{bindings_of, bound_names}
+use Rattle.plus_types.specs.Faults.{listed_faults, types_faults}
+use Rattle.plus_types.proofs.WalkLemmas.{walk_err}
+use Rattle.plus_types.proofs.TypesLemmas.{take-past, drop-past}
+use Rattle.plus_types.proofs.SoundLemmas.{well_listed}
+use Rattle.plus_types.proofs.types.walk.Goals as goal
+
+pub returns-in_err-listed-clause-walks : goal.returns-in_err-listed-clause-walks
+returns-in_err-listed-clause-walks c =
+    let p = err_from_is_err_and c.from_residual-in_err-listed.result c.from_residual-in_err-listed.ensures.1 in
+    let bs = bindings_of c.args.types.now in
+    let before = bound_names c.types.table in
+    rw (p.1, p.2) (walk_err _ (types_faults bs before) (listed_faults bs before) (λ t ts. types_faults bs (before ++ t.name.name ∷ []) ts) (λ t ts. refl)
+    c.args.types.now c.types.member-index c.member-item.result _ c.types-test.true c.member-item.is c.types.invariant.walked c.in_err-listed.ensures.walks)
+
+pub invariant_of-result : goal.invariant_of-result
+invariant_of-result c =
+    let past = take-past c.args.types.now c.types.member-index c.types-test.false in
+    let t = rw past at c.types.invariant.table in
+    let bs = bindings_of c.args.types.now in
+    let done = c.types.invariant.walked ∙ ap (types_faults bs (bound_names c.types.table)) (drop-past c.args.types.now c.types.member-index c.types-test.false) in
+    rw t (well_listed c.args.types.now c.in_ok-above.above done c.in_ok-above.ensures)
