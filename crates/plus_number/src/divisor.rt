@@ -1,8 +1,9 @@
-// Greatest common divisors, and a size under a sign.
+//! Greatest common divisors, and a size under a sign.
+
 ghost use Rattle.std.specs.Prelude.{◌≡◌, ◌<◌, ◌≤◌};
 ghost use Rattle.plus_fraction.specs.Gcd.{gcd, with_sign};
 
-// by Euclid's algorithm on 64 bits
+/// The greatest common divisor of 64 bits.
 pub fn narrow_divisor(a: u64, b: u64) -> u64
     ensures is_gcd { result ≡ gcd a b }
     ensures above { 0 < b → 0 < result }
@@ -17,7 +18,7 @@ pub fn narrow_divisor(a: u64, b: u64) -> u64
     x
 }
 
-// by Euclid's algorithm on 128 bits, down to where 64 bits serve
+/// The greatest common divisor, by Euclid's algorithm: on 128 bits down to where 64 bits serve.
 pub fn common_divisor(a: u128, b: u128) -> u128
     ensures is_gcd { result ≡ gcd a b }
     ensures above { 0 < b → 0 < result }
@@ -36,7 +37,7 @@ pub fn common_divisor(a: u128, b: u128) -> u128
     }
 }
 
-// size under the sign of n
+/// A size under the sign of `n`.
 pub fn signed(n: i128, size: u64) -> i64
     requires { size ≤ 9223372036854775807 }
     ensures { result ≡ with_sign n size }

@@ -2,7 +2,7 @@
 #![tactic(auto)]
 
 pub mod consts;
-mod divisor;
+pub mod divisor;
 pub mod exact;
 pub mod frac;
 pub mod ticks;

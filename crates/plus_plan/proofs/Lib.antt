@@ -6,6 +6,5 @@ pub mod Again
 pub mod Cutting
 pub mod OneLine
 pub mod OnePlace
-pub mod Reduced
 pub mod Stops
 pub mod Places

@@ -1,0 +1,76 @@
+//! The exact numbers that literals mean.
+
+ghost use Rattle.std.specs.Prelude.{◌≡◌, ◌<◌, ◌≤◌, ◌^◌};
+ghost use Rattle.plus_fraction.specs.Fraction.{over};
+ghost use Rattle.plus_number.specs.Exact.{Answers};
+ghost use Rattle.plus_literal.specs.Value.{signed_whole, AnswersLiteral};
+
+use plus_number::divisor::common_divisor;
+use plus_number::exact::{Exact, Outside};
+use plus_number::frac::Frac64;
+use plus_tree::Literal;
+
+/// A type of exact fractions whose values can be had from parts of any size.
+pub trait FromParts: Exact {
+    /// The fraction top/bottom, or its opposite. It is `Outside` exactly where that is no value of the
+    /// type, as when its parts are too great even with their common factors taken out.
+    fn from_parts(negative: bool, top: u128, bottom: u128) -> Result<Self, Outside>
+        requires { 0 < bottom }
+        ensures { Answers Self.value Self.fits (over (signed_whole negative top) bottom) result };
+}
+
+// The greatest part of a `Frac64`.
+const GREATEST: u128 = 9223372036854775807;
+
+// A size, or its opposite.
+fn signed(negative: bool, size: u64) -> i64
+    requires { size ≤ 9223372036854775807 }
+    ensures { result ≡ signed_whole negative size }
+{
+    if negative {
+        -(size as i64)
+    } else {
+        size as i64
+    }
+}
+
+impl FromParts for Frac64 {
+    fn from_parts(negative: bool, top: u128, bottom: u128) -> Result<Frac64, Outside> {
+        let divisor = common_divisor(top, bottom);
+        let reduced_top = top / divisor;
+        let reduced_bottom = bottom / divisor;
+        if reduced_top > GREATEST {
+            return Err(Outside);
+        }
+        if reduced_bottom > GREATEST {
+            return Err(Outside);
+        }
+        let signed_top = signed(negative, reduced_top as u64);
+        Frac64::ratio(signed_top, reduced_bottom as i64)
+    }
+}
+
+/// The most places of a literal.
+const MOST_PLACES: u8 = 9;
+
+fn power_of_ten(places: u8) -> u128
+    requires { places ≤ 9 }
+    ensures is { result ≡ 10 ^ places }
+    ensures above { 0 < result }
+{
+    10u128.pow(u32::from(places))
+}
+
+/// The number that a literal means. It is `Outside` exactly where that is no value of the type.
+pub fn literal<Q: FromParts>(literal: &Literal) -> Result<Q, Outside>
+    ensures { AnswersLiteral Q.value Q.fits literal.now result }
+{
+    if literal.places > MOST_PLACES {
+        return Err(Outside);
+    }
+    Q::from_parts(
+        literal.negative,
+        literal.digits,
+        power_of_ten(literal.places),
+    )
+}
