@@ -1,3 +1,8 @@
-pub mod FormsLemmas
+pub mod EnvironmentsLemmas
+pub mod ExpressionsLemmas
+pub mod ConditionsLemmas
+pub mod EffectsLemmas
+pub mod RatesLemmas
 pub mod InitialLemmas
-pub mod GroundLemmas
+pub mod CallsLemmas
+pub mod NothingLemmas

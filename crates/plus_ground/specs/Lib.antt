@@ -1,2 +1,4 @@
-pub mod Expansion
 pub mod Refusals
+pub mod Chains
+pub mod Entered
+pub mod Nothing

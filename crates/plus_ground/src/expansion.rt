@@ -1,137 +1,188 @@
 //! The ground problem of a well-typed pair, and the instance of a call.
 
-ghost use Rattle.std.specs.Prelude.{◌≡◌, [], ◌<◌, ◌≤◌, ◌^◌, length, map, position, IfOk, IfErr, MatchResult};
+ghost use Rattle.std.specs.Prelude.{◌≡◌, All, None, Some, length, slice_get, nat_eq, IfOk, MatchResult, MatchOption, if◌then◌else◌};
+ghost use Rattle.std.specs.List.{list_any, position_or_len};
 ghost use Rattle.std.specs.Str.{bytes_eq};
-ghost use Rattle.plus_model.specs.Plan.{Instance};
+ghost use Rattle.plus_literal.specs.Value.{LiteralFits};
 ghost use Rattle.plus_state.specs.View.{problem_of, labels_of, action_of};
 ghost use Rattle.plus_state.specs.Fits.{ProblemFits, ActionFits};
-ghost use Rattle.plus_types.specs.Faults.{init_faults, predicate_names, action_names, is_empty};
-ghost use Rattle.plus_ground.specs.Expansion.{initial_state, entered, HasPlace, expanded, labels_meant, label_of, called_of};
-ghost use Rattle.plus_ground.specs.Refusals.{NamesAction, RefusesGround, RefusesCall};
+ghost use Rattle.plus_types.specs.Faults.{action_names};
+ghost use Rattle.plus_numbering.specs.Numbered.{context};
+ghost use Rattle.plus_numbering.specs.Numbers.{ground_names};
+ghost use Rattle.plus_expansion.specs.Expansion.{expanded, labels_meant};
+ghost use Rattle.plus_expansion.specs.Calls.{called_of, bound_by};
+ghost use Rattle.plus_expansion.specs.Literals.{literals_of};
+ghost use Rattle.plus_expansion.specs.Counting.{IsGroundable};
+ghost use Rattle.plus_ground.specs.Refusals.{IsInstance, RefusesGround, RefusesCall};
 
-use crate::faults::{Count, GroundFault, InstanceFault};
-use crate::forms::{action, atom_id, condition, label};
-use plus_number::exact::Exact;
-use plus_state::{Action, Ground, Label, State};
-use plus_tree::{Call, Head, Init, Schema};
-use plus_types::{Names, Typed};
+use crate::conditions::condition;
+use crate::environments::Environment;
+use crate::faults::{GroundFault, InstanceFault};
+use crate::initial::initial;
+use crate::schemas::{action, events, processes};
+use plus_limits::{fit, is_small, schema_fits, within};
+use plus_literal::FromParts;
+use plus_numbering::{CountFault, Numbering};
+use plus_state::{Action, Ground};
+use plus_tree::{Call, Name, Schema, TypedName};
+use plus_types::Typed;
 use std::alloc::{AllocError, Global};
 
-/// The greatest number of ground atoms.
-pub const MOST_ATOMS: usize = 200000;
-
-fn atom_labels(alloc: Global, heads: &[Head]) -> Result<Vec<Label>, AllocError>
-    ensures { IfOk result (λ ls. ls.items ≡ map label_of (map (λ h. h.name.name) heads.now)) }
+// Tests that a pair is inside the limits, and that its literals are values of the type of numbers.
+fn limits<Q: FromParts>(numbering: &Numbering) -> Result<(), GroundFault>
+    ensures { MatchResult result
+        (λ _. IsGroundable Q.fits numbering.now.typed.now.domain numbering.now.typed.now.problem)
+        (RefusesGround Q.fits numbering.now.typed.now.domain numbering.now.typed.now.problem) }
 {
-    let mut labels = Vec::new(alloc);
-    'heads: for head in heads {
-        labels.push(label(alloc, head.name.name.bytes())?)?;
+    match within(numbering) {
+        Ok(()) => {}
+        Err(CountFault::TooMany { kind, most }) => {
+            return Err(GroundFault::TooMany { kind, most });
+        }
+        Err(CountFault::Memory) => return Err(GroundFault::Memory),
     }
-    Ok(labels)
-}
-
-// Enters a member of `:init`.
-fn enter<Q: Exact>(names: &Names, member: &Init, state: &mut State<Q>)
-    requires few { length names.now < 2 ^ 32 }
-    requires within { HasPlace names.now member.now state.old }
-    ensures { state.new ≡ entered names.now member.now state.old }
-{
-    match member {
-        Init::Holds(used) => state.put(atom_id(names, used), true),
-        // Stand in no well-typed pair yet.
-        Init::Absent(_, _) | Init::Value(_, _, _) => {}
+    match fit::<Q>(numbering.typed) {
+        Ok(()) => Ok(()),
+        Err(unfit) => Err(GroundFault::Literal {
+            file: unfit.file,
+            span: unfit.span,
+        }),
     }
 }
 
-#[tactic(auto, using(crate::proofs::InitialLemmas::initially))]
-fn initial<Q: Exact>(alloc: Global, names: &Names, inits: &[Init]) -> Result<State<Q>, AllocError>
-    requires few { length names.now < 2 ^ 32 }
-    requires known { init_faults names.now inits.now ≡ [] }
-    ensures { IfOk result (λ s. s ≡ initial_state names.now inits.now) }
+// The ground problem of a pair whose literals are values of the type of numbers.
+fn expand<Q: FromParts>(alloc: Global, numbering: &Numbering) -> Result<Ground<Q>, AllocError>
+    requires { All (λ l. LiteralFits Q.fits l.1) (literals_of numbering.now.typed.now.domain numbering.now.typed.now.problem) }
+    ensures expands { IfOk result (λ g. problem_of Q.value g ≡ expanded numbering.now.typed.now.domain numbering.now.typed.now.problem) }
+    ensures labels { IfOk result (λ g. labels_of g ≡ labels_meant numbering.now.typed.now.domain numbering.now.typed.now.problem) }
 {
-    let mut state = State::new(alloc, names.len() as u32, 0)?;
-    'members: for member in inits {
-        enter(names, member, &mut state);
-    }
-    Ok(state)
-}
-
-/// Grounds a well-typed pair. `TooMany` comes where there are more than 200,000 ground atoms; the
-/// other counts cannot pass yet.
-#[tactic(auto, using(crate::proofs::GroundLemmas::grounding))]
-pub fn ground<Q: Exact>(alloc: Global, typed: &Typed) -> Result<Ground<Q>, GroundFault>
-    ensures expands { IfOk result (λ g. problem_of Q.value g ≡ expanded typed.now.domain typed.now.problem) }
-    ensures labels { IfOk result (λ g. labels_of g ≡ labels_meant typed.now.domain) }
-    ensures fits { IfOk result (λ g. ProblemFits (expanded typed.now.domain typed.now.problem)) }
-    ensures counts { MatchResult result (λ _. length (predicate_names typed.now.domain) ≤ 200000)
-        (RefusesGround typed.now.domain) }
-{
-    if typed.predicates.len() > MOST_ATOMS {
-        return Err(GroundFault::TooMany {
-            kind: Count::Atoms,
-            most: MOST_ATOMS as u32,
-        });
-    }
-    let atoms = atom_labels(alloc, typed.domain.predicates.as_slice())?;
-    let initial = initial(alloc, &typed.predicates, typed.problem.init.as_slice())?;
-    let goal = condition(alloc, &typed.predicates, true, &typed.problem.goal)?;
+    let domain = numbering.typed.domain();
+    let problem = numbering.typed.problem();
+    let none = Environment::new(alloc);
+    let atoms = numbering.atom_labels(alloc)?;
+    let fluents = numbering.fluent_labels(alloc)?;
+    let initial = initial(alloc, numbering, problem.init.as_slice())?;
+    let goal = condition(alloc, numbering, &none, true, &problem.goal)?;
+    let processes = processes(alloc, numbering, domain.processes.as_slice())?;
+    let events = events(alloc, numbering, domain.events.as_slice())?;
     Ok(Ground {
         atoms,
-        fluents: Vec::new(alloc),
-        processes: Vec::new(alloc),
-        events: Vec::new(alloc),
+        fluents,
+        processes,
+        events,
         timed: Vec::new(alloc),
         initial,
         goal,
     })
 }
 
-// The place of the action with a name.
-fn place(typed: &Typed, name: &[u8]) -> Option<usize>
-    ensures { result ≡ position (bytes_eq name.now) (action_names typed.now.domain) }
+/// Grounds a well-typed pair. `TooMany` comes where a count passes its limit, in the order processes,
+/// events (10,000 each), nodes (1,000,000); then `Literal` at the first literal of the initial state,
+/// the goal, the processes and the events that is no value of the type of numbers.
+pub fn ground<Q: FromParts>(alloc: Global, numbering: &Numbering) -> Result<Ground<Q>, GroundFault>
+    ensures expands { IfOk result (λ g. problem_of Q.value g ≡ expanded numbering.now.typed.now.domain numbering.now.typed.now.problem) }
+    ensures labels { IfOk result (λ g. labels_of g ≡ labels_meant numbering.now.typed.now.domain numbering.now.typed.now.problem) }
+    ensures fits { IfOk result (λ g. ProblemFits (expanded numbering.now.typed.now.domain numbering.now.typed.now.problem)) }
+    ensures limits { MatchResult result
+        (λ _. IsGroundable Q.fits numbering.now.typed.now.domain numbering.now.typed.now.problem)
+        (RefusesGround Q.fits numbering.now.typed.now.domain numbering.now.typed.now.problem) }
 {
-    typed.actions.number(name)
+    limits::<Q>(numbering)?;
+    Ok(expand(alloc, numbering)?)
 }
 
-// Whether a call has no argument.
-fn has_no_argument(call: &Call) -> bool
-    ensures { result ≡ is_empty call.now.args }
+// The action with a name.
+#[tactic(auto, using(crate::proofs::CallsLemmas::naming))]
+fn named<'a>(typed: &'a Typed, name: &[u8]) -> Option<&'a Schema>
+    ensures { MatchOption result
+        (slice_get typed.now.domain.actions (position_or_len (bytes_eq name.now) (action_names typed.now.domain)) ≡ None)
+        (λ a. slice_get typed.now.domain.actions (position_or_len (bytes_eq name.now) (action_names typed.now.domain)) ≡ Some a.now) }
 {
-    call.args.as_slice().is_empty()
-}
-
-// The action that a call names, where it has no argument.
-fn named_action<'a>(typed: &'a Typed, call: &Call) -> Result<&'a Schema, InstanceFault>
-    ensures found { IfOk result (λ a. NamesAction typed.now.domain call.now.name call.now.args a.now) }
-    ensures refused { IfErr result (RefusesCall (called_of typed.now.domain call.now.name call.now.args) call.now.name) }
-{
-    match place(typed, call.name.bytes()) {
-        None => Err(InstanceFault::UnknownAction),
-        Some(place) => {
-            let schema = &typed.domain.actions.as_slice()[place];
-            if has_no_argument(call) {
-                Ok(schema)
-            } else {
-                Err(InstanceFault::WrongArguments)
-            }
-        }
+    match typed.actions.number(name) {
+        None => None,
+        Some(place) => Some(&typed.domain.actions.as_slice()[place]),
     }
 }
 
-/// The ground action that a call names. It is refused where no action has the name, or where there
-/// are arguments, since actions have no parameters yet.
-#[tactic(auto, using(crate::proofs::GroundLemmas::calling))]
-pub fn instance<Q: Exact>(
+// Whether an object is one of these.
+fn is_among(object: u32, members: &[u32]) -> bool
+    ensures { result ≡ list_any (nat_eq object) members.now }
+{
+    'members: for member in members {
+        if object == *member {
+            return true;
+        }
+    }
+    false
+}
+
+// Binds parameters to the objects with these names, and answers whether there are as many names as
+// parameters and each is of an object of its parameter's type.
+fn bind<'a>(
+    numbering: &Numbering,
+    params: &'a [TypedName],
+    args: &[Name],
+    env: &mut Environment<'a>,
+) -> Result<bool, AllocError>
+    ensures { IfOk result (λ bound. (if bound then Some env.new else None)
+        ≡ bound_by (context numbering.now) params.now args.now env.old) }
+{
+    match params {
+        [] => Ok(args.is_empty()),
+        [first, params @ ..] => match args {
+            [] => Ok(false),
+            [arg, args @ ..] => {
+                let object = numbering.object(arg.bytes());
+                if is_among(object, numbering.members(first.kind.name.bytes())) {
+                    env.bind(first.name.name.bytes(), object)?;
+                    bind(numbering, params, args, env)
+                } else {
+                    Ok(false)
+                }
+            }
+        },
+    }
+}
+
+/// The ground action that a call names. It is refused where no action has the name; else where the
+/// arguments are more or fewer than the parameters, or one is no object of its parameter's type; else
+/// where the instance has more than 1,000,000 nodes; else at the first literal of the action, its
+/// condition before its effect, that is no value of the type of numbers.
+pub fn instance<Q: FromParts>(
     alloc: Global,
-    typed: &Typed,
+    numbering: &Numbering,
     call: &Call,
 ) -> Result<Action<Q>, InstanceFault>
-    requires { length (predicate_names typed.now.domain) ≤ 200000 }
     ensures called { MatchResult result
-        (λ a. called_of typed.now.domain call.now.name call.now.args ≡ Instance (action_of Q.value a))
-        (RefusesCall (called_of typed.now.domain call.now.name call.now.args) call.now.name) }
-    ensures fits { IfOk result (λ a. ActionFits (length (predicate_names typed.now.domain)) 0 (action_of Q.value a)) }
+        (λ a. IsInstance Q.fits numbering.now.typed.now.domain call.now.name
+        (called_of numbering.now.typed.now.domain numbering.now.typed.now.problem call.now.name call.now.args) (action_of Q.value a))
+        (RefusesCall Q.fits numbering.now.typed.now.domain call.now.name
+        (called_of numbering.now.typed.now.domain numbering.now.typed.now.problem call.now.name call.now.args)) }
+    ensures fits { IfOk result (λ a. ActionFits
+        (length (ground_names (context numbering.now) numbering.now.typed.now.domain.predicates))
+        (length (ground_names (context numbering.now) numbering.now.typed.now.domain.functions))
+        (action_of Q.value a)) }
 {
-    let schema = named_action(typed, call)?;
-    Ok(action(alloc, &typed.predicates, schema)?)
+    let schema = match named(numbering.typed, call.name.bytes()) {
+        None => return Err(InstanceFault::UnknownAction),
+        Some(schema) => schema,
+    };
+    let mut env = Environment::new(alloc);
+    let bound = bind(
+        numbering,
+        schema.params.as_slice(),
+        call.args.as_slice(),
+        &mut env,
+    )?;
+    if !bound {
+        return Err(InstanceFault::WrongArguments);
+    }
+    if !is_small(numbering, schema) {
+        return Err(InstanceFault::TooManyNodes);
+    }
+    match schema_fits::<Q>(schema) {
+        Ok(()) => {}
+        Err(span) => return Err(InstanceFault::Literal { span }),
+    }
+    Ok(action(alloc, numbering, schema, &env)?)
 }

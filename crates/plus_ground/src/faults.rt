@@ -4,22 +4,11 @@ ghost use Rattle.std.specs.Prelude.{◌≡◌};
 ghost use Rattle.plus_ground.specs.declared.faults.GroundFault.TheVariants as ground_faults;
 ghost use Rattle.plus_ground.specs.declared.faults.InstanceFault.TheVariants as instance_faults;
 
+use plus_numbering::{Count, CountFault};
 use plus_tree::Span;
 use plus_types::File;
 use std::alloc::{AllocError, AllocFailed};
 use thiserror::Error;
-
-/// What is counted.
-#[derive(Clone, Copy, Debug, PartialEq, Eq)]
-pub enum Count {
-    Objects,
-    Atoms,
-    Fluents,
-    Processes,
-    Events,
-    Actions,
-    Nodes,
-}
 
 /// Why a pair is not grounded.
 #[derive(Debug, Drop, Error)]

@@ -1,9 +1,15 @@
 //! The ground problem of a well-typed pair, and the ground action that a call names.
 #![tactic(auto)]
 
+mod conditions;
+mod effects;
+mod environments;
 mod expansion;
+mod expressions;
 pub mod faults;
-mod forms;
+mod initial;
+mod rates;
+mod schemas;
 
-pub use expansion::{MOST_ATOMS, ground, instance};
-pub use faults::{Count, GroundFault, InstanceFault};
+pub use expansion::{ground, instance};
+pub use faults::{GroundFault, InstanceFault};

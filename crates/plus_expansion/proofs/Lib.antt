@@ -1,0 +1,7 @@
+pub mod Above
+pub mod Members
+pub mod Uses
+pub mod Conditions
+pub mod Effects
+pub mod WellTyped
+pub mod Fitting

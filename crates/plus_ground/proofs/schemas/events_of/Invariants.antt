@@ -1,0 +1,12 @@
+use Rattle.std.proofs.Common.{◌≡◌, ◌++◌, map, take}
+use Rattle.plus_types.specs.Faults.{problem_context}
+use Rattle.plus_state.specs.View.{event_of}
+use Rattle.plus_expansion.specs.Expansion.{event_meant}
+use Rattle.plus_ground.proofs.schemas.events_of.Given as goal
+
+-- those of the choices so far are added
+abbrev pub invariant-choices : goal.invariant-choices
+invariant-choices g l =
+    map (event_of g.Q.Exact.value) l.into.items
+    ≡ map (event_of g.Q.Exact.value) l.fn.into.items
+    ++ map (event_meant (problem_context l.numbering.typed.now.domain l.numbering.typed.now.problem) l.schema) (take l.env-index l.env-items)

@@ -1,0 +1,174 @@
+//! The ground actions, events and processes of schemas.
+
+ghost use Rattle.std.specs.Prelude.{◌≡◌, [], ◌++◌, All, IfOk, OnOk, map};
+ghost use Rattle.std.specs.List.{flat_map};
+ghost use Rattle.plus_numbering.specs.Numbered.{context};
+ghost use Rattle.plus_literal.specs.Value.{LiteralFits};
+ghost use Rattle.plus_state.specs.View.{action_of, event_of, process_of};
+ghost use Rattle.plus_expansion.specs.Environments.{environments};
+ghost use Rattle.plus_expansion.specs.Literals.{schema_literals};
+ghost use Rattle.plus_expansion.specs.Expansion.{instance_label, action_meant, event_meant, process_meant, instances_of};
+
+use crate::conditions::condition;
+use crate::effects::effects;
+use crate::environments::{Environment, environments};
+use crate::rates::rates;
+use plus_literal::FromParts;
+use plus_numbering::Numbering;
+use plus_state::{Action, Event, Label, Process};
+use plus_tree::Schema;
+use std::alloc::{AllocError, Global};
+
+// The label of an instance: the name of the schema, and those of its objects.
+fn label(
+    alloc: Global,
+    numbering: &Numbering,
+    schema: &Schema,
+    env: &Environment,
+) -> Result<Label, AllocError>
+    ensures { IfOk result (λ l. l
+        ≡ instance_label (context numbering.now) schema.now env.now) }
+{
+    let objects = env.objects(alloc)?;
+    numbering.label(alloc, schema.name.name.bytes(), objects.as_slice())
+}
+
+/// The ground action of an action in an environment of its parameters.
+pub fn action<Q: FromParts>(
+    alloc: Global,
+    numbering: &Numbering,
+    schema: &Schema,
+    env: &Environment,
+) -> Result<Action<Q>, AllocError>
+    requires { All (LiteralFits Q.fits) (schema_literals schema.now) }
+    ensures { IfOk result (λ a. action_of Q.value a
+        ≡ action_meant (context numbering.now) schema.now env.now) }
+{
+    let label = label(alloc, numbering, schema, env)?;
+    let condition = condition(alloc, numbering, env, true, &schema.condition)?;
+    let mut writes = Vec::new(alloc);
+    effects(alloc, numbering, env, &schema.effect, &mut writes)?;
+    Ok(Action {
+        label,
+        condition,
+        effects: writes,
+    })
+}
+
+fn event<Q: FromParts>(
+    alloc: Global,
+    numbering: &Numbering,
+    schema: &Schema,
+    env: &Environment,
+) -> Result<Event<Q>, AllocError>
+    requires { All (LiteralFits Q.fits) (schema_literals schema.now) }
+    ensures { IfOk result (λ e. event_of Q.value e
+        ≡ event_meant (context numbering.now) schema.now env.now) }
+{
+    let label = label(alloc, numbering, schema, env)?;
+    let condition = condition(alloc, numbering, env, true, &schema.condition)?;
+    let mut writes = Vec::new(alloc);
+    effects(alloc, numbering, env, &schema.effect, &mut writes)?;
+    Ok(Event {
+        label,
+        condition,
+        effects: writes,
+    })
+}
+
+fn process<Q: FromParts>(
+    alloc: Global,
+    numbering: &Numbering,
+    schema: &Schema,
+    env: &Environment,
+) -> Result<Process<Q>, AllocError>
+    requires { All (LiteralFits Q.fits) (schema_literals schema.now) }
+    ensures { IfOk result (λ p. process_of Q.value p
+        ≡ process_meant (context numbering.now) schema.now env.now) }
+{
+    let label = label(alloc, numbering, schema, env)?;
+    let condition = condition(alloc, numbering, env, true, &schema.condition)?;
+    let mut slopes = Vec::new(alloc);
+    rates(alloc, numbering, env, &schema.effect, &mut slopes)?;
+    Ok(Process {
+        label,
+        condition,
+        rates: slopes,
+    })
+}
+
+// Adds the ground events of an event, one for each choice of objects for its parameters.
+fn events_of<Q: FromParts>(
+    alloc: Global,
+    numbering: &Numbering,
+    schema: &Schema,
+    into: &mut Vec<Event<Q>>,
+) -> Result<(), AllocError>
+    requires { All (LiteralFits Q.fits) (schema_literals schema.now) }
+    ensures { OnOk result (map (event_of Q.value) into.new.items ≡ map (event_of Q.value) into.old.items
+        ++ map (event_meant (context numbering.now) schema.now)
+        (environments (context numbering.now) schema.now.params [])) }
+{
+    let none = Environment::new(alloc);
+    let choices = environments(alloc, numbering, schema.params.as_slice(), &none)?;
+    'choices: for env in &choices {
+        into.push(event(alloc, numbering, schema, env)?)?;
+    }
+    Ok(())
+}
+
+// Adds the ground processes of a process, one for each choice of objects for its parameters.
+fn processes_of<Q: FromParts>(
+    alloc: Global,
+    numbering: &Numbering,
+    schema: &Schema,
+    into: &mut Vec<Process<Q>>,
+) -> Result<(), AllocError>
+    requires { All (LiteralFits Q.fits) (schema_literals schema.now) }
+    ensures { OnOk result (map (process_of Q.value) into.new.items ≡ map (process_of Q.value) into.old.items
+        ++ map (process_meant (context numbering.now) schema.now)
+        (environments (context numbering.now) schema.now.params [])) }
+{
+    let none = Environment::new(alloc);
+    let choices = environments(alloc, numbering, schema.params.as_slice(), &none)?;
+    'choices: for env in &choices {
+        into.push(process(alloc, numbering, schema, env)?)?;
+    }
+    Ok(())
+}
+
+/// The ground events of a list of events, in order.
+pub fn events<Q: FromParts>(
+    alloc: Global,
+    numbering: &Numbering,
+    schemas: &[Schema],
+) -> Result<Vec<Event<Q>>, AllocError>
+    requires { All (LiteralFits Q.fits) (flat_map schema_literals schemas.now) }
+    ensures { IfOk result (λ es. map (event_of Q.value) es.items
+        ≡ instances_of (context numbering.now)
+        (event_meant (context numbering.now)) schemas.now) }
+{
+    let mut events = Vec::new(alloc);
+    'schemas: for schema in schemas {
+        events_of(alloc, numbering, schema, &mut events)?;
+    }
+    Ok(events)
+}
+
+/// The ground processes of a list of processes, in order.
+pub fn processes<Q: FromParts>(
+    alloc: Global,
+    numbering: &Numbering,
+    schemas: &[Schema],
+) -> Result<Vec<Process<Q>>, AllocError>
+    requires { All (LiteralFits Q.fits) (flat_map schema_literals schemas.now) }
+    ensures { IfOk result (λ ps. map (process_of Q.value) ps.items
+        ≡ instances_of (context numbering.now)
+        (process_meant (context numbering.now)) schemas.now) }
+{
+    let mut processes = Vec::new(alloc);
+    'schemas: for schema in schemas {
+        processes_of(alloc, numbering, schema, &mut processes)?;
+    }
+    Ok(processes)
+}

@@ -1,0 +1,3 @@
+pub mod Unfit
+pub mod Sizes
+pub mod Tested

@@ -1,0 +1,10 @@
+//! The limits of what is ground: counts and literals, tested before anything is built.
+#![tactic(auto)]
+
+pub mod counting;
+pub mod fitting;
+mod held;
+mod sizes;
+
+pub use counting::{is_small, within};
+pub use fitting::{Unfit, fit, schema_fits};

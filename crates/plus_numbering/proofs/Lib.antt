@@ -1,0 +1,10 @@
+pub mod Places
+pub mod Within
+pub mod TableLemmas
+pub mod ObjectsLemmas
+pub mod SizeLemmas
+pub mod RankLemmas
+pub mod NumberLemmas
+pub mod RankSteps
+pub mod TupleLemmas
+pub mod CountLemmas

@@ -1,0 +1,32 @@
+use Rattle.std.proofs.Common.{◌∙◌, ◌≤◌, ℕ, ap, length, subst, arith}
+use Rattle.std.proofs.lemmas.Result.{err_from_is_err_and}
+use Rattle.plus_types.specs.declared.typed.Typed.{Typed}
+use Rattle.plus_types.specs.Faults.{problem_context}
+use Rattle.plus_numbering.specs.Numbers.{ground_names}
+use Rattle.plus_numbering.specs.Counts.{IsOver}
+use Rattle.plus_numbering.specs.declared.faults.Count.TheVariants.{Atoms, Fluents}
+use Rattle.plus_numbering.proofs.CountLemmas.{refuses-atoms, refuses-fluents}
+use Rattle.plus_numbering.proofs.numbering.Numbering.new.Goals as goal
+
+pub returns-in_err-atoms-clause-counts : goal.returns-in_err-atoms-clause-counts
+returns-in_err-atoms-clause-counts c =
+    let p = err_from_is_err_and c.from_residual-in_err-atoms.result c.from_residual-in_err-atoms.ensures.1 in
+    let t = c.args.typed.now in
+    let C = problem_context t.domain t.problem in
+    let few : length C.objects ≤ 10000 = omega (arith, c.len.ensures.len, ap length t.objects_are, c.if-len-gt-MOST_OBJECTS.false) in
+    let n = ap (λ (u : Typed). length (ground_names (problem_context u.domain u.problem) c.as_slice-predicates.result.now)) c.in_ok-extents.ensures
+    ∙ ap (λ hs. length (ground_names C hs)) c.as_slice-predicates.ensures in
+    rw (p.1, p.2) (refuses-atoms C c.in_err-atoms.field-0.0 few (subst (λ (k : ℕ). IsOver Atoms 200000 k c.in_err-atoms.field-0.0) n c.in_err-atoms.ensures))
+
+pub returns-in_err-fluents-clause-counts : goal.returns-in_err-fluents-clause-counts
+returns-in_err-fluents-clause-counts c =
+    let p = err_from_is_err_and c.from_residual-in_err-fluents.result c.from_residual-in_err-fluents.ensures.1 in
+    let t = c.args.typed.now in
+    let C = problem_context t.domain t.problem in
+    let few : length C.objects ≤ 10000 = omega (arith, c.len.ensures.len, ap length t.objects_are, c.if-len-gt-MOST_OBJECTS.false) in
+    let m = ap (λ (u : Typed). length (ground_names (problem_context u.domain u.problem) c.as_slice-predicates.result.now)) c.in_ok-extents.ensures
+    ∙ ap (λ hs. length (ground_names C hs)) c.as_slice-predicates.ensures in
+    let n = ap (λ (u : Typed). length (ground_names (problem_context u.domain u.problem) c.as_slice-functions.result.now)) c.in_ok-extents.ensures
+    ∙ ap (λ hs. length (ground_names C hs)) c.as_slice-functions.ensures in
+    let a : length (ground_names C t.domain.predicates) ≤ 200000 = omega (arith, m, c.in_ok-atoms.ensures.1) in
+    rw (p.1, p.2) (refuses-fluents C c.in_err-fluents.field-0.0 few a (subst (λ (k : ℕ). IsOver Fluents 50000 k c.in_err-fluents.field-0.0) n c.in_err-fluents.ensures))

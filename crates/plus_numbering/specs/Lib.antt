@@ -1,0 +1,5 @@
+pub mod Objects
+pub mod Numbers
+pub mod Counts
+pub mod Tables
+pub mod Numbered

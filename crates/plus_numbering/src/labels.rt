@@ -1,0 +1,94 @@
+//! The labels of ground atoms and fluents.
+
+ghost use Rattle.std.specs.Prelude.{◌≡◌, ◌<◌, ◌++◌, [], map, length, slice_index_or, IfOk, OnOk};
+ghost use Rattle.plus_numbering.specs.Objects.{extents_of, tuples, object_names};
+ghost use Rattle.plus_numbering.specs.Numbers.{label_of, ground_labels};
+ghost use Rattle.plus_numbering.specs.Tables.{context, starts_from};
+
+use crate::extents::Extents;
+use plus_state::Label;
+use plus_tree::{Head, TypedName};
+use std::alloc::{AllocError, Global};
+
+/// The label of a ground form: the name, and the names of these objects.
+pub fn label(
+    alloc: Global,
+    extents: &Extents<'_>,
+    name: &[u8],
+    objects: &[u32],
+) -> Result<Label, AllocError>
+    ensures { IfOk result (λ l. l ≡ label_of name.now
+        (object_names (context extents.now.typed.now) objects.now)) }
+{
+    let mut text = Vec::new(alloc);
+    text.push(b'(')?;
+    text.extend_from_slice(name)?;
+    'objects: for object in objects {
+        text.push(b' ')?;
+        text.extend_from_slice(extents.name(*object))?;
+    }
+    text.push(b')')?;
+    Label::new(alloc, &text)
+}
+
+// The list at a place among those that take one object of each parameter's type, of which there are `size`.
+fn objects_at(
+    alloc: Global,
+    extents: &Extents<'_>,
+    params: &[TypedName],
+    size: u32,
+    place: u32,
+) -> Result<Vec<u32>, AllocError>
+    requires size { size ≡ length (tuples (extents_of (context extents.now.typed.now) params.now)) }
+    requires within { place < size }
+    ensures { IfOk result (λ v. v.items ≡ slice_index_or (tuples (extents_of (context extents.now.typed.now) params.now)) place []) }
+{
+    let mut objects = Vec::new(alloc);
+    let mut step = size;
+    let mut left = place;
+    'params: for param in params {
+        let extent = extents.of_type(param.kind.name.bytes());
+        step /= extent.len() as u32;
+        objects.push(extent[(left / step) as usize])?;
+        left %= step;
+    }
+    Ok(objects)
+}
+
+// Adds the labels of the ground atoms or fluents of one predicate or function, of which there are `size`.
+fn add_labels(
+    alloc: Global,
+    extents: &Extents<'_>,
+    head: &Head,
+    size: u32,
+    labels: &mut Vec<Label>,
+) -> Result<(), AllocError>
+    requires { size ≡ length (tuples (extents_of (context extents.now.typed.now) head.now.params)) }
+    ensures { OnOk result (labels.new.items ≡ labels.old.items
+        ++ map (λ t. label_of head.now.name.name (object_names (context extents.now.typed.now) t))
+        (tuples (extents_of (context extents.now.typed.now) head.now.params))) }
+{
+    'places: for place in 0..size {
+        let objects = objects_at(alloc, extents, head.params.as_slice(), size, place)?;
+        labels.push(label(alloc, extents, head.name.name.bytes(), &objects)?)?;
+    }
+    Ok(())
+}
+
+/// The labels of the ground atoms or fluents of these predicates or functions, by their numbers.
+pub fn labels(
+    alloc: Global,
+    extents: &Extents<'_>,
+    heads: &[Head],
+    starts: &[u32],
+) -> Result<Vec<Label>, AllocError>
+    requires { starts.now ≡ starts_from (context extents.now.typed.now) 0 heads.now }
+    ensures { IfOk result (λ ls. ls.items ≡ ground_labels (context extents.now.typed.now) heads.now) }
+{
+    let mut labels = Vec::new(alloc);
+    'heads: for (i, head) in heads.iter().enumerate() {
+        let size = starts[i + 1] - starts[i];
+        add_labels(alloc, extents, head, size, &mut labels)?;
+    }
+    Ok(labels)
+}
