@@ -2,11 +2,12 @@
 use Rattle.std.proofs.Common.{◌≡◌, ℕ, ◌<◌, ◌+◌, zero, suc, Bool, true, false, List, [], ◌∷◌, ◌++◌, length, map, get_or, refl, ap, sym, subst, ◌∙◌, arith, append_assoc}
 use Rattle.std.proofs.lemmas.List.{append-nil, get_or-map, length-map}
 use Rattle.std.proofs.lemmas.List.Elements.{All-head, All-tail}
-use Rattle.std.specs.Prelude.{slice_get, if◌then◌else◌}
+use Rattle.std.specs.Prelude.{slice_get, if◌then◌else◌, Option, Result, Ok, Err, IfOk}
 use Rattle.std.specs.List.{All}
 use Rattle.plus_fraction.specs.Fraction.{Fraction}
 use Rattle.plus_model.specs.Terms.{Effect, Event, State, Problem}
 use Rattle.plus_model.specs.Value.{holds}
+use Rattle.plus_model.specs.Joint.{Change, new_atoms}
 use Rattle.plus_model.specs.Firing.{numbers_of, firing, effects_at, effects_of}
 use Rattle.plus_state.specs.declared.problem.Event as code
 use Rattle.plus_state.specs.declared.problem.Ground.{Ground}
@@ -15,11 +16,11 @@ use Rattle.plus_state.specs.Fits.{EventFits, StateFits}
 use Rattle.plus_state.specs.Node.{Node}
 use Rattle.plus_state.specs.Asked.{AllFit, FirstUnfit}
 use Rattle.plus_state.specs.Tests.{tests_of}
-use Rattle.plus_state.specs.Due.{Due, dues}
+use Rattle.plus_state.specs.Due.{Due, Update, dues, by_fluent, new_fluents, atom_changes, after_dues}
 use Rattle.plus_state.specs.Steps.{Step, AllPass, FirstStop, add_steps}
 use Rattle.plus_state.specs.declared.outcome.JointStop.{JointStop}
 use Rattle.plus_state.specs.declared.outcome.JointStop.TheVariants.{Conflict, NoValue, Number, Memory}
-use Rattle.plus_state.specs.Stops.{StopIs}
+use Rattle.plus_state.specs.Stops.{StopIs, DoesJointly}
 use Rattle.plus_state.proofs.AskedLemmas.{fit_append, unfit_left, unfit_right, fit_none}
 use Rattle.plus_state.proofs.StepsLemmas.{pass_none, pass_append, stop_left, stop_right}
 use Rattle.plus_state.proofs.ApplyLemmas.{add_steps-append, dues-append}
@@ -128,3 +129,18 @@ joining_inside v fits g start due e rest whole s h =
 pub joining_end : (fits : Fraction → Type 0) (P : Problem) (start : State) (due : List Due) (whole : List ℕ) (s : State) → Joining fits P start due [] whole s → AllPass fits (add_steps (effects_of P whole) s) × (due ≡ dues (effects_of P whole) s)
 unfolding effects_of
 joining_end fits P start due whole s h = (h.pass (pass_none fits), sym (append-nil due) ∙ h.so_far)
+
+-- the state after a joint effect is one for as many atoms and fluents
+length-new_atoms : (a : ℕ) (cs : List Change) (bs : List Bool) → length (new_atoms a cs bs) ≡ length bs
+length-new_atoms a cs [] = refl
+length-new_atoms a cs (b ∷ bs) = ap suc (length-new_atoms (suc a) cs bs)
+
+length-new_fluents : (us : List (List Update)) (vs : List (Option Fraction)) → length (new_fluents us vs) ≡ length vs
+length-new_fluents [] vs = refl
+length-new_fluents (u ∷ us) [] = refl
+length-new_fluents (u ∷ us) (v ∷ vs) = ap suc (length-new_fluents us vs)
+
+pub together_fits : {Q : Type 0} (v : Q → Fraction) (fits : Fraction → Type 0) (steps : List Step) (ds : List Due) (atoms fluents : ℕ) (s : State) (r : Result State (JointStop Q)) → StateFits atoms fluents s → DoesJointly v fits steps (λ t. t ≡ after_dues ds s) r → IfOk r (λ t. StateFits atoms fluents t)
+together_fits v fits steps ds atoms fluents s (Err e) h d = tt
+together_fits v fits steps ds atoms fluents s (Ok t) h d =
+    subst (StateFits atoms fluents) (sym d.1) (record { atoms_fit = length-new_atoms 0 (atom_changes ds) s.atoms ∙ h.atoms_fit; fluents_fit = length-new_fluents (by_fluent 0 ds s.fluents) s.fluents ∙ h.fluents_fit })

@@ -65,7 +65,8 @@ pub fn fired_together<Q: Exact>(
     requires fits { ProblemFits (problem_of Q.value ground.now) }
     requires state { StateFits (length (ground.now.atoms.items)) (length (ground.now.fluents.items)) state.now }
     requires events { All (λ e. e < length (ground.now.events.items)) (event_numbers events.now) }
-    ensures { Applies Q.value Q.fits (effects_of (problem_of Q.value ground.now) (event_numbers events.now)) state.now result }
+    ensures told { Applies Q.value Q.fits (effects_of (problem_of Q.value ground.now) (event_numbers events.now)) state.now result }
+    ensures fits { IfOk result (λ after. StateFits (length (ground.now.atoms.items)) (length (ground.now.fluents.items)) after) }
 {
     match Joint::begin(alloc, state) {
         Err(_) => Err(JointStop::Memory),

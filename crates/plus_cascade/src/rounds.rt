@@ -1,5 +1,5 @@
 // One round of a cascade.
-ghost use Rattle.std.specs.Prelude.{◌≡◌, length};
+ghost use Rattle.std.specs.Prelude.{◌≡◌, length, IfOk, IfSome};
 ghost use Rattle.plus_state.specs.View.{problem_of};
 ghost use Rattle.plus_state.specs.Fits.{ProblemFits, StateFits};
 ghost use Rattle.plus_cascade.specs.Rounds.{Rounds, of_joint, set_after};
@@ -67,6 +67,7 @@ pub fn round<Q: Exact>(
     ensures told { Rounds Q.value Q.fits (problem_of Q.value ground.now) cascade.old state.now result }
     ensures set { cascade.new ≡ set_after cascade.old result }
     ensures size { length cascade.new ≡ length cascade.old }
+    ensures fits { IfOk result (λ o. IfSome o (λ r. StateFits (length (ground.now.atoms.items)) (length (ground.now.fluents.items)) r.after)) }
 {
     let events = firing(alloc, ground, state)?;
     if events.is_empty() {

@@ -13,6 +13,7 @@ use Rattle.plus_model.proofs.Along.{from_zero}
 use Rattle.plus_state.specs.declared.term.Sign.TheVariants.{Plus, Times}
 use Rattle.plus_state.specs.Node.{Node}
 use Rattle.plus_state.specs.Asked.{node, result_of, AllFit, FirstUnfit}
+use Rattle.plus_state.specs.Fits.{StateFits}
 use Rattle.plus_state.proofs.AskedLemmas.{fit_append, unfit_left, unfit_right, fit_none}
 use Rattle.plus_crossing.specs.Moves.{moved_value, fluent_nodes, moved_nodes}
 
@@ -140,3 +141,13 @@ next_rate (r ∷ rates) zero h = refl
 next_rate (r ∷ rates) (suc i) h =
     let e : suc i + 1 ≡ suc (i + 1) = omega arith in
     next_rate rates i (omega arith) ∙ ap (λ (n : ℕ). rate_of rates i ∷ drop n (r ∷ rates)) (sym e)
+
+-- ---- numbers of atoms and fluents
+length-moved_values : (vs : List (Option Fraction)) (rs : List Fraction) (x : Fraction) → length (moved_values vs rs x) ≡ length vs
+length-moved_values [] rs x = refl
+length-moved_values (v ∷ vs) [] x = refl
+length-moved_values (v ∷ vs) (r ∷ rs) x = ap suc (length-moved_values vs rs x)
+
+pub moved_fits : (s next : State) (rs : List Fraction) (x : Fraction) → next ≡ moved s rs x → StateFits (length s.atoms) (length s.fluents) next
+unfolding moved
+moved_fits s next rs x e = subst (StateFits (length s.atoms) (length s.fluents)) (sym e) (record { atoms_fit = refl; fluents_fit = length-moved_values s.fluents rs x })

@@ -1,24 +1,26 @@
 -- Where each test passes and no live comparison has a root, plus_model's NoRoot holds.
 use Rattle.std.proofs.Common.{◌≡◌, ℕ, suc, ◌+◌, true, false, Bool, List, [], ◌∷◌, ◌++◌, ◌||◌, refl, ap, sym, subst, ◌∙◌, if◌then◌else◌, inl, inr, ◌⊎◌, pos}
 use Rattle.std.specs.Prelude.{Option, Some, None}
-use Rattle.plus_fraction.specs.Fraction.{Fraction, whole, ◌<ℚ◌, ◌*ℚ◌, ◌/ℚ◌}
+use Rattle.plus_fraction.specs.Fraction.{Fraction, whole, ◌<ℚ◌, ◌≤ℚ◌, ◌+ℚ◌, ◌*ℚ◌, ◌/ℚ◌}
 use Rattle.plus_model.specs.Terms.{Expression, Number, Fluent, Sum, Difference, Product, Quotient, Condition, Always, Never, Both, Either, Atom, Compare, State}
-use Rattle.plus_model.specs.Value.{is_zero, fluent_of, signed, atom_of}
+use Rattle.plus_model.specs.Value.{is_zero, fluent_of, signed, atom_of, value}
+use Rattle.plus_model.specs.Running.{moved}
 use Rattle.plus_model.specs.Piece.{Piece, Missing, Crooked, Straight, piece, on_pieces, straight_fluent, rate_of, NoRoot, NoRootSides}
 use Rattle.plus_model.specs.Live.{live, live_both, live_either}
 use Rattle.plus_state.specs.declared.term.Sign.{Sign}
 use Rattle.plus_state.specs.declared.term.Sign.TheVariants.{Plus, Minus, Times, Divide}
 use Rattle.plus_crossing.specs.Asked.{Ask, AllPass}
 use Rattle.plus_crossing.specs.Pieces.{op_asks, op_piece, asks_both, piece_asks}
-use Rattle.plus_crossing.specs.Roots.{IsRoot}
-use Rattle.plus_crossing.specs.Laws.{OneTruthUntilRoot}
+use Rattle.plus_crossing.specs.Roots.{IsRoot, meets_later, meeting_asks, root_asks}
+use Rattle.plus_crossing.specs.Laws.{PiecesTell, AnySize, OneTruthUntilRoot, OneTruthUntilNext}
 use Rattle.plus_fraction.proofs.FractionAtMost.{≤ℚ-<ℚ_trans}
-use Rattle.plus_model.proofs.Search.{live_truth}
+use Rattle.plus_model.proofs.Along.{FollowsPiece, along}
+use Rattle.plus_model.proofs.Search.{OneTruth, live_truth}
 use Rattle.plus_state.specs.Fits.{comparisons}
 use Rattle.plus_state.specs.Tests.{verdict, decided}
-use Rattle.plus_crossing.specs.Conds.{asks_open}
-use Rattle.plus_crossing.proofs.Joins.{numbered_back}
-use Rattle.plus_crossing.specs.Next.{cross_sides, cross_asks, RootSides, RootOpen, LiveRoot, Nowhere}
+use Rattle.plus_crossing.specs.Conds.{asks_open, asks_sides, live_asks}
+use Rattle.plus_crossing.proofs.Joins.{all_append, none_asks, numbered_pass, numbered_back}
+use Rattle.plus_crossing.specs.Next.{cross_sides, cross_asks, RootSides, RootOpen, LiveRoot, Nowhere, IsNext}
 
 abbrev pub IsLine : Piece → Type 0
 IsLine Missing = Unit {0}
@@ -131,6 +133,62 @@ no_root_live fits n (Atom i positive) s rs a b up h k = atom_free (signed positi
 no_root_live fits n (Compare t l r positive) s rs a b up h k =
     sides_free fits (piece l s rs) (piece r s rs) (piece_asks l s rs) (piece_asks r s rs) a b up (is_line fits l s rs) (is_line fits r s rs) (numbered_back fits (suc n) _ h) k
 
-pub one_truth_until : (fits : Fraction → Type 0) → OneTruthUntilRoot fits
-one_truth_until fits c s rs a u up h k x y ax xu ay yu =
-    live_truth c s rs a u (no_root_live fits 0 c s rs a u (λ z q. ≤ℚ-<ℚ_trans _ _ _ up q) h k) x y ax xu ay yu
+-- ---- numbers of any size: only the linearity tests matter, and a root asks none
+meeting_passes : (b : Bool) (v m w n : Fraction) → AllPass AnySize (if b then meeting_asks v m w n else [])
+unfolding AllPass
+meeting_passes true v m w n = (tt, (tt, (tt, tt)))
+meeting_passes false v m w n = tt
+
+root_passes : (v m w n : Fraction) → AllPass AnySize (root_asks v m w n)
+unfolding root_asks
+root_passes v m w n = meeting_passes (meets_later v m w n) v m w n
+
+cross_side : (p q : Piece) (xs ys : List Ask) → AllPass AnySize (asks_sides p xs ys) → AllPass AnySize (cross_sides p xs q ys)
+unfolding asks_sides cross_sides
+cross_side Missing q xs ys h = h
+cross_side Crooked q xs ys h = h
+cross_side (Straight v m) Missing xs ys h = all_append AnySize xs _ (all_left AnySize xs ys h) (all_append AnySize ys [] (all_right AnySize xs ys h) (none_asks AnySize))
+cross_side (Straight v m) Crooked xs ys h = all_append AnySize xs _ (all_left AnySize xs ys h) (all_append AnySize ys [] (all_right AnySize xs ys h) (none_asks AnySize))
+cross_side (Straight v m) (Straight w n) xs ys h =
+    all_append AnySize xs _ (all_left AnySize xs ys h) (all_append AnySize ys _ (all_right AnySize xs ys h) (root_passes v m w n))
+
+cross_open : (o : Option Bool) (xs ys us vs : List Ask) → (AllPass AnySize xs → AllPass AnySize us) → (AllPass AnySize ys → AllPass AnySize vs) → AllPass AnySize (asks_open o xs ys) → AllPass AnySize (asks_open o us vs)
+unfolding asks_open
+cross_open (Some t) xs ys us vs f g h = h
+cross_open None xs ys us vs f g h = all_append AnySize us vs (f (all_left AnySize xs ys h)) (g (all_right AnySize xs ys h))
+
+cross_linear : (k : ℕ) (c : Condition) (s : State) (rs : List Fraction) → AllPass AnySize (live_asks k c s rs) → AllPass AnySize (cross_asks k c s rs)
+cross_linear k Always s rs h = h
+cross_linear k Never s rs h = h
+cross_linear k (Both c d) s rs h =
+    cross_open (decided (Both c d) s) (live_asks k c s rs) (live_asks (k + comparisons c) d s rs) _ _ (cross_linear k c s rs) (cross_linear (k + comparisons c) d s rs) h
+cross_linear k (Either c d) s rs h =
+    cross_open (decided (Either c d) s) (live_asks k c s rs) (live_asks (k + comparisons c) d s rs) _ _ (cross_linear k c s rs) (cross_linear (k + comparisons c) d s rs) h
+cross_linear k (Atom i positive) s rs h = h
+cross_linear k (Compare t l r positive) s rs h =
+    numbered_pass AnySize (suc k) _ (cross_side (piece l s rs) (piece r s rs) (piece_asks l s rs) (piece_asks r s rs) (numbered_back AnySize (suc k) _ h))
+
+-- ---- the constancy law
+one_truth : (fits : Fraction → Type 0) (c : Condition) (s : State) (rs : List Fraction) (a u : Fraction) → whole (pos 0) ≤ℚ a → AllPass fits (cross_asks 0 c s rs) → ((x : Fraction) → a <ℚ x → x <ℚ u → LiveRoot c s rs x → ⊥) → OneTruth c s rs a u
+one_truth fits c s rs a u up h k = live_truth c s rs a u (no_root_live fits 0 c s rs a u (λ z q. ≤ℚ-<ℚ_trans _ _ _ up q) h k)
+
+pub one_truth_until_root : OneTruthUntilRoot
+one_truth_until_root c s rs a u up h k = one_truth AnySize c s rs a u up (cross_linear 0 c s rs h) k
+
+pub one_truth_until_next : (fits : Fraction → Type 0) → OneTruthUntilNext fits
+unfolding IsNext
+one_truth_until_next fits c s rs a u None up h k = one_truth fits c s rs a u up h k
+one_truth_until_next fits c s rs a u (Some r) up h k = one_truth fits c s rs a r up h k.none
+
+-- ---- what a piece tells
+straight_tells : (p : Piece) (f : Fraction → Option Fraction) (v m : Fraction) → FollowsPiece p f → p ≡ Straight v m → (x : Fraction) → f x ≡ Some (v +ℚ m *ℚ x)
+straight_tells p f v m h e x = (subst (λ (q : Piece). FollowsPiece q f) e h) x
+
+missing_tells : (p : Piece) (f : Fraction → Option Fraction) → FollowsPiece p f → p ≡ Missing → (x : Fraction) → f x ≡ None
+missing_tells p f h e x = (subst (λ (q : Piece). FollowsPiece q f) e h) x
+
+pub pieces_tell : PiecesTell
+pieces_tell = record {
+  straight = λ e s rs v m h. straight_tells (piece e s rs) (λ x. value e (moved s rs x)) v m (along e s rs) h;
+  missing = λ e s rs h. missing_tells (piece e s rs) (λ x. value e (moved s rs x)) (along e s rs) h;
+}

@@ -8,13 +8,14 @@ ghost use Rattle.plus_state.specs.View.{expression_of, condition_of, test_of};
 ghost use Rattle.plus_state.specs.Fits.{IsIn, Fits, comparisons as comparisons_of};
 ghost use Rattle.plus_crossing.specs.Conds.{AfterSides, AfterAnswers, JustAfterAnswers};
 
-use crate::decisions::{comparisons, decided, join, passes, signed};
+use crate::counts::comparisons;
 use crate::node::{CondStop, PieceStop, at};
 use crate::pieces::{Linear, piece};
 use crate::rates::Rates;
 use plus_number::exact::Exact;
 use plus_state::states::State;
 use plus_state::term::{Cond, Expr, Test};
+use plus_state::truth::{decided, join, passes, signed};
 use std::cmp::Ordering;
 
 fn order_after<Q: Exact>(x: Linear<Q>, y: Linear<Q>) -> Ordering

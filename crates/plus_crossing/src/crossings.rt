@@ -5,7 +5,7 @@ ghost use Rattle.plus_state.specs.View.{expression_of, condition_of};
 ghost use Rattle.plus_state.specs.Fits.{IsIn, Fits, comparisons as comparisons_of};
 ghost use Rattle.plus_crossing.specs.Next.{NextSides, NextAnswers, is_below as is_below_in, lesser as lesser_of};
 
-use crate::decisions::{comparisons, decided};
+use crate::counts::comparisons;
 use crate::node::{CondStop, PieceStop, at};
 use crate::pieces::piece;
 use crate::rates::Rates;
@@ -13,6 +13,7 @@ use crate::roots::root;
 use plus_number::exact::Exact;
 use plus_state::states::State;
 use plus_state::term::{Cond, Expr};
+use plus_state::truth::decided;
 use std::cmp::Ordering;
 
 fn is_below<Q: Exact>(x: Q, y: Q) -> bool

@@ -7,8 +7,8 @@
 #![tactic(auto)]
 
 pub mod afters;
+pub mod counts;
 pub mod crossings;
-pub mod decisions;
 pub mod laws;
 pub mod moves;
 pub mod node;

@@ -1,7 +1,8 @@
 // Moved states.
-ghost use Rattle.std.specs.Prelude.{◌≡◌, ◌<◌, length, option_map, slice_set};
+ghost use Rattle.std.specs.Prelude.{◌≡◌, ◌<◌, length, option_map, slice_set, IfOk};
 ghost use Rattle.plus_fraction.specs.Fraction.{◌+ℚ◌, ◌*ℚ◌};
 ghost use Rattle.plus_model.specs.Value.{fluent_of};
+ghost use Rattle.plus_state.specs.Fits.{StateFits};
 ghost use Rattle.plus_state.specs.Tells.{Tells};
 ghost use Rattle.plus_crossing.specs.Moves.{fluent_nodes, moved_value as moved_value_of, MoveAnswers};
 
@@ -71,7 +72,8 @@ pub fn moved<Q: Exact>(
     delay: Q,
 ) -> Result<State<Q>, MoveStop<Q>>
     requires { length rates.now ≡ length (state.now.fluents) }
-    ensures { MoveAnswers Q.value Q.fits state.now rates.now (Q.value delay) result }
+    ensures told { MoveAnswers Q.value Q.fits state.now rates.now (Q.value delay) result }
+    ensures fits { IfOk result (λ next. StateFits (length state.now.atoms) (length state.now.fluents) next) }
 {
     match state.copy(alloc) {
         Err(_) => Err(MoveStop::Memory),

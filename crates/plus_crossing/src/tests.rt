@@ -4,22 +4,19 @@ ghost use Rattle.plus_fraction.specs.Fraction.{whole, ◌≤ℚ◌};
 ghost use Rattle.plus_state.specs.View.{condition_of, expression_of};
 ghost use Rattle.plus_state.specs.Fits.{Fits, IsIn, comparisons};
 
-use crate::{Linear, PieceStop, Rates, just_after, moved, next_crossing, piece};
+use crate::{PieceStop, Rates, just_after, moved, next_crossing, piece};
 use plus_number::consts::{one, zero};
 use plus_number::exact::Exact;
 use plus_number::frac::Frac64;
 use plus_state::{Cond, Expr, FluentId, State, Test};
 use std::alloc::{AllocError, Global};
+use std::cmp::Ordering;
 use std::test::*;
 
 fn fraction(n: i64, d: i64) -> Frac64
     requires { pos 0 <ℤ d }
 {
     Frac64::ratio(n, d).unwrap_or(zero())
-}
-
-fn is(x: Frac64, n: i64, d: i64) -> bool {
-    x.parts() == (n, d)
 }
 
 // A state in which (x) has this value.
@@ -46,6 +43,12 @@ fn x() -> Expr<Frac64>
     Expr::Fluent(FluentId(0))
 }
 
+fn number(n: i64) -> Expr<Frac64>
+    ensures { IsIn 1 (expression_of ⟦<Frac64 as Exact>⟧.value result) }
+{
+    Expr::Number(fraction(n, 1))
+}
+
 fn product(alloc: Global, a: Expr<Frac64>, b: Expr<Frac64>) -> Result<Expr<Frac64>, AllocError>
     requires a { IsIn 1 (expression_of ⟦<Frac64 as Exact>⟧.value a) }
     requires b { IsIn 1 (expression_of ⟦<Frac64 as Exact>⟧.value b) }
@@ -62,113 +65,105 @@ fn sum(alloc: Global, a: Expr<Frac64>, b: Expr<Frac64>) -> Result<Expr<Frac64>, 
     Ok(Expr::Add(Box::new(alloc, a)?, Box::new(alloc, b)?))
 }
 
-// The piece where (x) has this value and moves at this rate.
-fn piece_at(
-    alloc: Global,
-    expr: &Expr<Frac64>,
-    value: i64,
-    rate: i64,
-) -> Result<Option<Linear<Frac64>>, PieceStop<Frac64>>
-    requires { IsIn 1 (expression_of ⟦<Frac64 as Exact>⟧.value expr.now) }
+fn compare(test: Test, left: Expr<Frac64>, right: Expr<Frac64>, positive: bool) -> Cond<Frac64>
+    requires left { IsIn 1 (expression_of ⟦<Frac64 as Exact>⟧.value left) }
+    requires right { IsIn 1 (expression_of ⟦<Frac64 as Exact>⟧.value right) }
+    ensures fits { Fits 0 1 (condition_of ⟦<Frac64 as Exact>⟧.value result) }
+    ensures few { comparisons (condition_of ⟦<Frac64 as Exact>⟧.value result) < 2 ^ 32 }
 {
-    match with_value(alloc, fraction(value, 1)) {
-        Err(_) => Ok(None),
-        Ok(state) => match with_rate(alloc, fraction(rate, 1)) {
-            Err(_) => Ok(None),
-            Ok(rates) => piece(expr, &state, &rates),
-        },
+    Cond::Compare {
+        test,
+        left,
+        right,
+        positive,
     }
 }
 
-// The root of the condition between two moments, where (x) has this value and moves at this rate.
+// 1/3.
+fn third() -> Frac64
+    ensures { whole (pos 0) ≤ℚ ⟦<Frac64 as Exact>⟧.value result }
+{
+    let third = fraction(1, 3);
+    let none: Frac64 = zero();
+    match none.order(third) {
+        Ordering::Less => third,
+        _ => none,
+    }
+}
+
+// The root of the condition between two moments, where (x) has the value 0 and moves at this rate.
 fn root_between(
     alloc: Global,
     cond: &Cond<Frac64>,
     rate: i64,
     after: Frac64,
     until: i64,
-) -> Option<Frac64>
+) -> Result<Option<(i64, i64)>, Fail>
     requires cond { Fits 0 1 (condition_of ⟦<Frac64 as Exact>⟧.value cond.now) }
     requires few { comparisons (condition_of ⟦<Frac64 as Exact>⟧.value cond.now) < 2 ^ 32 }
     requires after { whole (pos 0) ≤ℚ ⟦<Frac64 as Exact>⟧.value after }
 {
-    let state = with_value(alloc, zero()).ok()?;
-    let rates = with_rate(alloc, fraction(rate, 1)).ok()?;
-    next_crossing(cond, &state, &rates, after, fraction(until, 1)).unwrap_or(None)
+    let state = with_value(alloc, zero())?;
+    let rates = with_rate(alloc, fraction(rate, 1))?;
+    match next_crossing(cond, &state, &rates, after, fraction(until, 1)) {
+        Err(_) => Err(Fail::new("refused")),
+        Ok(None) => Ok(None),
+        Ok(Some(root)) => Ok(Some(root.parts())),
+    }
 }
 
 // Whether the condition holds just after, where (x) has the value 5 and moves at this rate.
-fn holds_after_five(alloc: Global, cond: &Cond<Frac64>, rate: i64) -> Option<bool>
+fn holds_after_five(alloc: Global, cond: &Cond<Frac64>, rate: i64) -> Result<bool, Fail>
     requires cond { Fits 0 1 (condition_of ⟦<Frac64 as Exact>⟧.value cond.now) }
     requires few { comparisons (condition_of ⟦<Frac64 as Exact>⟧.value cond.now) < 2 ^ 32 }
 {
-    let state = with_value(alloc, fraction(5, 1)).ok()?;
-    let rates = with_rate(alloc, fraction(rate, 1)).ok()?;
-    just_after(cond, &state, &rates).ok()
+    let state = with_value(alloc, fraction(5, 1))?;
+    let rates = with_rate(alloc, fraction(rate, 1))?;
+    let holds = just_after(cond, &state, &rates).ok().ok_or("refused")?;
+    Ok(holds)
+}
+
+// The value that (x) has, from 0, after so much time at this rate.
+fn moved_from_zero(alloc: Global, rate: i64, delay: Frac64) -> Result<Option<(i64, i64)>, Fail> {
+    let state = with_value(alloc, zero())?;
+    let rates = with_rate(alloc, fraction(rate, 1))?;
+    let later = moved(alloc, &state, &rates, delay).ok().ok_or("refused")?;
+    match later.fluent(FluentId(0)) {
+        None => Ok(None),
+        Some(value) => Ok(Some(value.parts())),
+    }
 }
 
 #[test]
 fn vectors(rt: HostRuntime) -> Result<(), Fail> {
     let alloc = rt.alloc();
-    let at_least_one = Cond::Compare {
-        test: Test::AtLeast,
-        left: x(),
-        right: Expr::Number(one()),
-        positive: true,
-    };
-    let root = root_between(alloc, &at_least_one, 3, zero(), 1).ok_or("no root")?;
-    assert!(rt; is(root, 1, 3));
-    let at_most_five = Cond::Compare {
-        test: Test::AtMost,
-        left: x(),
-        right: Expr::Number(fraction(5, 1)),
-        positive: true,
-    };
-    assert_eq!(rt; holds_after_five(alloc, &at_most_five, 1), Some(false));
-    assert_eq!(rt; holds_after_five(alloc, &at_most_five, 0), Some(true));
-    let not_at_least_five = Cond::Compare {
-        test: Test::AtLeast,
-        left: x(),
-        right: Expr::Number(fraction(5, 1)),
-        positive: false,
-    };
-    assert_eq!(rt; holds_after_five(alloc, &not_at_least_five, -1), Some(true));
-    Ok(())
-}
+    let reaches_one = compare(Test::AtLeast, x(), number(1), true);
+    assert_eq!(rt;
+        root_between(alloc, &reaches_one, 3, zero(), 1)?,
+        Some((1, 3))
+    );
+    assert_eq!(rt; root_between(alloc, &reaches_one, 3, third(), 1)?, None);
+    let twice = product(alloc, number(2), x())?;
+    let meets = compare(Test::Equal, twice, sum(alloc, x(), number(5))?, true);
+    assert_eq!(rt; root_between(alloc, &meets, 1, zero(), 8)?, Some((5, 1)));
 
-#[test]
-fn roots_of_two_moving_sides(rt: HostRuntime) -> Result<(), Fail> {
-    let alloc = rt.alloc();
-    let twice = product(alloc, Expr::Number(fraction(2, 1)), x())?;
-    let more = sum(alloc, x(), Expr::Number(fraction(5, 1)))?;
-    let same = Cond::Compare {
-        test: Test::Equal,
-        left: twice,
-        right: more,
-        positive: true,
-    };
-    let root = root_between(alloc, &same, 1, zero(), 8).ok_or("no root")?;
-    assert!(rt; is(root, 5, 1));
-    Ok(())
-}
+    let at_most_five = compare(Test::AtMost, x(), number(5), true);
+    assert_eq!(rt; holds_after_five(alloc, &at_most_five, 1)?, false);
+    assert_eq!(rt; holds_after_five(alloc, &at_most_five, 0)?, true);
+    let below_five = compare(Test::AtLeast, x(), number(5), false);
+    assert_eq!(rt; holds_after_five(alloc, &below_five, -1)?, true);
 
-#[test]
-fn pieces_and_moves(rt: HostRuntime) -> Result<(), Fail> {
-    let alloc = rt.alloc();
     let square = product(alloc, x(), x())?;
-    assert!(rt; matches!(piece_at(alloc, &square, 2, 1), Err(PieceStop::Nonlinear)));
-    let line = piece_at(alloc, &square, 2, 0)
+    let state = with_value(alloc, fraction(2, 1))?;
+    let moving = with_rate(alloc, one())?;
+    assert!(rt; matches!(piece(&square, &state, &moving), Err(PieceStop::Nonlinear)));
+    let still = with_rate(alloc, zero())?;
+    let line = piece(&square, &state, &still)
         .unwrap_or(None)
         .ok_or("no piece")?;
-    assert!(rt; is(line.value, 4, 1));
-    assert!(rt; is(line.slope, 0, 1));
-    let state = with_value(alloc, zero())?;
-    let rates = with_rate(alloc, fraction(2, 1))?;
-    let later = moved(alloc, &state, &rates, fraction(5, 2))
-        .ok()
-        .ok_or("no state")?;
-    assert_eq!(rt; later.fluents(), 1);
-    let value = later.fluent(FluentId(0)).ok_or("no value")?;
-    assert!(rt; is(value, 5, 1));
+    assert_eq!(rt; line.value.parts(), (4, 1));
+    assert_eq!(rt; line.slope.parts(), (0, 1));
+
+    assert_eq!(rt; moved_from_zero(alloc, 2, fraction(5, 2))?, Some((5, 1)));
     Ok(())
 }

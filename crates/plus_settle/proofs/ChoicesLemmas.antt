@@ -1,5 +1,5 @@
 -- How far processes are gathered.
-use Rattle.std.proofs.Common.{◌≡◌, ℕ, ◌<◌, ◌≤◌, ◌+◌, zero, suc, Bool, true, false, List, [], ◌∷◌, ◌++◌, length, map, refl, ap, sym, subst, ◌∙◌, inl, inr, ◌⊎◌, arith, append_assoc}
+use Rattle.std.proofs.Common.{◌≡◌, ℕ, ◌<◌, ◌≤◌, ◌+◌, zero, suc, Bool, true, false, List, [], ◌∷◌, ◌++◌, length, refl, ap, sym, subst, ◌∙◌, inl, inr, arith, append_assoc}
 use Rattle.std.proofs.lemmas.Bool.{cases_lt}
 use Rattle.std.proofs.lemmas.List.{append-nil}
 use Rattle.std.proofs.lemmas.List.Elements.{All-head, All-tail, All-nil, All-cons}
@@ -9,7 +9,7 @@ use Rattle.plus_fraction.specs.Fraction.{Fraction}
 use Rattle.plus_model.specs.Terms.{Process, State, Problem}
 use Rattle.plus_model.specs.Value.{holds}
 use Rattle.plus_model.specs.Firing.{numbers_of, is_in}
-use Rattle.plus_model.specs.Running.{JustAfter, RunsAfter, GoesOn, holding}
+use Rattle.plus_model.specs.Running.{JustAfter, GoesOn, holding}
 use Rattle.plus_model.proofs.Decide.{rising-numbers, place_of, in_numbers}
 use Rattle.plus_state.specs.Fits.{ProcessFits}
 use Rattle.plus_state.specs.Node.{Node}

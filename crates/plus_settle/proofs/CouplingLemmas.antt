@@ -1,6 +1,5 @@
 -- The first moving fluent that rates name.
-use Rattle.std.proofs.Common.{◌≡◌, ℕ, ◌<◌, Bool, true, false, not, List, [], ◌∷◌, ◌++◌, length, map, cond, refl, ap, ap₂, sym, subst, ◌∙◌, arith, pos}
-use Rattle.std.proofs.lemmas.List.{length-map}
+use Rattle.std.proofs.Common.{◌≡◌, ℕ, ◌<◌, Bool, true, false, not, List, [], ◌∷◌, ◌++◌, length, map, cond, refl, ap, ap₂, sym, ◌∙◌, pos}
 use Rattle.std.proofs.lemmas.List.Elements.{All-head, All-tail}
 use Rattle.std.specs.Prelude.{Option, Some, None, option_map, find, slice_get, unwrap_or}
 use Rattle.std.specs.List.{All}

@@ -1,22 +1,19 @@
 -- How far rates are added.
-use Rattle.std.proofs.Common.{◌≡◌, ℕ, ◌<◌, zero, suc, Bool, true, false, List, [], ◌∷◌, ◌++◌, length, map, get_or, set, replicate, refl, ap, ap₂, sym, subst, ◌∙◌, inl, inr, arith, pos}
-use Rattle.std.proofs.lemmas.List.{length-set, length-map, get_or-map, length-replicate}
+use Rattle.std.proofs.Common.{◌≡◌, ℕ, ◌<◌, zero, suc, Bool, true, false, List, [], ◌∷◌, ◌++◌, length, map, set, replicate, refl, ap, ap₂, sym, subst, ◌∙◌, inl, arith, pos}
+use Rattle.std.proofs.lemmas.List.{length-set, length-map, length-replicate}
 use Rattle.std.proofs.lemmas.List.Elements.{All-head, All-tail}
 use Rattle.std.specs.Prelude.{Option, Some, None, Result, Ok, Err, slice_get}
 use Rattle.std.specs.List.{All}
 use Rattle.plus_fraction.specs.Fraction.{Fraction, whole as whole_of, ◌+ℚ◌, ◌-ℚ◌, neg_ℚ}
 use Rattle.plus_fraction.proofs.Ring.{var, ◌⊕◌, ◌⊖◌, minus}
 use Rattle.plus_fraction.proofs.FractionRing.{ringℚ}
-use Rattle.plus_model.specs.Terms.{Rate, State, Process, Problem}
+use Rattle.plus_model.specs.Terms.{Rate, State, Problem}
 use Rattle.plus_model.specs.Value.{value, fluent_of}
 use Rattle.plus_model.specs.Piece.{rate_of}
 use Rattle.plus_model.specs.Running.{add_at, rated, then_rates, add_rates, rates_at, sum_rates, rates}
-use Rattle.plus_state.specs.declared.problem.Process as code
 use Rattle.plus_state.specs.declared.problem.Ground.{Ground}
-use Rattle.plus_state.specs.declared.term.Sign.TheVariants.{Plus, Minus}
-use Rattle.plus_state.specs.View as view
 use Rattle.plus_state.specs.View.{process_of, problem_of}
-use Rattle.plus_state.specs.Fits.{RateFits, ProcessFits, StateFits}
+use Rattle.plus_state.specs.Fits.{RateFits}
 use Rattle.plus_state.specs.Node.{Node}
 use Rattle.plus_state.specs.Asked.{result_of, node, nodes, AllFit, FirstUnfit}
 use Rattle.plus_settle.specs.declared.stops.RateStop.{RateStop}

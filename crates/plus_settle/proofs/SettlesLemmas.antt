@@ -1,10 +1,9 @@
 -- What settling comes to, by what its parts come to.
-use Rattle.std.proofs.Common.{◌≡◌, ℕ, Bool, true, false, List, [], ◌∷◌, ◌++◌, length, map, replicate, refl, ap, sym, subst, ◌∙◌, inl, inr, ◌⊎◌, pos}
-use Rattle.std.specs.Prelude.{Option, Some, None, Result, Ok, Err}
+use Rattle.std.proofs.Common.{◌≡◌, ℕ, List, ◌++◌, refl, sym, subst, inl, inr}
+use Rattle.std.specs.Prelude.{Option, Some, None, Result, Ok}
 use Rattle.plus_fraction.specs.Fraction.{Fraction}
 use Rattle.plus_model.specs.Terms.{State, Problem}
-use Rattle.plus_model.specs.Running.{holding, rates, GoesOn, Chosen, Settled, first_coupled}
-use Rattle.plus_model.specs.Breach.{IsFirst, Differs}
+use Rattle.plus_model.specs.Running.{holding, rates, GoesOn, Chosen, first_coupled}
 use Rattle.plus_state.specs.Asked.{AllFit}
 use Rattle.plus_settle.specs.declared.stops.GoStop.{GoStop}
 use Rattle.plus_settle.specs.declared.stops.GoStop.TheVariants as go
@@ -12,10 +11,12 @@ use Rattle.plus_settle.specs.declared.stops.RateStop.{RateStop}
 use Rattle.plus_settle.specs.declared.stops.RateStop.TheVariants as rate
 use Rattle.plus_settle.specs.declared.stops.SettleStop.{SettleStop}
 use Rattle.plus_settle.specs.declared.stops.SettleStop.TheVariants.{Unsettled, Coupled, NoValue, Number, Nonlinear, Memory}
-use Rattle.plus_settle.specs.Steps.{SettleStep, asks, unsettled, coupled, AllPass, FirstStop}
+use Rattle.plus_settle.specs.Steps.{SettleStep, unsettled, coupled, AllPass, FirstStop}
 use Rattle.plus_settle.specs.Rates.{after_sums, rates_steps, RateStops, NoRates}
 use Rattle.plus_settle.specs.Confirms.{go_steps, first_other, GoStops}
-use Rattle.plus_settle.specs.Settles.{condition_nodes, chosen_steps, running_soon, end_steps, own_then, members_then, first_then, settle_steps, StopIs, ConditionStops, ChosenStops, of_rate, of_go, LacksValue, NotConfirmed, UnsettledAt, CoupledAt, NotSettled, IsRunning}
+use Rattle.plus_settle.specs.Settles.{condition_nodes, chosen_steps, running_soon, end_steps, own_then, members_then, first_then, settle_steps, StopIs, ConditionStops, ChosenStops, of_rate, of_go, LacksValue, NotConfirmed, NotSettled, IsRunning}
+use Rattle.plus_settle.specs.Laws.{OneRunningSet}
+use Rattle.plus_model.proofs.Steps.{one_chosen}
 use Rattle.plus_settle.proofs.StepsLemmas.{pass_none, pass_append, stop_left, stop_right, pass_nodes, stop_nodes}
 
 module _ {Q : Type 0} (v : Q → Fraction) (fits : Fraction → Type 0) where
@@ -163,3 +164,11 @@ module _ {Q : Type 0} (v : Q → Fraction) (fits : Fraction → Type 0) where
             members_pass (pass_append fits _ _ w (subst (λ (x : Result (List Fraction) ℕ). AllPass fits (after_sums x (own_then P s members))) (sym o) h)),
             record { settled = record { choice = choice; own_is = o; confirmed = c }; uncoupled = u },
           )
+
+-- ---- one running set
+pub one_running_set : OneRunningSet
+one_running_set P s members others own rs a b =
+    let e = one_chosen P s members others a.settled.choice b.settled.choice in
+    let o : rates P s others ≡ Ok own = subst (λ (x : List ℕ). rates P s x ≡ Ok own) e a.settled.own_is in
+    let p = b.settled.own_is in
+    (e, cc)

@@ -1,11 +1,11 @@
 -- Steps by their lists.
-use Rattle.std.proofs.Common.{◌≡◌, ℕ, List, [], ◌∷◌, ◌++◌, map, refl, ap, sym, subst, ◌∙◌, inl, inr}
+use Rattle.std.proofs.Common.{◌≡◌, ℕ, List, [], ◌∷◌, ◌++◌, map, ap, sym, ◌∙◌, inl, inr}
 use Rattle.plus_fraction.specs.Fraction.{Fraction}
 use Rattle.plus_state.specs.Node.{Node}
 use Rattle.plus_state.specs.Asked.{AllFit, FirstUnfit}
 use Rattle.plus_crossing.specs.Asked as crossing
 use Rattle.plus_crossing.specs.Asked.{Ask}
-use Rattle.plus_settle.specs.Steps.{SettleStep, asks, straight, no_value, unsettled, coupled, Passes, AllPass, FirstStop, of_ask, owned}
+use Rattle.plus_settle.specs.Steps.{SettleStep, asks, AllPass, FirstStop, of_ask, owned}
 use Rattle.plus_settle.specs.Laws.{OneStep}
 
 pub pass_none : (fits : Fraction → Type 0) → AllPass fits []

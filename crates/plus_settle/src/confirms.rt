@@ -1,9 +1,10 @@
 // Whether exactly the members of a set hold just after a state.
-ghost use Rattle.std.specs.Prelude.{◌≡◌, ◌==◌, length};
-ghost use Rattle.std.specs.List.{list_any};
+ghost use Rattle.std.specs.Prelude.{◌≡◌, ◌+◌, length};
+ghost use Rattle.plus_model.specs.Firing.{is_in};
+ghost use Rattle.plus_model.specs.Running.{IsRising};
 ghost use Rattle.plus_state.specs.View.{process_of, problem_of};
 ghost use Rattle.plus_state.specs.Fits.{ProcessFits, ProblemFits, StateFits};
-ghost use Rattle.plus_settle.specs.Members.{process_numbers, AreMembers};
+ghost use Rattle.plus_settle.specs.Members.{process_numbers, AreMembers, AreFrom};
 ghost use Rattle.plus_settle.specs.Confirms.{SoonTells, Confirms, GoAnswers, differ as differ_of};
 
 use crate::settling::Running;
@@ -37,10 +38,27 @@ pub fn runs_after<Q: Exact>(
     }
 }
 
-fn is_member(members: &[ProcessId], id: ProcessId) -> bool
-    ensures { result ≡ list_any (λ m. id.0 == m.0) members.now }
+// Whether the first of these members is this process. The members rise from it on, so none that is later
+// can be it.
+fn is_first(members: &[ProcessId], id: ProcessId) -> bool
+    requires { IsRising id.0 (process_numbers members.now) }
+    ensures { result ≡ is_in (process_numbers members.now) id.0 }
 {
-    members.iter().any(|m| id.0 == m.0)
+    match members {
+        [] => false,
+        [first, ..] => first.0 == id.0,
+    }
+}
+
+// The members behind this process.
+fn behind(members: &[ProcessId], id: ProcessId) -> &[ProcessId]
+    requires { IsRising id.0 (process_numbers members.now) }
+    ensures { AreFrom (id.0 + 1) (process_numbers members.now) (process_numbers result.now) }
+{
+    match members {
+        [] => members,
+        [first, rest @ ..] => { if first.0 == id.0 { rest } else { members } }
+    }
 }
 
 fn differ(x: bool, y: bool) -> bool
@@ -62,16 +80,18 @@ pub fn first_other<Q: Exact>(
     requires rates { length rates.now ≡ length (state.now.fluents) }
     ensures { Confirms Q.value Q.fits (problem_of Q.value ground.now) (process_numbers members.now) state.now rates.now result }
 {
+    let mut rest = members;
     'each: for number in 0..ground.processes.len() {
         let id = ProcessId(number as u32);
         match runs_after(&ground.processes[number], id, state, rates) {
             Err(stop) => return Err(stop),
             Ok(truth) => {
-                if differ(truth, is_member(members, id)) {
+                if differ(truth, is_first(rest, id)) {
                     return Ok(Some(id));
                 }
             }
         }
+        rest = behind(rest, id);
     }
     Ok(None)
 }

@@ -1,7 +1,12 @@
 // Laws over the definitions alone.
-ghost use Rattle.plus_settle.specs.Laws.{OneStep};
+ghost use Rattle.plus_settle.specs.Laws.{OneRunningSet, OneStep};
 
 use plus_number::exact::Exact;
+
+/// A state has one running set at most, with one list of rates.
+pub fn one_running_set()
+    ensures { OneRunningSet }
+{}
 
 /// One step at most is the first that stops, and where all pass there is none.
 pub fn one_step<Q: Exact>()

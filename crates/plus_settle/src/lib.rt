@@ -12,6 +12,8 @@ pub mod laws;
 pub mod net;
 pub mod settling;
 pub mod stops;
+#[cfg(test)]
+mod tests;
 
 pub use confirms::goes_on;
 pub use net::net_rates;

@@ -94,7 +94,9 @@ pub fn settle<Q: Exact>(
 ) -> Result<Running<Q>, SettleStop<Q>>
     requires fits { ProblemFits (problem_of Q.value ground.now) }
     requires state { StateFits (length (ground.now.atoms.items)) (length (ground.now.fluents.items)) state.now }
-    ensures { SettleAnswers Q.value Q.fits (problem_of Q.value ground.now) state.now result }
+    ensures told { SettleAnswers Q.value Q.fits (problem_of Q.value ground.now) state.now result }
+    ensures members { IfOk result (λ r. AreMembers (length (ground.now.processes.items)) (process_numbers r.members.items)) }
+    ensures size { IfOk result (λ r. length r.rates ≡ length (ground.now.fluents.items)) }
 {
     let present = holding(alloc, ground, state)?;
     let first = own_rates(alloc, ground, &present, state)?;

@@ -74,7 +74,7 @@ pub enum Limit<Q> {
     Happenings(u64),
     /// The exact result of this operation is no value of the number type.
     Number(Overflow<Q>),
-    /// The comparison with this number among the live ones of its owner's condition moves nonlinearly.
+    /// The comparison with this number among all comparisons of its owner's condition moves nonlinearly.
     Nonlinear { owner: Owner, comparison: u32 },
 }
 

@@ -3,7 +3,7 @@ use Rattle.plus_state.specs.View.{problem_of}
 use Rattle.plus_state.specs.Due.{Begun}
 use Rattle.plus_state.proofs.ApplyLemmas.{add_stops, answered}
 use Rattle.plus_cascade.proofs.FiredLemmas.{next_number, no_number}
-use Rattle.plus_cascade.proofs.FiringLemmas.{all_fit, below_all, event_fits, effects_here, joining_start, joining_inside, joining_next, joining_stops, joining_end}
+use Rattle.plus_cascade.proofs.FiringLemmas.{all_fit, below_all, event_fits, effects_here, joining_start, joining_inside, joining_next, joining_stops, joining_end, together_fits}
 use Rattle.plus_cascade.proofs.firing.fired_together.Goals as goal
 
 pub each-init : goal.each-init
@@ -26,8 +26,8 @@ add-requires-clause-fit g c =
     let h : (get_or c.args.events.now c.each.event-index (record { 0 = 0 })).0 < length c.args.ground.now.events.items = joining_inside g.Q.Exact.value _ c.args.ground.now _ _ _ _ _ _ (rw e at c.each.invariant) in
     rw c.deref.ensures.value (event_fits g.Q.Exact.value _ _ c.args.ground.now.events.items _ c.index.result.now h c.index.ensures (all_fit _ _ _ _ c.requires.state c.requires.fits.events)).effects
 
-pub returns-in-Err-add : goal.returns-in-Err-add
-returns-in-Err-add g c =
+pub returns-in-Err-add-clause-told : goal.returns-in-Err-add-clause-told
+returns-in-Err-add-clause-told g c =
     let e = next_number c.args.events.now c.each.event-index (record { 0 = 0 }) c.each-test.true in
     let h : (get_or c.args.events.now c.each.event-index (record { 0 = 0 })).0 < length c.args.ground.now.events.items = joining_inside g.Q.Exact.value _ c.args.ground.now _ _ _ _ _ _ (rw e at c.each.invariant) in
     let k = effects_here g.Q.Exact.value c.args.ground.now.events.items _ c.index.result.now h c.index.ensures in
@@ -40,7 +40,10 @@ each-preserved g c =
     let k = effects_here g.Q.Exact.value c.args.ground.now.events.items _ c.index.result.now h c.index.ensures in
     joining_next _ _ _ _ _ _ _ _ _ (rw e at c.each.invariant) k _ _ c.in-Ok-add.ensures.start (rw c.deref.ensures.value at c.in-Ok-add.ensures.added.0) (rw c.deref.ensures.value at c.in-Ok-add.ensures.added.1)
 
-pub returns-after-each : goal.returns-after-each
-returns-after-each g c =
+pub returns-after-each-clause-told : goal.returns-after-each-clause-told
+returns-after-each-clause-told g c =
     let j = joining_end _ _ _ _ _ _ (rw (no_number c.args.events.now c.each.event-index c.each-test.false) at c.each.invariant) in
     answered _ _ _ _ _ c.end.result j.0 j.1 c.end.ensures
+
+pub returns-after-each-clause-fits : goal.returns-after-each-clause-fits
+returns-after-each-clause-fits g c = together_fits g.Q.Exact.value _ _ c.each.joint.due _ _ _ c.end.result c.requires.state c.end.ensures

@@ -39,11 +39,11 @@ returns-in-Err-clause-told g c =
     let n = eqb-false _ _ (sym c.is_empty.ensures ∙ c.if-is_empty.false) in
     let fresh = rw c.deref.ensures.value at c.in-None.ensures in
     let stop = rw c.deref-in-None.ensures.value at c.in-Err.ensures in
-    rw c.joint_stop.ensures (stops_late _ _ _ _ g.Q.Exact.value _ c.in-Err.stop c.in_ok-events.ensures.0 c.in_ok-events.ensures.1 (some_numbers _ (λ k. n (omega (arith, k, c.in_ok-events.events.ok.0)))) fresh stop.0 stop.1)
+    rw c.joint_stop.ensures (stops_late _ _ _ _ g.Q.Exact.value _ c.in-Err.stop c.in_ok-events.ensures.0 c.in_ok-events.ensures.1 (some_numbers _ (λ k. n (omega (arith, k, c.in_ok-events.events.ok.0)))) fresh stop.told.0 stop.told.1)
 
 pub returns-in-Ok-clause-told : goal.returns-in-Ok-clause-told
 returns-in-Ok-clause-told g c =
     let n = eqb-false _ _ (sym c.is_empty.ensures ∙ c.if-is_empty.false) in
     let fresh = rw c.deref.ensures.value at c.in-None.ensures in
     let done = rw c.deref-in-None.ensures.value at c.in-Ok.ensures in
-    fires _ _ _ _ _ _ c.in_ok-events.ensures.0 c.in_ok-events.ensures.1 (some_numbers _ (λ k. n (omega (arith, k, c.in_ok-events.events.ok.0)))) fresh done.0 done.1
+    fires _ _ _ _ _ _ c.in_ok-events.ensures.0 c.in_ok-events.ensures.1 (some_numbers _ (λ k. n (omega (arith, k, c.in_ok-events.events.ok.0)))) fresh done.told.0 done.told.1

@@ -1,4 +1,4 @@
-use Rattle.std.proofs.Common.{◌<◌, ◌≤◌, map, length, arith, ap, refl}
+use Rattle.std.proofs.Common.{◌<◌, ◌≤◌, length, arith, ap}
 use Rattle.std.proofs.lemmas.List.{length-map}
 use Rattle.plus_state.specs.View.{process_of, problem_of}
 use Rattle.plus_state.proofs.TestsLemmas.{next_member, no_member}

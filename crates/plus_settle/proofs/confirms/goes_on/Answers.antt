@@ -1,4 +1,3 @@
-use Rattle.std.proofs.Common.{◌≡◌, true, false}
 use Rattle.plus_state.specs.View.{problem_of}
 use Rattle.plus_settle.proofs.ConfirmsLemmas.{differs_stops}
 use Rattle.plus_settle.proofs.confirms.goes_on.Goals as goal

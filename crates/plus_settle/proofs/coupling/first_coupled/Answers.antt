@@ -1,9 +1,6 @@
-use Rattle.std.proofs.Common.{◌<◌, length, get_or, arith, refl, sym, subst}
+use Rattle.std.proofs.Common.{◌<◌, length, get_or, arith, refl}
 use Rattle.std.proofs.lemmas.List.{length-map}
-use Rattle.std.specs.List.{All}
-use Rattle.plus_model.specs.Terms.{Rate}
 use Rattle.plus_state.specs.View.{problem_of}
-use Rattle.plus_state.specs.Fits.{RateFits}
 use Rattle.plus_settle.proofs.MembersLemmas.{next_number, no_number, below_all, process_fits, rates_here}
 use Rattle.plus_settle.proofs.CouplingLemmas.{pairing_start, pairing_inside, pairing_next, pairing_found, pairing_end}
 use Rattle.plus_settle.proofs.coupling.first_coupled.Goals as goal

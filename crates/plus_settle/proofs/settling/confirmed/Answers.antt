@@ -1,4 +1,4 @@
-use Rattle.std.proofs.Common.{sym, ap}
+use Rattle.std.proofs.Common.{sym}
 use Rattle.plus_state.specs.View.{problem_of}
 use Rattle.plus_settle.proofs.SettlesLemmas.{go_stop, unsettled_stop, coupled_stop, own_pass}
 use Rattle.plus_settle.proofs.settling.confirmed.Goals as goal

@@ -1,4 +1,4 @@
-use Rattle.std.proofs.Common.{◌≡◌, length, map}
+use Rattle.std.proofs.Common.{◌∙◌}
 use Rattle.std.proofs.lemmas.List.{length-map}
 use Rattle.std.proofs.lemmas.Result.{err_from_is_err_and}
 use Rattle.plus_state.specs.View.{process_of, problem_of}
@@ -6,8 +6,8 @@ use Rattle.plus_settle.proofs.ChoicesLemmas.{holding_members, soon_members}
 use Rattle.plus_settle.proofs.SettlesLemmas.{holding_stop, first_stop, chosen_stop, second_stop, last_stop, settles}
 use Rattle.plus_settle.proofs.settling.settle.Goals as goal
 
-pub returns-in_err-present : goal.returns-in_err-present
-returns-in_err-present g c =
+pub returns-in_err-present-clause-told : goal.returns-in_err-present-clause-told
+returns-in_err-present-clause-told g c =
     let p = err_from_is_err_and c.from_residual.result c.from_residual.ensures.1 in
     rw (p.1, p.2) (holding_stop g.Q.Exact.value _ (problem_of g.Q.Exact.value c.args.ground.now) _ c.in_err-present.field-0.0 c.in_err-present.ensures)
 
@@ -15,14 +15,14 @@ pub own_rates-requires-clause-members : goal.own_rates-requires-clause-members
 own_rates-requires-clause-members g c =
     rw c.deref.ensures.value (holding_members (problem_of g.Q.Exact.value c.args.ground.now) c.args.state.now _ _ (length-map c.args.ground.now.processes.items (process_of g.Q.Exact.value)) c.in_ok-present.ensures.1)
 
-pub returns-in_err-first : goal.returns-in_err-first
-returns-in_err-first g c =
+pub returns-in_err-first-clause-told : goal.returns-in_err-first-clause-told
+returns-in_err-first-clause-told g c =
     let p = err_from_is_err_and c.from_residual-in_err-first.result c.from_residual-in_err-first.ensures.1 in
     let t = rw c.deref.ensures.value at c.in_err-first.ensures.told in
     rw (p.1, p.2) (first_stop g.Q.Exact.value _ (problem_of g.Q.Exact.value c.args.ground.now) _ _ c.in_err-first.field-0.0 c.in_ok-present.ensures.0 c.in_ok-present.ensures.1 t.0 t.1)
 
-pub returns-in_err-members : goal.returns-in_err-members
-returns-in_err-members g c =
+pub returns-in_err-members-clause-told : goal.returns-in_err-members-clause-told
+returns-in_err-members-clause-told g c =
     let p = err_from_is_err_and c.from_residual-in_err-members.result c.from_residual-in_err-members.ensures.1 in
     let t = rw c.deref.ensures.value at c.in_ok-first.ensures.told in
     rw (p.1, p.2) (chosen_stop g.Q.Exact.value _ (problem_of g.Q.Exact.value c.args.ground.now) _ _ _ c.in_ok-present.ensures.0 c.in_ok-present.ensures.1 t.0 t.1 c.in_err-members.field-0.0 c.in_err-members.ensures)
@@ -31,8 +31,8 @@ pub own_rates-requires-2-clause-members : goal.own_rates-requires-2-clause-membe
 own_rates-requires-2-clause-members g c =
     rw c.deref-2.ensures.value (soon_members (problem_of g.Q.Exact.value c.args.ground.now) c.args.state.now c.in_ok-first.first _ _ (length-map c.args.ground.now.processes.items (process_of g.Q.Exact.value)) c.in_ok-members.ensures.1)
 
-pub returns-in_err-rates : goal.returns-in_err-rates
-returns-in_err-rates g c =
+pub returns-in_err-rates-clause-told : goal.returns-in_err-rates-clause-told
+returns-in_err-rates-clause-told g c =
     let p = err_from_is_err_and c.from_residual-in_err-rates.result c.from_residual-in_err-rates.ensures.1 in
     let t = rw c.deref.ensures.value at c.in_ok-first.ensures.told in
     let u = rw c.deref-2.ensures.value at c.in_err-rates.ensures.told in
@@ -42,17 +42,24 @@ pub confirmed-requires-clause-members : goal.confirmed-requires-clause-members
 confirmed-requires-clause-members g c =
     rw c.deref-3.ensures.value (soon_members (problem_of g.Q.Exact.value c.args.ground.now) c.args.state.now c.in_ok-first.first _ _ (length-map c.args.ground.now.processes.items (process_of g.Q.Exact.value)) c.in_ok-members.ensures.1)
 
-pub returns-in_err-confirmed : goal.returns-in_err-confirmed
-returns-in_err-confirmed g c =
+pub returns-in_err-confirmed-clause-told : goal.returns-in_err-confirmed-clause-told
+returns-in_err-confirmed-clause-told g c =
     let p = err_from_is_err_and c.from_residual-in_err-confirmed.result c.from_residual-in_err-confirmed.ensures.1 in
     let t = rw c.deref.ensures.value at c.in_ok-first.ensures.told in
     let u = rw c.deref-2.ensures.value at c.in_ok-rates.ensures.told in
     let x = rw c.deref-3.ensures.value at c.in_err-confirmed.ensures in
     rw (p.1, p.2) (last_stop g.Q.Exact.value _ (problem_of g.Q.Exact.value c.args.ground.now) _ _ _ c.in_ok-present.ensures.0 c.in_ok-present.ensures.1 t.0 t.1 _ c.in_ok-members.ensures.0 c.in_ok-members.ensures.1 c.in_ok-members.ensures.2 _ u.0 u.1 c.in_err-confirmed.field-0.0 x.0 x.1)
 
-pub returns : goal.returns
-returns g c =
+pub returns-clause-told : goal.returns-clause-told
+returns-clause-told g c =
     let t = rw c.deref.ensures.value at c.in_ok-first.ensures.told in
     let u = rw c.deref-2.ensures.value at c.in_ok-rates.ensures.told in
     let x = rw c.deref-3.ensures.value at c.in_ok-confirmed.ensures in
     settles g.Q.Exact.value _ (problem_of g.Q.Exact.value c.args.ground.now) _ _ _ c.in_ok-present.ensures.0 c.in_ok-present.ensures.1 t.0 t.1 _ c.in_ok-members.ensures.0 c.in_ok-members.ensures.1 c.in_ok-members.ensures.2 _ u.0 u.1 x.0 x.1 x.2
+
+pub returns-clause-members : goal.returns-clause-members
+returns-clause-members g c =
+    soon_members (problem_of g.Q.Exact.value c.args.ground.now) c.args.state.now c.in_ok-first.first _ _ (length-map c.args.ground.now.processes.items (process_of g.Q.Exact.value)) c.in_ok-members.ensures.1
+
+pub returns-clause-size : goal.returns-clause-size
+returns-clause-size g c = c.in_ok-rates.ensures.size ∙ c.requires.state.fluents_fit

@@ -1,7 +1,7 @@
 use Rattle.std.proofs.Common.{true, false, map, drop}
 use Rattle.plus_state.specs.View.{condition_of}
 use Rattle.plus_crossing.proofs.Walking.{Counting}
-use Rattle.plus_crossing.proofs.decisions.+comparisons.Given as goal
+use Rattle.plus_crossing.proofs.counts.+comparisons.Given as goal
 
 abbrev pub invariant-all : goal.invariant-all
 invariant-all g l =
