@@ -1,3 +1,4 @@
 pub mod FilesLemmas
 pub mod PairLemmas
 pub mod RunLemmas
+pub mod ShowLemmas

@@ -6,8 +6,8 @@ use Rattle.plus_tree.specs.declared.faults.TextFault.{TextFault}
 use Rattle.plus_tree.specs.declared.faults.TextFault.TheVariants as faults
 use Rattle.plus_tree.specs.declared.trees.Domain.{Domain}
 use Rattle.plus_tree.specs.declared.trees.Problem.{Problem}
-use Rattle.plus_parser.specs.Items.{items_of}
-use Rattle.plus_parser.specs.Reading.{Fails}
+use Rattle.plus_reading.specs.Items.{items_of}
+use Rattle.plus_reading.specs.Reading.{Fails}
 use Rattle.plus_parser.specs.ReadingDomain.{domain_of}
 use Rattle.plus_parser.specs.ReadingProblem.{problem_of}
 use Rattle.plus_types.specs.declared.faults.TypeFault.{TypeFault}
@@ -41,7 +41,6 @@ no_domain_by bytes b n text (faults.Lex (lex.TooLong at)) h f = domain_line byte
 no_domain_by bytes b n text faults.Unclosed h f = domain_line bytes text faults.Unclosed _ h f refl
 no_domain_by bytes b n text (faults.Depth at) h f = domain_line bytes text (faults.Depth at) _ h f refl
 no_domain_by bytes b n text (faults.Form s) h f = domain_line bytes text (faults.Form s) _ h f refl
-no_domain_by bytes b n text (faults.NotBuilt s) h f = domain_line bytes text (faults.NotBuilt s) _ h f refl
 
 -- the domain's text spells none
 pub domain_refused :
@@ -66,7 +65,6 @@ no_problem_by bytes b n text (faults.Lex (lex.TooLong at)) h f = problem_line by
 no_problem_by bytes b n text faults.Unclosed h f = problem_line bytes text faults.Unclosed _ h f refl
 no_problem_by bytes b n text (faults.Depth at) h f = problem_line bytes text (faults.Depth at) _ h f refl
 no_problem_by bytes b n text (faults.Form s) h f = problem_line bytes text (faults.Form s) _ h f refl
-no_problem_by bytes b n text (faults.NotBuilt s) h f = problem_line bytes text (faults.NotBuilt s) _ h f refl
 
 -- the problem's text spells none
 pub problem_refused :

@@ -1,10 +1,11 @@
 -- What the top call shows, put together from what its calls answer.
-use Rattle.std.proofs.Common.{◌≡◌, ◌⊎◌, ℕ, List, [], ◌∷◌, Option, Some, None, subst, sym, ◌∙◌, refl, rules, IsTrue, inl, inr}
+use Rattle.std.proofs.Common.{◌≡◌, ◌⊎◌, ℕ, List, [], ◌∷◌, Option, Some, None, subst, sym, ◌∙◌, refl, rules, IsTrue, inl, inr, ◌≤◌, arith}
 use Rattle.std.specs.Prelude.{IfSome}
 use Rattle.plus_io.specs.Faults.{Rose}
 use Rattle.plus_tree.specs.declared.trees.Domain.{Domain}
 use Rattle.plus_tree.specs.declared.trees.Problem.{Problem}
-use Rattle.plus_types.specs.Faults.{faults_of, is_empty, is_well_typed}
+use Rattle.plus_types.specs.Unbuilt.{is_empty}
+use Rattle.plus_types.specs.Faults.{faults_of, is_well_typed}
 use Rattle.plus_report.specs.declared.refusals.Early.{Early}
 use Rattle.plus_report.specs.declared.refusals.Early.TheVariants as es
 use Rattle.plus_report.specs.Refusals.{early_text}
@@ -15,7 +16,8 @@ use Rattle.planplus.specs.declared.run.Status.{Status}
 use Rattle.planplus.specs.declared.run.Status.TheVariants as s
 use Rattle.planplus.specs.Pair.{PairRefused}
 use Rattle.planplus.specs.Reads.{ReadsPair}
-use Rattle.planplus.specs.Headline.{SpellsWellTyped, IsValidRun, IsRefusedRun, for_pair, for_ground, for_plan, IsBrokenRun, in_pair, in_ground, in_plan, OnRefusal, Writes, early_status, status_of}
+use Rattle.planplus.specs.Headline.{SpellsWellTyped, IsValidRun, IsRefusedRun, for_pair, for_ground, for_plan, IsBrokenRun, in_pair, in_ground, in_plan, OnRefusal, status_of}
+use Rattle.planplus.specs.Statuses.{early_status, Writes}
 
 none_at_all : {A : Type 0} (xs : List A) → IsTrue (is_empty xs) → xs ≡ []
 none_at_all [] w = refl
@@ -31,7 +33,7 @@ only_valid outcomes.ReadFault e = cc
 only_valid outcomes.WriteFault e = cc
 only_valid outcomes.NoMemory e = cc
 
-only_broken : (o : Outcome) → status_of o ≡ s.WriteFault → o ≡ outcomes.WriteFault
+pub only_broken : (o : Outcome) → status_of o ≡ s.WriteFault → o ≡ outcomes.WriteFault
 only_broken outcomes.Valid e = cc
 only_broken outcomes.Invalid e = cc
 only_broken outcomes.Beyond e = cc
@@ -40,7 +42,38 @@ only_broken outcomes.ReadFault e = cc
 only_broken outcomes.WriteFault e = refl
 only_broken outcomes.NoMemory e = cc
 
-on_refusal : (r : Status) (P : Type 0) → P → OnRefusal r P
+pub only_read : (o : Outcome) → status_of o ≡ s.ReadFault → o ≡ outcomes.ReadFault
+only_read outcomes.Valid e = cc
+only_read outcomes.Invalid e = cc
+only_read outcomes.Beyond e = cc
+only_read outcomes.BadText e = cc
+only_read outcomes.ReadFault e = refl
+only_read outcomes.WriteFault e = cc
+only_read outcomes.NoMemory e = cc
+
+pub only_memory : (o : Outcome) → status_of o ≡ s.NoMemory → o ≡ outcomes.NoMemory
+only_memory outcomes.Valid e = cc
+only_memory outcomes.Invalid e = cc
+only_memory outcomes.Beyond e = cc
+only_memory outcomes.BadText e = cc
+only_memory outcomes.ReadFault e = cc
+only_memory outcomes.WriteFault e = cc
+only_memory outcomes.NoMemory e = refl
+
+pub no_usage : (o : Outcome) (r : Status) → r ≡ status_of o → r ≡ s.Usage → ⊥
+no_usage outcomes.Valid r e f = let h : s.Valid ≡ s.Usage = sym e ∙ f in cc h
+no_usage outcomes.Invalid r e f = let h : s.Invalid ≡ s.Usage = sym e ∙ f in cc h
+no_usage outcomes.Beyond r e f = let h : s.Beyond ≡ s.Usage = sym e ∙ f in cc h
+no_usage outcomes.BadText r e f = let h : s.BadText ≡ s.Usage = sym e ∙ f in cc h
+no_usage outcomes.ReadFault r e f = let h : s.ReadFault ≡ s.Usage = sym e ∙ f in cc h
+no_usage outcomes.WriteFault r e f = let h : s.WriteFault ≡ s.Usage = sym e ∙ f in cc h
+no_usage outcomes.NoMemory r e f = let h : s.NoMemory ≡ s.Usage = sym e ∙ f in cc h
+
+-- a count that rose later rose
+pub rose_before : (a b n : ℕ) → a ≤ b → Rose b n → Rose a n
+rose_before a b n l r = grind arith
+
+pub on_refusal : (r : Status) (P : Type 0) → P → OnRefusal r P
 on_refusal s.Valid P h = tt
 on_refusal s.Invalid P h = h
 on_refusal s.Beyond P h = h
@@ -90,7 +123,7 @@ valid_run domain problem plan later d p old new o r q rd w a e v =
 refused_run :
     (ds ps : List ℕ) (plan later : Option (List ℕ)) (d : Domain) (p : Problem) (old new : Option (List ℕ)) (o : Outcome) → later ≡ plan
     → SpellsWellTyped ds ps d p
-    → ((o ≡ outcomes.Beyond) × RefusesPair d old new) ⊎ IfSome later (λ text. Refuses d p 10000 text o old new)
+    → ((o ≡ outcomes.Beyond) × RefusesPair d p old new) ⊎ IfSome later (λ text. Refuses d p 10000 text o old new)
     → IsRefusedRun ds ps plan old new (status_of o)
 refused_run ds ps plan later d p old new o q t (inl g) = for_ground d p t (subst (λ x. status_of x ≡ s.Beyond) (sym g.0) refl) g.1
 refused_run ds ps plan later d p old new o q t (inr h) =
@@ -99,7 +132,7 @@ refused_run ds ps plan later d p old new o q t (inr h) =
 pub plan_refused :
     (domain problem plan later : Option (List ℕ)) (d : Domain) (p : Problem) (old new : Option (List ℕ)) (o : Outcome) (r : Status)
     → later ≡ plan → ReadsPair domain problem d p → IsTrue (is_well_typed d p)
-    → (IsRefusal o → ((o ≡ outcomes.Beyond) × RefusesPair d old new) ⊎ IfSome later (λ text. Refuses d p 10000 text o old new))
+    → (IsRefusal o → ((o ≡ outcomes.Beyond) × RefusesPair d p old new) ⊎ IfSome later (λ text. Refuses d p 10000 text o old new))
     → r ≡ status_of o → OnRefusal r (IfSome domain (λ ds. IfSome problem (λ ps. IsRefusedRun ds ps plan old new r)))
 plan_refused domain problem plan later d p old new o r q rd w h e =
     subst (λ x. OnRefusal x (IfSome domain (λ ds. IfSome problem (λ ps. IsRefusedRun ds ps plan old new x)))) (sym e)
@@ -110,7 +143,7 @@ plan_refused domain problem plan later d p old new o r q rd w h e =
 -- a sink that failed
 broken_run :
     (ds ps : List ℕ) (plan later : Option (List ℕ)) (d : Domain) (p : Problem) (old new : Option (List ℕ)) → later ≡ plan
-    → SpellsWellTyped ds ps d p → RefusesPairInPart d old new ⊎ IfSome later (λ text. BreaksOff d p 10000 text old new)
+    → SpellsWellTyped ds ps d p → RefusesPairInPart d p old new ⊎ IfSome later (λ text. BreaksOff d p 10000 text old new)
     → IsBrokenRun ds ps plan old new
 broken_run ds ps plan later d p old new q t (inl g) = in_ground d p t g
 broken_run ds ps plan later d p old new q t (inr h) = in_plan d p t (subst (λ b. IfSome b (λ text. BreaksOff d p 10000 text old new)) q h)
@@ -118,7 +151,7 @@ broken_run ds ps plan later d p old new q t (inr h) = in_plan d p t (subst (λ b
 pub plan_broken :
     (domain problem plan later : Option (List ℕ)) (d : Domain) (p : Problem) (old new : Option (List ℕ)) (before now : ℕ) (o : Outcome) (r : Status)
     → later ≡ plan → ReadsPair domain problem d p → IsTrue (is_well_typed d p)
-    → (o ≡ outcomes.WriteFault → Rose before now × (RefusesPairInPart d old new ⊎ IfSome later (λ text. BreaksOff d p 10000 text old new)))
+    → (o ≡ outcomes.WriteFault → Rose before now × (RefusesPairInPart d p old new ⊎ IfSome later (λ text. BreaksOff d p 10000 text old new)))
     → r ≡ status_of o → r ≡ s.WriteFault → IfSome domain (λ ds. IfSome problem (λ ps. IsBrokenRun ds ps plan old new))
 plan_broken domain problem plan later d p old new before now o r q rd w h e v =
     on_pair domain problem d p (λ ds ps. IsBrokenRun ds ps plan old new) rd w (λ ds ps t.
@@ -144,7 +177,7 @@ pair_refused domain problem plan e old new before now r h (inl w) =
 pair_refused domain problem plan e old new before now r h (inr w) =
     subst (λ x. OnRefusal x (IfSome domain (λ ds. IfSome problem (λ ps. IsRefusedRun ds ps plan old new x)))) (sym w.0) tt
 
-early_plain : (e : Early) → early_status e ≡ s.WriteFault → ⊥
+pub early_plain : (e : Early) → early_status e ≡ s.WriteFault → ⊥
 early_plain (es.BadText text start finish word) q = cc
 early_plain (es.BadLine line start finish) q = cc
 early_plain (es.TooLong text) q = cc

@@ -2,11 +2,19 @@
 use Rattle.std.specs.Prelude.{ℕ, List, [], ◌∷◌, Option, Some, None, codes, if◌then◌else◌}
 use Rattle.std.specs.Str.{bytes_eq}
 
--- `check D P L`: the files of the domain, the problem and the plan
+-- `check D P L`: the files of the domain, the problem and the plan; `show domain D` and `show problem P`: the file
 pub data Command : Type 0 where
   Check : List ℕ → List ℕ → List ℕ → Command
+  ShowDomain ShowProblem : List ℕ → Command
+
+-- which of the two texts is shown, by its word
+abbrev pub show_of : List ℕ → List ℕ → Option Command
+show_of what file =
+    if bytes_eq what (codes "domain") then Some (ShowDomain file)
+    else (if bytes_eq what (codes "problem") then Some (ShowProblem file) else None)
 
 abbrev pub command_of : List (List ℕ) → Option Command
+command_of (c ∷ what ∷ file ∷ []) = if bytes_eq c (codes "show") then show_of what file else None
 command_of (c ∷ d ∷ p ∷ l ∷ []) = if bytes_eq c (codes "check") then Some (Check d p l) else None
 command_of _ = None
 
@@ -14,3 +22,5 @@ command_of _ = None
 abbrev pub files_of : Option Command → List (List ℕ)
 files_of None = []
 files_of (Some (Check d p l)) = d ∷ p ∷ l ∷ []
+files_of (Some (ShowDomain file)) = file ∷ []
+files_of (Some (ShowProblem file)) = file ∷ []

@@ -1,20 +1,23 @@
 -- What an answer of the top call shows.
-use Rattle.std.specs.Prelude.{◌≡◌, ◌⊎◌, ℕ, List, [], Option, Some, None, IfSome, codes}
+use Rattle.std.specs.Prelude.{◌≡◌, ℕ, List, [], Option, Some, None, IfSome, codes}
 use Rattle.plus_io.specs.Taken.{Took, TookPart}
 use Rattle.plus_tree.specs.declared.trees.Domain.{Domain}
 use Rattle.plus_tree.specs.declared.trees.Problem.{Problem}
 use Rattle.plus_types.specs.Faults.{faults_of}
-use Rattle.plus_io.specs.Faults.{Rose}
 use Rattle.plus_report.specs.declared.refusals.Early.{Early}
-use Rattle.plus_report.specs.declared.refusals.Early.TheVariants.{BadText, BadLine}
 use Rattle.plus_validator.specs.declared.judge.Outcome.{Outcome}
 use Rattle.plus_validator.specs.declared.judge.Outcome.TheVariants as outcomes
 use Rattle.planplus.specs.declared.run.Status.{Status}
 use Rattle.planplus.specs.declared.run.Status.TheVariants as s
 use Rattle.plus_report.specs.Refusals.{early_text}
 use Rattle.plus_validator.specs.Validates.{Accepts, Refuses, BreaksOff, RefusesPair, RefusesPairInPart}
-use Rattle.planplus.specs.Command.{Command, Check}
-use Rattle.planplus.specs.Pair.{SpellsPair, PairRefused}
+use Rattle.plus_parser.specs.SpellsDomain.{SpellsWithin}
+use Rattle.plus_parser.specs.SpellsProblem.{SpellsProblemWithin}
+use Rattle.plus_printer.specs.Canon.{domain_text, problem_text}
+use Rattle.planplus.specs.Command.{Command, Check, ShowDomain, ShowProblem}
+use Rattle.planplus.specs.Pair.{depth_limit, SpellsPair, PairRefused, DomainRefused, ProblemRefused}
+use Rattle.planplus.specs.Statuses.{early_status}
+use Rattle.planplus.specs.Shown.{IsShown, IsNotShown, IsShownInPart}
 
 -- how many moments a plan may enter
 abbrev pub default_happenings : ℕ
@@ -38,22 +41,14 @@ abbrev pub RunsValid : Option Command → (List ℕ → Option (List ℕ)) → O
 RunsValid None bytes old new = ⊥
 RunsValid (Some (Check d p l)) bytes old new =
     IfSome (bytes d) (λ ds. IfSome (bytes p) (λ ps. IfSome (bytes l) (λ ls. IsValidRun ds ps ls old new)))
+RunsValid (Some (ShowDomain file)) bytes old new =
+    IfSome (bytes file) (λ text. IsShown (SpellsWithin depth_limit) domain_text text old new)
+RunsValid (Some (ShowProblem file)) bytes old new =
+    IfSome (bytes file) (λ text. IsShown (SpellsProblemWithin depth_limit) problem_text text old new)
 
 -- the line that is written where the words mean no command
 abbrev pub usage_line : List ℕ
 usage_line = codes "usage: planplus COMMAND ARGUMENTS\n"
-
--- the status of a refusal that is one line
-abbrev pub early_status : Early → Status
-early_status (BadText text start finish word) = s.BadText
-early_status (BadLine line start finish) = s.BadText
-early_status _ = s.Beyond
-
--- the line was written, and this is the status; or the sink failed in it
-abbrev pub Writes : List ℕ → Status → Option (List ℕ) → Option (List ℕ) → ℕ → ℕ → Status → Type 0
-Writes line status old new before now answer =
-    ((answer ≡ status) × Took old new line)
-    ⊎ ((answer ≡ s.WriteFault) × Rose before now × TookPart old new line)
 
 -- the status of a checked plan
 abbrev pub status_of : Outcome → Status
@@ -70,7 +65,7 @@ status_of outcomes.NoMemory = s.NoMemory
 pub data IsRefusedRun (domain problem : List ℕ) (plan : Option (List ℕ)) (old new : Option (List ℕ)) (status : Status) : Type 0 where
   for_pair : (e : Early) → PairRefused domain problem e → status ≡ early_status e → Took old new (early_text e) → IsRefusedRun domain problem plan old new status
   for_ground :
-      (d : Domain) (p : Problem) → SpellsWellTyped domain problem d p → status ≡ s.Beyond → RefusesPair d old new
+      (d : Domain) (p : Problem) → SpellsWellTyped domain problem d p → status ≡ s.Beyond → RefusesPair d p old new
       → IsRefusedRun domain problem plan old new status
   for_plan :
       (d : Domain) (p : Problem) (outcome : Outcome) → SpellsWellTyped domain problem d p → status ≡ status_of outcome
@@ -80,7 +75,7 @@ pub data IsRefusedRun (domain problem : List ℕ) (plan : Option (List ℕ)) (ol
 pub data IsBrokenRun (domain problem : List ℕ) (plan : Option (List ℕ)) (old new : Option (List ℕ)) : Type 0 where
   in_pair : (e : Early) → PairRefused domain problem e → TookPart old new (early_text e) → IsBrokenRun domain problem plan old new
   in_ground :
-      (d : Domain) (p : Problem) → SpellsWellTyped domain problem d p → RefusesPairInPart d old new
+      (d : Domain) (p : Problem) → SpellsWellTyped domain problem d p → RefusesPairInPart d p old new
       → IsBrokenRun domain problem plan old new
   in_plan :
       (d : Domain) (p : Problem) → SpellsWellTyped domain problem d p
@@ -97,12 +92,18 @@ abbrev pub RunsRefused : Option Command → (List ℕ → Option (List ℕ)) →
 RunsRefused None bytes old new status = ⊥
 RunsRefused (Some (Check d p l)) bytes old new status =
     IfSome (bytes d) (λ ds. IfSome (bytes p) (λ ps. IsRefusedRun ds ps (bytes l) old new status))
+RunsRefused (Some (ShowDomain file)) bytes old new status = IfSome (bytes file) (λ text. IsNotShown DomainRefused text old new status)
+RunsRefused (Some (ShowProblem file)) bytes old new status = IfSome (bytes file) (λ text. IsNotShown ProblemRefused text old new status)
 
 -- the same where the sink failed
 abbrev pub RunsBroken : Option Command → (List ℕ → Option (List ℕ)) → Option (List ℕ) → Option (List ℕ) → Type 0
 RunsBroken None bytes old new = TookPart old new usage_line
 RunsBroken (Some (Check d p l)) bytes old new =
     IfSome (bytes d) (λ ds. IfSome (bytes p) (λ ps. IsBrokenRun ds ps (bytes l) old new))
+RunsBroken (Some (ShowDomain file)) bytes old new =
+    IfSome (bytes file) (λ text. IsShownInPart (SpellsWithin depth_limit) domain_text DomainRefused text old new)
+RunsBroken (Some (ShowProblem file)) bytes old new =
+    IfSome (bytes file) (λ text. IsShownInPart (SpellsProblemWithin depth_limit) problem_text ProblemRefused text old new)
 
 -- the number that the process ends with
 abbrev pub exit_number : Status → ℕ

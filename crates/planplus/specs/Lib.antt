@@ -2,4 +2,6 @@ pub mod Command
 pub mod Meant
 pub mod Pair
 pub mod Reads
+pub mod Statuses
+pub mod Shown
 pub mod Headline

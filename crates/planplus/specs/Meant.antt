@@ -1,7 +1,9 @@
 -- The command that a value of the code stands for.
 use Rattle.planplus.specs.declared.command.Command as code
 use Rattle.planplus.specs.declared.command.Command.TheVariants as codes
-use Rattle.planplus.specs.Command.{Command, Check}
+use Rattle.planplus.specs.Command.{Command, Check, ShowDomain, ShowProblem}
 
 abbrev pub meant : code.Command → Command
 meant (codes.Check c) = Check c.domain.now c.problem.now c.plan.now
+meant (codes.ShowDomain file) = ShowDomain file.now
+meant (codes.ShowProblem file) = ShowProblem file.now

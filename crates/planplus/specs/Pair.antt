@@ -6,7 +6,7 @@ use Rattle.plus_tree.specs.declared.faults.TextFault.{TextFault}
 use Rattle.plus_tree.specs.declared.faults.TextFault.TheVariants as faults
 use Rattle.plus_tree.specs.declared.trees.Domain.{Domain}
 use Rattle.plus_tree.specs.declared.trees.Problem.{Problem}
-use Rattle.plus_parser.specs.Items.{items_of}
+use Rattle.plus_reading.specs.Items.{items_of}
 use Rattle.plus_parser.specs.ReadingDomain.{domain_of}
 use Rattle.plus_parser.specs.ReadingProblem.{problem_of}
 use Rattle.plus_parser.specs.SpellsDomain.{SpellsWithin}
@@ -45,7 +45,6 @@ text_refusal text n (faults.Lex (lex.TooLong at)) = Early (BadText text at (behi
 text_refusal text n faults.Unclosed = Early (BadText text n n words.Unclosed)
 text_refusal text n (faults.Depth at) = Early (Depth text at)
 text_refusal text n (faults.Form span) = Early (BadText text span.start span.«end» words.Form)
-text_refusal text n (faults.NotBuilt span) = Early (BadText text span.start span.«end» words.NotBuilt)
 text_refusal text n faults.Memory = NoMemory
 
 abbrev pub text_named : File → Text

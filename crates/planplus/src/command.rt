@@ -1,7 +1,7 @@
 //! The words of the command line.
 
 ghost use Rattle.std.specs.Prelude.{◌≡◌, [], ◌∷◌, map, option_map, string_bytes, IfOk};
-ghost use Rattle.planplus.specs.Command.{command_of, files_of};
+ghost use Rattle.planplus.specs.Command.{show_of, command_of, files_of};
 ghost use Rattle.planplus.specs.Meant.{meant};
 
 use std::alloc::{AllocError, Global};
@@ -9,10 +9,15 @@ use std::alloc::{AllocError, Global};
 /// A command, with the names of its files.
 #[derive(Clone, Copy)]
 pub enum Command<'a> {
+    /// `check D P L`: checks a plan.
     Check(Check<'a>),
+    /// `show domain D`: writes the canonical text of a domain.
+    ShowDomain(&'a str),
+    /// `show problem P`: writes the canonical text of a problem.
+    ShowProblem(&'a str),
 }
 
-/// `check D P L`: checks a plan.
+/// The files of a check.
 #[derive(Clone, Copy)]
 pub struct Check<'a> {
     pub domain: &'a str,
@@ -34,6 +39,19 @@ impl Check<'_> {
     }
 }
 
+// The command `show`, of this kind of text.
+fn show<'a>(what: &str, file: &'a str) -> Option<Command<'a>>
+    ensures { option_map meant result ≡ show_of what.now file.now }
+{
+    if what == "domain" {
+        Some(Command::ShowDomain(file))
+    } else if what == "problem" {
+        Some(Command::ShowProblem(file))
+    } else {
+        None
+    }
+}
+
 /// The command that the words mean, if they mean one.
 pub fn parse<'a>(words: &'a [String]) -> Option<Command<'a>>
     ensures { option_map meant result ≡ command_of (map string_bytes words.now) }
@@ -50,8 +68,24 @@ pub fn parse<'a>(words: &'a [String]) -> Option<Command<'a>>
                 None
             }
         }
+        [name, what, file] => {
+            if name.as_str() == "show" {
+                show(what.as_str(), file.as_str())
+            } else {
+                None
+            }
+        }
         _ => None,
     }
+}
+
+// One name of a file.
+fn one_name(alloc: Global, file: &str) -> Result<Vec<String>, AllocError>
+    ensures { IfOk result (λ names. map string_bytes names.items ≡ file.now ∷ []) }
+{
+    let mut names = Vec::new(alloc);
+    names.push(String::from_str(alloc, file)?)?;
+    Ok(names)
 }
 
 /// The names of the files of the command that the words mean, in the order of the words; none where
@@ -62,5 +96,6 @@ pub fn files(alloc: Global, words: &[String]) -> Result<Vec<String>, AllocError>
     match parse(words) {
         None => Ok(Vec::new(alloc)),
         Some(Command::Check(check)) => check.names(alloc),
+        Some(Command::ShowDomain(file)) | Some(Command::ShowProblem(file)) => one_name(alloc, file),
     }
 }

@@ -229,3 +229,78 @@ fn happenings(rt: HostRuntime) -> Result<(), Fail> {
     }
     Ok(())
 }
+
+// A problem over so many objects.
+fn peopled(alloc: Global, count: u32, goal: &str) -> Result<String, Fail> {
+    let mut text = String::from_str(alloc, "(define (problem q) (:domain n) (:objects")?;
+    for number in 0..count {
+        let object = format!(in alloc; " o{number}")?;
+        text.push_str(&object)?;
+    }
+    text.push_str(") (:init) (:goal ")?;
+    text.push_str(goal)?;
+    text.push_str("))")?;
+    Ok(text)
+}
+
+// A goal that has 1001 nodes for each object, and one more.
+fn wide(alloc: Global) -> Result<String, Fail> {
+    let mut goal = String::from_str(alloc, "(forall (?a) (and")?;
+    for _ in 0..1000 {
+        goal.push_str(" (not (p))")?;
+    }
+    goal.push_str("))")?;
+    Ok(goal)
+}
+
+const ACCEPTED: &str = "at 0\nvalid\n";
+
+#[test]
+fn counts(rt: HostRuntime) -> Result<(), Fail> {
+    let alloc = rt.alloc();
+    let atoms = "(define (domain n) (:predicates (p ?a ?b)))";
+    let fluents = "(define (domain n) (:functions (f ?a ?b)))";
+    for (domain, count, status, output) in [
+        ("(define (domain n))", 10000, Status::Valid, ACCEPTED),
+        (
+            "(define (domain n))",
+            10001,
+            Status::Beyond,
+            "beyond: more than 10000 objects\n",
+        ),
+        (atoms, 447, Status::Valid, ACCEPTED),
+        (
+            atoms,
+            448,
+            Status::Beyond,
+            "beyond: more than 200000 atoms\n",
+        ),
+        (fluents, 223, Status::Valid, ACCEPTED),
+        (
+            fluents,
+            224,
+            Status::Beyond,
+            "beyond: more than 50000 fluents\n",
+        ),
+    ] {
+        let problem = peopled(alloc, count, "(and)")?;
+        let shelf = shelf_of(alloc, domain, &problem, "")?;
+        expect_run(&rt, alloc, shelf, MemSink::new(alloc, 64), status, output)?;
+    }
+    let domain = "(define (domain n) (:predicates (p)))";
+    let goal = wide(alloc)?;
+    let more = format!(in alloc; "(and {goal})")?;
+    for (goal, status, output) in [
+        (goal.as_str(), Status::Valid, ACCEPTED),
+        (
+            more.as_str(),
+            Status::Beyond,
+            "beyond: more than 1000000 nodes\n",
+        ),
+    ] {
+        let problem = peopled(alloc, 999, goal)?;
+        let shelf = shelf_of(alloc, domain, &problem, "")?;
+        expect_run(&rt, alloc, shelf, MemSink::new(alloc, 64), status, output)?;
+    }
+    Ok(())
+}

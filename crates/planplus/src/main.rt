@@ -8,6 +8,7 @@ mod limit_tests;
 mod pair;
 mod run;
 mod screen;
+mod show;
 #[cfg(test)]
 mod tests;
 

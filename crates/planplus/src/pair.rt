@@ -69,7 +69,6 @@ fn refuse_text(text: Text, length: usize, fault: TextFault) -> Refusal
         ),
         TextFault::Depth { at } => Refusal::Early(Early::Depth { text, at }),
         TextFault::Form { span } => bad_text(text, span, Word::Form),
-        TextFault::NotBuilt { span } => bad_text(text, span, Word::NotBuilt),
         TextFault::Memory => Refusal::NoMemory,
     }
 }
@@ -110,8 +109,8 @@ fn refuse_types(fault: TypeFault) -> Refusal
     }
 }
 
-// The text under a name.
-fn text_of<S: Shelf>(
+/// The text under a name.
+pub fn text_of<S: Shelf>(
     alloc: Global,
     shelf: &mut S,
     name: &str,
@@ -132,7 +131,8 @@ fn text_of<S: Shelf>(
     }
 }
 
-fn domain_under<S: Shelf>(alloc: Global, shelf: &mut S, name: &str) -> Result<Domain, Refusal>
+/// The domain that the text under a name spells.
+pub fn domain_under<S: Shelf>(alloc: Global, shelf: &mut S, name: &str) -> Result<Domain, Refusal>
     ensures read { IfOk result (ReadsDomain (S.bytes shelf.old name.now)) }
     ensures not_read { IfErr result (NoDomain (S.bytes shelf.old name.now)
         (S.faults shelf.old) (S.faults shelf.new)) }
@@ -145,7 +145,8 @@ fn domain_under<S: Shelf>(alloc: Global, shelf: &mut S, name: &str) -> Result<Do
     }
 }
 
-fn problem_under<S: Shelf>(alloc: Global, shelf: &mut S, name: &str) -> Result<Problem, Refusal>
+/// The problem that the text under a name spells.
+pub fn problem_under<S: Shelf>(alloc: Global, shelf: &mut S, name: &str) -> Result<Problem, Refusal>
     ensures read { IfOk result (ReadsProblem (S.bytes shelf.old name.now)) }
     ensures not_read { IfErr result (NoProblem (S.bytes shelf.old name.now)
         (S.faults shelf.old) (S.faults shelf.new)) }

@@ -6,11 +6,13 @@ ghost use Rattle.plus_io.specs.Faults.{Rose};
 ghost use Rattle.plus_io.specs.Files.{KeepsFiles};
 ghost use Rattle.plus_report.specs.Refusals.{early_text};
 ghost use Rattle.planplus.specs.Command.{command_of};
-ghost use Rattle.planplus.specs.Headline.{RunsValid, RunsRefused, RunsBroken, OnRefusal, Writes, usage_line, early_status, status_of, exit_number};
+ghost use Rattle.planplus.specs.Headline.{RunsValid, RunsRefused, RunsBroken, OnRefusal, usage_line, status_of, exit_number};
+ghost use Rattle.planplus.specs.Statuses.{early_status, Writes};
 ghost use Rattle.planplus.specs.Meant.{meant};
 
 use crate::command::{Check, Command, parse};
 use crate::pair::{Refusal, pair};
+use crate::show::{show_domain, show_problem};
 use plus_io::{Shelf, Sink, write_all};
 use plus_report::{Early, write_early};
 use plus_validator::{Outcome, validate};
@@ -95,8 +97,8 @@ fn status_for(early: &Early) -> Status
     }
 }
 
-// Refuses with one line.
-fn refuse<O: Sink>(out: &mut O, early: &Early) -> Status
+/// Refuses with one line.
+pub fn refuse<O: Sink>(out: &mut O, early: &Early) -> Status
     ensures writes { Writes (early_text early.now) (early_status early.now) (O.taken out.old)
         (O.taken out.new) (O.faults out.old) (O.faults out.new) result }
     ensures no_fall { O.faults out.old ≤ O.faults out.new }
@@ -165,5 +167,7 @@ pub fn run<S: Shelf, O: Sink>(alloc: Global, words: &[String], shelf: &mut S, ou
     match parse(words) {
         None => usage(out),
         Some(Command::Check(files)) => check(alloc, files, shelf, out),
+        Some(Command::ShowDomain(file)) => show_domain(alloc, file, shelf, out),
+        Some(Command::ShowProblem(file)) => show_problem(alloc, file, shelf, out),
     }
 }

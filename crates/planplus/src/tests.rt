@@ -66,7 +66,7 @@ const DOOR_ROWS: [(&str, Status, &str); 9] = [
 ];
 
 // Domains and problems that are refused, what is written, and the status.
-const PAIR_ROWS: [(&str, &str, Status, &str); 6] = [
+const PAIR_ROWS: [(&str, &str, Status, &str); 7] = [
     (
         "(define (domain a)",
         D1,
@@ -74,10 +74,16 @@ const PAIR_ROWS: [(&str, &str, Status, &str); 6] = [
         "bad text: domain 18-18: unclosed\n",
     ),
     (
-        "(define (domain f) (:functions (x)))",
+        "(define (domain door) (:predicates (closed) (locked)) (:process p))",
         D1,
         Status::BadText,
-        "bad text: domain 20-30: not built\n",
+        "bad text: domain 54-66: not built\n",
+    ),
+    (
+        DOOR,
+        "(define (problem q) (:domain door) (:init (at 5 (locked))) (:goal (and)))",
+        Status::BadText,
+        "bad text: problem 46-47: not built\n",
     ),
     (
         "(define (domain door) (:predicates (p) (p)))",
@@ -102,6 +108,86 @@ const PAIR_ROWS: [(&str, &str, Status, &str); 6] = [
         "(define (problem q) (:init) (:goal (and)))",
         Status::BadText,
         "bad text: problem 41-42: form\n",
+    ),
+];
+
+const TOYS: &str =
+    "(define (domain toys) (:types toy) (:predicates (lit ?x - toy)) (:functions (heat ?x - toy))
+ (:action light :parameters (?x - toy) :precondition (not (lit ?x))
+  :effect (and (lit ?x) (forall (?y - toy) (when (lit ?y) (increase (heat ?y) 0.5))))))
+";
+
+const LAMPS: &str =
+    "(define (problem lamps) (:domain toys) (:objects a b - toy) (:init (lit b) (= (heat b) 1))
+ (:goal (exists (?x - toy) (> (heat ?x) 1))))
+";
+
+const SUMS: &str =
+    "(define (domain sums) (:functions (x) (y)) (:action add :effect (increase (x) 1))
+ (:action copy :effect (assign (x) (y))) (:action both :effect (and (assign (x) 1) (assign (x) 2)))
+ (:action far :effect (assign (x) 9223372036854775808)))
+";
+
+const GREATEST: &str =
+    "(define (problem q) (:domain sums) (:init (= (x) 9223372036854775807)) (:goal (and)))";
+
+// Domains with objects and numbers, problems, plans, what is written, and the status.
+const WORLD_ROWS: [(&str, &str, &str, Status, &str); 8] = [
+    (
+        TOYS,
+        LAMPS,
+        "0: (light a)",
+        Status::Valid,
+        "at 0\n  act (light a)\n    + (lit a)\n    (heat b) = 3/2\nvalid\n",
+    ),
+    (
+        TOYS,
+        LAMPS,
+        "0: (light b)",
+        Status::Invalid,
+        "at 0\ninvalid: line 1: precondition of (light b)\n",
+    ),
+    (
+        TOYS,
+        LAMPS,
+        "0: (light toys)",
+        Status::Invalid,
+        "at 0\ninvalid: line 1: wrong arguments of light\n",
+    ),
+    (
+        SUMS,
+        GREATEST,
+        "0: (add)",
+        Status::Beyond,
+        "at 0\nbeyond: number 9223372036854775807 + 1\n",
+    ),
+    (
+        SUMS,
+        GREATEST,
+        "0: (copy)",
+        Status::Invalid,
+        "at 0\ninvalid: no value for (x)\n",
+    ),
+    (
+        SUMS,
+        GREATEST,
+        "0: (both)",
+        Status::Invalid,
+        "at 0\ninvalid: conflict on (x)\n",
+    ),
+    (
+        SUMS,
+        GREATEST,
+        "0: (far)",
+        Status::Beyond,
+        "at 0\nbeyond: literal in domain 216-235\n",
+    ),
+    (
+        SUMS,
+        "(define (problem q) (:domain sums) (:init (= (x) 9223372036854775808)) (:goal (and)))",
+        "",
+        Status::Beyond,
+        "beyond: literal in problem 49-68\n",
     ),
 ];
 
@@ -148,6 +234,42 @@ fn plans_and_pairs(rt: HostRuntime) -> Result<(), Fail> {
     for (domain, problem, status, output) in PAIR_ROWS {
         let shelf = shelf_of(alloc, domain, problem, OPENED)?;
         expect_run(&rt, alloc, shelf, MemSink::new(alloc, 64), status, output)?;
+    }
+    for (domain, problem, plan, status, output) in WORLD_ROWS {
+        let shelf = shelf_of(alloc, domain, problem, plan)?;
+        expect_run(&rt, alloc, shelf, MemSink::new(alloc, 64), status, output)?;
+    }
+    Ok(())
+}
+
+// A kind of text, a text of that kind, and its canonical text.
+const SHOWN: [(&str, &str, &str); 2] = [
+    (
+        "domain",
+        "(define (domain D) (:functions (X)) (:action A :effect (increase (X) 0.50)))",
+        "(define (domain d)\n (:functions (x))\n (:action a :parameters () :precondition (and) :effect (increase (x) 0.5))\n)\n",
+    ),
+    (
+        "problem",
+        "(define (problem P) (:goal ()) (:domain D) (:init (AT 2.50 (not (Lit a))) (at home) (at 0 (lit ?x))))",
+        "(define (problem p)\n (:domain d)\n (:init (at 2.5 (not (lit a))) (at home) (at 0 (lit ?x)))\n (:goal (and))\n)\n",
+    ),
+];
+
+#[test]
+fn canonical_text(rt: HostRuntime) -> Result<(), Fail> {
+    let alloc = rt.alloc();
+    for (kind, text, canonical) in SHOWN {
+        let mut words = Vec::new(alloc);
+        for word in ["show", kind, "file"] {
+            words.push(String::from_str(alloc, word)?)?;
+        }
+        let mut shelf = MemShelf::new(alloc);
+        shelf.put("file", text.as_bytes())?;
+        let mut out = MemSink::new(alloc, 64);
+        let answer = run(alloc, &words, &mut shelf, &mut out);
+        assert_eq!(rt; answer, Status::Valid);
+        assert_eq!(rt; out.bytes(), canonical.as_bytes());
     }
     Ok(())
 }

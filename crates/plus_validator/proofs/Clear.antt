@@ -20,10 +20,9 @@ use Rattle.plus_state.specs.Asked as asked
 use Rattle.plus_state.specs.Asked.{FirstUnfit}
 use Rattle.plus_state.specs.Node.{Node}
 use Rattle.plus_state.specs.View.{overflow_of}
-use Rattle.plus_tree.specs.declared.trees.Domain.{Domain}
 use Rattle.plus_plan.specs.declared.forms.Line.{Line}
 use Rattle.plus_timeline.specs.Advance.{time_left}
-use Rattle.plus_validator.specs.Plans.{plan_of}
+use Rattle.plus_validator.specs.Plans.{Pair, plan_of}
 use Rattle.plus_validator.specs.Refused.{IsFull, IsTimeUnfit, IsActUnfit, IsGoalUnfit, NoLimit, IsClear, IsWaiting}
 
 -- ---- what excludes each limit
@@ -190,14 +189,14 @@ pub unbegun_rest : (P : Problem) (L : Plan) (v : View) (xs : List Part) → (Has
 unbegun_rest P L v [] n f = refl
 unbegun_rest P L v (x ∷ xs) n f = absurd (n f.0)
 
-not_begun : (d : Domain) (ls : List Line) → (plan_of d ls false).lines ≡ [] → HasBegun (plan_of d ls false) → ⊥
+not_begun : (d : Pair) (ls : List Line) → (plan_of d ls false).lines ≡ [] → HasBegun (plan_of d ls false) → ⊥
 not_begun d ls e (inl s) = s e
 not_begun d ls e (inr t) = let f : false ≡ true = t in cc f
 
-open_goal : (d : Domain) (P : Problem) (ls : List Line) (v : View) (w : Overflow Frac64) → IsGoalUnfit P (plan_of d ls false) v w → ⊥
+open_goal : (d : Pair) (P : Problem) (ls : List Line) (v : View) (w : Overflow Frac64) → IsGoalUnfit P (plan_of d ls false) v w → ⊥
 open_goal d P ls v w u = let f : false ≡ true = u.closed in cc f
 
-pub clear_waiting : (d : Domain) (P : Problem) (ls : List Line) (most : ℕ) (h : List Part) → Prefix P (plan_of d ls false) h → IsWaiting P (plan_of d ls false) h → NoLimit P (plan_of d ls false) most h
+pub clear_waiting : (d : Pair) (P : Problem) (ls : List Line) (most : ℕ) (h : List Part) → Prefix P (plan_of d ls false) h → IsWaiting P (plan_of d ls false) h → NoLimit P (plan_of d ls false) most h
 clear_waiting d P ls most h p (inr w) = clear_at_end P (plan_of d ls false) most h w (open_goal d P ls (view_of P h))
 clear_waiting d P ls most h p (inl e) =
     let L = plan_of d ls false in

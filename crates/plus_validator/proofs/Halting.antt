@@ -3,7 +3,6 @@ use Rattle.std.proofs.Common.{◌≡◌, ℕ, sym, subst}
 use Rattle.std.specs.Prelude.{Result, Ok, Err, IsErrAnd, IfErr}
 use Rattle.plus_fraction.specs.Fraction.{Fraction}
 use Rattle.plus_model.specs.Terms.{Action, Problem}
-use Rattle.plus_model.specs.Joint.{NoValue as no_value, Conflict as conflict}
 use Rattle.plus_number.specs.declared.frac.Frac64.{Frac64}
 use Rattle.plus_number.specs.Frac.{fraction_of, IsFrac64}
 use Rattle.plus_state.specs.Fits.{AllEffectsFit}
@@ -25,7 +24,7 @@ use Rattle.plus_timeline.proofs.StillBreaches.{nothing_breaks_off}
 use Rattle.plus_report.specs.Verdicts.{LimitFits, BreachFits}
 use Rattle.plus_validator.specs.declared.halt.Halt.{Halt}
 use Rattle.plus_validator.specs.Halts.{stop_halt, line_halt, NamesOf, HaltFits}
-use Rattle.plus_validator.proofs.Atoms.{no_fault}
+use Rattle.plus_validator.proofs.Faults.{conflict_in, no_value_in}
 
 by_stop : (P : Problem) (stop : Stop Frac64) (halt : Halt) → halt ≡ stop_halt stop → NamesOf P (stop_halt stop) → HaltFits P halt
 by_stop P stop halt e f = record { names = subst (NamesOf P) (sym e) f }
@@ -41,10 +40,10 @@ advance_halts P u v (stops.Limit l) halt s e b' l' = by_stop P (stops.Limit l) h
 advance_halts P u v stops.Ended halt s e b' l' = by_stop P stops.Ended halt e tt
 advance_halts P u v stops.Memory halt s e b' l' = by_stop P stops.Memory halt e tt
 
-act_breach : (P : Problem) (action : Action) (line : ℕ) (v : TimelineView) (b : Breach Frac64) (n : ℕ) → AllEffectsFit n 0 action.effects → BreaksAct IsFrac64 action line v b → BreachFits P b
+act_breach : (P : Problem) (action : Action) (line : ℕ) (v : TimelineView) (b : Breach Frac64) (n : ℕ) → AllEffectsFit n P.fluents action.effects → BreaksAct IsFrac64 action line v b → BreachFits P b
 act_breach P action line v (breaches.Precondition m label) n f r = tt
-act_breach P action line v (breaches.Conflict g) n f r = absurd (no_fault action.effects v.now.state n (conflict g.0) f r.stands.fails)
-act_breach P action line v (breaches.NoValue g) n f r = absurd (no_fault action.effects v.now.state n (no_value g.0) f r.stands.fails)
+act_breach P action line v (breaches.Conflict g) n f r = conflict_in action.effects v.now.state n P.fluents g.0 f r.stands.fails
+act_breach P action line v (breaches.NoValue g) n f r = no_value_in action.effects v.now.state n P.fluents g.0 f r.stands.fails
 act_breach P action line v (breaches.UnknownAction m name) n f r = tt
 act_breach P action line v (breaches.WrongArguments m name) n f r = tt
 act_breach P action line v (breaches.TimeGoesBack m) n f r = tt
@@ -60,7 +59,7 @@ act_limit P action v (limits.Happenings n) r = tt
 act_limit P action v (limits.Number w) r = tt
 act_limit P action v (limits.Nonlinear owner k) r = absurd r.reached
 
-pub act_halts : (P : Problem) (action : Action) (line : ℕ) (v : TimelineView) (stop : Stop Frac64) (halt : Halt) (n : ℕ) → AllEffectsFit n 0 action.effects → halt ≡ stop_halt stop → BreachExactly {A = Unit {0}} (BreaksAct IsFrac64 action line v) (Err stop) → LimitExactly {A = Unit {0}} (LimitsAct fraction_of IsFrac64 action v) (Err stop) → HaltFits P halt
+pub act_halts : (P : Problem) (action : Action) (line : ℕ) (v : TimelineView) (stop : Stop Frac64) (halt : Halt) (n : ℕ) → AllEffectsFit n P.fluents action.effects → halt ≡ stop_halt stop → BreachExactly {A = Unit {0}} (BreaksAct IsFrac64 action line v) (Err stop) → LimitExactly {A = Unit {0}} (LimitsAct fraction_of IsFrac64 action v) (Err stop) → HaltFits P halt
 act_halts P action line v (stops.Breach b) halt n f e b' l' = by_stop P (stops.Breach b) halt e (act_breach P action line v b n f b')
 act_halts P action line v (stops.Limit l) halt n f e b' l' = by_stop P (stops.Limit l) halt e (act_limit P action v l l')
 act_halts P action line v stops.Ended halt n f e b' l' = by_stop P stops.Ended halt e tt

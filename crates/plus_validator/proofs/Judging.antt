@@ -7,7 +7,7 @@ use Rattle.plus_number.specs.Frac.{fraction_of}
 use Rattle.plus_state.specs.View.{Labels}
 use Rattle.plus_tree.specs.declared.trees.Domain.{Domain}
 use Rattle.plus_tree.specs.declared.trees.Problem as tree
-use Rattle.plus_ground.specs.Expansion.{expanded, labels_meant}
+use Rattle.plus_expansion.specs.Expansion.{expanded, labels_meant}
 use Rattle.plus_report.specs.declared.verdicts.Verdict.{Verdict}
 use Rattle.plus_report.specs.declared.verdicts.Verdict.TheVariants.{Valid, Invalid, Beyond, Other}
 use Rattle.plus_report.specs.Verdicts.{verdict_text, VerdictFits}
@@ -22,7 +22,7 @@ use Rattle.plus_validator.specs.declared.judge.Outcome.TheVariants as outcomes
 use Rattle.plus_validator.specs.Outcomes.{early_outcome, outcome_of}
 use Rattle.plus_validator.specs.Playing.{Begins, PlaysWhole}
 use Rattle.plus_validator.specs.declared.judge.Outcome.{Outcome}
-use Rattle.plus_validator.specs.Plans.{plan_of}
+use Rattle.plus_validator.specs.Plans.{pair, plan_of}
 use Rattle.plus_validator.specs.Refused.{IsRefused}
 use Rattle.plus_validator.specs.Stopped.{IsStoppedInText, HaltsInPlan}
 use Rattle.plus_validator.specs.Judged.{GivesVerdict, AcceptsWhole, IsPlain, IsJudged}
@@ -74,7 +74,7 @@ both : (line line' report report' : List ℕ) → report ≡ report' → line �
 both line line' report report' e f = ap (λ t. t ++ line) e ∙ ap (λ t. report' ++ t) f
 
 module _ (d : Domain) (p : tree.Problem) (N : Labels) (P : Problem) (most : ℕ) (text : List ℕ) (goes_on : Bool) (old new : Run) where
-  says : (bytes : List ℕ) (played : Result (Unit {0}) Halt) (v : Verdict Frac64) → v ≡ Valid → length text ≤ 1048576 → P ≡ expanded d p → N ≡ labels_meant d → Begins N P most old → OnOk played (PlaysWhole d N P text goes_on old new) → IfErr played (HaltFits P) → GivesVerdict played v → bytes ≡ new.report.bytes.items ++ verdict_text fraction_of N P v → AcceptsWhole d p most text goes_on bytes
+  says : (bytes : List ℕ) (played : Result (Unit {0}) Halt) (v : Verdict Frac64) → v ≡ Valid → length text ≤ 1048576 → P ≡ expanded d p → N ≡ labels_meant d p → Begins N P most old → OnOk played (PlaysWhole (pair d p) N P text goes_on old new) → IfErr played (HaltFits P) → GivesVerdict played v → bytes ≡ new.report.bytes.items ++ verdict_text fraction_of N P v → AcceptsWhole d p most text goes_on bytes
   says bytes (Ok u) v i w e n b r f g k = record {
     whole = r.whole;
     accepted = accepted d p N P most text bytes old new w e n b r.plays (k ∙ ap (λ x. new.report.bytes.items ++ verdict_text fraction_of N P x) i);
@@ -86,19 +86,19 @@ module _ (d : Domain) (p : tree.Problem) (N : Labels) (P : Problem) (most : ℕ)
   says bytes (Err Memory) v i w e n b r f g k = absurd g
 
   -- a refusal tells where the run halts
-  says_why : (bytes : List ℕ) (played : Result (Unit {0}) Halt) (v : Verdict Frac64) → P ≡ expanded d p → N ≡ labels_meant d → Begins N P most old → IfErr played (HaltsInPlan d N P text goes_on old new) → GivesVerdict played v → outcome_of v ≢ outcomes.Valid → bytes ≡ new.report.bytes.items ++ verdict_text fraction_of N P v → IsRefused d p most text goes_on (outcome_of v) bytes
+  says_why : (bytes : List ℕ) (played : Result (Unit {0}) Halt) (v : Verdict Frac64) → P ≡ expanded d p → N ≡ labels_meant d p → Begins N P most old → IfErr played (HaltsInPlan (pair d p) N P text goes_on old new) → GivesVerdict played v → outcome_of v ≢ outcomes.Valid → bytes ≡ new.report.bytes.items ++ verdict_text fraction_of N P v → IsRefused d p most text goes_on (outcome_of v) bytes
   says_why bytes (Ok u) v e n b s g o k = absurd (o (ap outcome_of g))
   says_why bytes (Err Memory) v e n b s g o k = absurd g
   says_why bytes (Err (Refused w)) v e n b s g o k =
-      let start = b.ready (plan_of d [] false) refl refl in
-      let here : IsStoppedInText d N P old.timeline.most goes_on s.whole s.piece new.report.bytes.items w = s.halts.stops start.0 start.1 in
-      let there : IsStoppedInText d (labels_meant d) (expanded d p) most goes_on s.whole s.piece new.report.bytes.items v =
-      subst (λ M. IsStoppedInText d M (expanded d p) most goes_on s.whole s.piece new.report.bytes.items v) n
-      (subst (λ Q. IsStoppedInText d N Q most goes_on s.whole s.piece new.report.bytes.items v) e
-      (subst (λ m. IsStoppedInText d N P m goes_on s.whole s.piece new.report.bytes.items v) b.rests.most_is
-      (subst (IsStoppedInText d N P old.timeline.most goes_on s.whole s.piece new.report.bytes.items) (sym g) here))) in
-      let text_is : verdict_text fraction_of N P v ≡ verdict_text fraction_of (labels_meant d) (expanded d p) v =
-      ap (λ M. verdict_text fraction_of M P v) n ∙ ap (λ Q. verdict_text fraction_of (labels_meant d) Q v) e in
+      let start = b.ready (plan_of (pair d p) [] false) refl refl in
+      let here : IsStoppedInText (pair d p) N P old.timeline.most goes_on s.whole s.piece new.report.bytes.items w = s.halts.stops start.0 start.1 in
+      let there : IsStoppedInText (pair d p) (labels_meant d p) (expanded d p) most goes_on s.whole s.piece new.report.bytes.items v =
+      subst (λ M. IsStoppedInText (pair d p) M (expanded d p) most goes_on s.whole s.piece new.report.bytes.items v) n
+      (subst (λ Q. IsStoppedInText (pair d p) N Q most goes_on s.whole s.piece new.report.bytes.items v) e
+      (subst (λ m. IsStoppedInText (pair d p) N P m goes_on s.whole s.piece new.report.bytes.items v) b.rests.most_is
+      (subst (IsStoppedInText (pair d p) N P old.timeline.most goes_on s.whole s.piece new.report.bytes.items) (sym g) here))) in
+      let text_is : verdict_text fraction_of N P v ≡ verdict_text fraction_of (labels_meant d p) (expanded d p) v =
+      ap (λ M. verdict_text fraction_of M P v) n ∙ ap (λ Q. verdict_text fraction_of (labels_meant d p) Q v) e in
       record {
         whole = s.whole;
         piece = s.piece;
@@ -109,7 +109,7 @@ module _ (d : Domain) (p : tree.Problem) (N : Labels) (P : Problem) (most : ℕ)
         written = k ∙ both (verdict_text fraction_of N P v) _ new.report.bytes.items _ there.written text_is;
       }
 
-  pub judged : (j : Judgement) (played : Result (Unit {0}) Halt) (v : Verdict Frac64) → length text ≤ 1048576 → P ≡ expanded d p → N ≡ labels_meant d → Begins N P most old → OnOk played (PlaysWhole d N P text goes_on old new) → IfErr played (HaltsInPlan d N P text goes_on old new) → IfErr played (HaltFits P) → GivesVerdict played v → j.outcome ≡ outcome_of v → j.bytes.items ≡ new.report.bytes.items ++ verdict_text fraction_of N P v → IsJudged d p most text goes_on j
+  pub judged : (j : Judgement) (played : Result (Unit {0}) Halt) (v : Verdict Frac64) → length text ≤ 1048576 → P ≡ expanded d p → N ≡ labels_meant d p → Begins N P most old → OnOk played (PlaysWhole (pair d p) N P text goes_on old new) → IfErr played (HaltsInPlan (pair d p) N P text goes_on old new) → IfErr played (HaltFits P) → GivesVerdict played v → j.outcome ≡ outcome_of v → j.bytes.items ≡ new.report.bytes.items ++ verdict_text fraction_of N P v → IsJudged d p most text goes_on j
   judged j played v w e n b r s f g o k = record {
     valid = λ h. says j.bytes.items played v (valid_only v (sym o ∙ h)) w e n b r f g k;
     refused = λ x. subst (λ (y : Outcome). IsRefused d p most text goes_on y j.bytes.items) (sym o)

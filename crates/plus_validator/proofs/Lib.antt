@@ -6,7 +6,8 @@ pub mod Runs
 pub mod Closing
 pub mod Played
 pub mod Shown
-pub mod Atoms
+pub mod Faults
+mod Grounded
 pub mod Halting
 pub mod Stopping
 pub mod Waiting

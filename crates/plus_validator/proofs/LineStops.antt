@@ -15,12 +15,11 @@ use Rattle.plus_state.specs.declared.outcome.Breach.TheVariants as breaches
 use Rattle.plus_state.specs.declared.outcome.Limit.{Limit}
 use Rattle.plus_state.specs.declared.outcome.Limit.TheVariants as limits
 use Rattle.plus_tree.specs.declared.trees.Call.{Call}
-use Rattle.plus_tree.specs.declared.trees.Domain.{Domain}
 use Rattle.plus_plan.specs.declared.forms.Time.{Time}
 use Rattle.plus_plan.specs.declared.forms.Line.{Line}
 use Rattle.plus_plan.specs.declared.forms.Line.TheVariants as lines
 use Rattle.plus_plan.specs.TimeValue.{value_of}
-use Rattle.plus_ground.specs.Expansion.{called_of}
+use Rattle.plus_expansion.specs.Calls.{called_of}
 use Rattle.plus_timeline.specs.Finish.{BreaksFinish, LimitsFinish}
 use Rattle.plus_timeline.specs.Stops.{BreachExactly, LimitExactly}
 use Rattle.plus_timeline.specs.Timeline.{TimelineView}
@@ -33,7 +32,7 @@ use Rattle.plus_validator.specs.declared.halt.Halt.{Halt}
 use Rattle.plus_validator.specs.declared.halt.Halt.TheVariants.{Refused, Memory}
 use Rattle.plus_validator.specs.declared.run.Run.{Run}
 use Rattle.plus_validator.specs.Halts.{stop_halt}
-use Rattle.plus_validator.specs.Plans.{line_meant}
+use Rattle.plus_validator.specs.Plans.{Pair, line_meant}
 use Rattle.plus_validator.specs.Standing.{IsPlayed, CanGoOn, IsReached}
 use Rattle.plus_validator.specs.Running.{IsOnWay, Reaches}
 use Rattle.plus_validator.specs.Playing.{Readied, ActsOnce, IsInTime, closed}
@@ -43,7 +42,7 @@ use Rattle.plus_state.specs.View.{overflow_of}
 use Rattle.plus_timeline.specs.Stops.{IsGoing}
 use Rattle.plus_validator.proofs.Clear.{clear_at_end}
 use Rattle.plus_validator.specs.Refused.{NoLimit, BreachNames, NamesNone, NamesLine, NamesNoLine, HasTime, number_in, IsGoalUnfit}
-use Rattle.plus_validator.specs.Stopped.{IsReported, IsStoppedIn, StopsIn, StopsOnWay, HaltsOnWay, HaltsAtEnd, HaltsInAct, HaltsAtMoment, StopsInLine, HaltsInLine}
+use Rattle.plus_validator.specs.Stopped.{IsReported, IsStoppedIn, StopsIn, StopsInAct, StopsOnWay, HaltsOnWay, HaltsAtEnd, HaltsInAct, HaltsAtMoment, StopsInLine, HaltsInLine}
 use Rattle.plus_validator.proofs.Lines.{with_line, has_begun, act_due, acted_target, close_played, close_target, close_worked}
 use Rattle.plus_validator.proofs.Played.{not_ended, on_way}
 use Rattle.plus_validator.proofs.Stopping.{reported, breaks_at}
@@ -70,9 +69,9 @@ names_line n label (Invalid b) m = breach_names n label b m
 names_line n label (Beyond l) m = tt
 names_line n label (Other e) m = tt
 
-in_line : (d : Domain) (N : Labels) (P : Problem) (L : Plan) (most : ℕ) (line : Line) (meant : model.Line) (report : List ℕ) (halt : Halt) → line_meant d line ≡ meant ∷ [] → StopsIn N P (with_line L meant) most (number_in line) report halt → StopsInLine d N P L most line report halt
+in_line : (d : Pair) (N : Labels) (P : Problem) (L : Plan) (most : ℕ) (line : Line) (meant : model.Line) (report : List ℕ) (halt : Halt) → line_meant d line ≡ meant ∷ [] → StopsIn N P (with_line L meant) most (number_in line) report halt → StopsInLine d N P L most line report halt
 in_line d N P L most line meant report (Refused v) e s =
-    inr (subst (λ (ls : List model.Line). IsStoppedIn N P (record { lines = L.lines ++ ls; closed = L.closed }) most (number_in line) report v) (sym e) s)
+    inr (inl (subst (λ (ls : List model.Line). IsStoppedIn N P (record { lines = L.lines ++ ls; closed = L.closed }) most (number_in line) report v) (sym e) s))
 in_line d N P L most line meant report Memory e s = tt
 
 way_in : (N : Labels) (P : Problem) (L : Plan) (most n : ℕ) (report : List ℕ) (halt : Halt) → StopsOnWay N P L most report halt → StopsIn N P L most n report halt
@@ -80,7 +79,7 @@ way_in N P L most n report (Refused v) s = record { stopped = s.stopped; names =
 way_in N P L most n report Memory s = tt
 
 -- its time
-time_stops : (d : Domain) (N : Labels) (P : Problem) (line : Line) (meant : model.Line) (time : Time) (run : Run) (halt : Halt) (L : Plan) (h : List Part) → line_meant d line ≡ meant ∷ [] → HasTime line time → model.time_of meant ≡ value_of time → CanGoOn P run.timeline → HaltsAtMoment (number_in line) time run halt → Readied N P L h run → StopsInLine d N P L run.timeline.most line run.report.bytes.items halt
+time_stops : (d : Pair) (N : Labels) (P : Problem) (line : Line) (meant : model.Line) (time : Time) (run : Run) (halt : Halt) (L : Plan) (h : List Part) → line_meant d line ≡ meant ∷ [] → HasTime line time → model.time_of meant ≡ value_of time → CanGoOn P run.timeline → HaltsAtMoment (number_in line) time run halt → Readied N P L h run → StopsInLine d N P L run.timeline.most line run.report.bytes.items halt
 time_stops d N P line meant time run (Refused v) L h e k t c s r = inl (record {
   history = h;
   reported = reported N P L h run.timeline run.report.bytes.items run.report.bytes.items r.played c.within refl;
@@ -93,13 +92,13 @@ time_stops d N P line meant time run (Refused v) L h e k t c s r = inl (record {
 })
 time_stops d N P line meant time run Memory L h e k t c s r = tt
 
-pub halts_by_time : (d : Domain) (N : Labels) (P : Problem) (line : Line) (meant : model.Line) (time : Time) (run : Run) (halt : Halt) → line_meant d line ≡ meant ∷ [] → HasTime line time → model.time_of meant ≡ value_of time → CanGoOn P run.timeline → HaltsAtMoment (number_in line) time run halt → HaltsInLine d N P line run run halt
+pub halts_by_time : (d : Pair) (N : Labels) (P : Problem) (line : Line) (meant : model.Line) (time : Time) (run : Run) (halt : Halt) → line_meant d line ≡ meant ∷ [] → HasTime line time → model.time_of meant ≡ value_of time → CanGoOn P run.timeline → HaltsAtMoment (number_in line) time run halt → HaltsInLine d N P line run run halt
 halts_by_time d N P line meant time run halt e k t c s = record {
   stops = λ L h r. time_stops d N P line meant time run halt L h e k t c s r;
 }
 
 -- the way to it
-pub halts_before : (d : Domain) (N : Labels) (P : Problem) (line : Line) (meant : model.Line) (time : Time) (at : Frac64) (old new : Run) (halt : Halt) → line_meant d line ≡ meant ∷ [] → model.time_of meant ≡ value_of time → IsInTime old time at → HaltsOnWay N P (fraction_of at) old new halt → HaltsInLine d N P line old new halt
+pub halts_before : (d : Pair) (N : Labels) (P : Problem) (line : Line) (meant : model.Line) (time : Time) (at : Frac64) (old new : Run) (halt : Halt) → line_meant d line ≡ meant ∷ [] → model.time_of meant ≡ value_of time → IsInTime old time at → HaltsOnWay N P (fraction_of at) old new halt → HaltsInLine d N P line old new halt
 halts_before d N P line meant time at old new halt e t i s = record {
   stops = λ L h r.
       in_line d N P L old.timeline.most line meant new.report.bytes.items halt e
@@ -108,9 +107,9 @@ halts_before d N P line meant time at old new halt e t i s = record {
       (on_way N P L h old meant (fraction_of at) (i.is ∙ sym t) i.ahead (not_ended N P L h old i.not_ended r))));
 }
 
-module _ (d : Domain) (N : Labels) (P : Problem) (n : ℕ) (time : Time) (call : Call) (at : Frac64) (old there : Run) (i : IsInTime old time at) (r : Reaches N P (fraction_of at) old there) where
+module _ (d : Pair) (N : Labels) (P : Problem) (n : ℕ) (time : Time) (call : Call) (at : Frac64) (old there : Run) (i : IsInTime old time at) (r : Reaches N P (fraction_of at) old there) where
   line : model.Line
-  line = ActLine (value_of time) (called_of d call.name call.args)
+  line = ActLine (value_of time) (called_of d.domain d.problem call.name call.args)
 
   reached : (L : Plan) (h : List Part) → Readied N P L h old → (x : List Part) × IsReached N P (with_line L line) (length L.lines) (value_of time) x there.timeline there.report.bytes.items
   unfolding line
@@ -118,25 +117,35 @@ module _ (d : Domain) (N : Labels) (P : Problem) (n : ℕ) (time : Time) (call :
       let x = r.reached (with_line L line) (length L.lines) h (has_begun L line) (on_way N P L h old line (fraction_of at) i.is i.ahead (not_ended N P L h old i.not_ended ready)) in
       (x.0, subst (λ u. IsReached N P (with_line L line) (length L.lines) u x.0 there.timeline there.report.bytes.items) i.is x.1)
 
+  act_in : (L : Plan) (most acted : ℕ) (report : List ℕ) (halt : Halt) → acted ≡ length L.lines → StopsInAct d N P (with_line L line) most n acted call report halt → StopsInLine d N P L most (lines.Act n time call) report halt
+  unfolding line
+  act_in L most acted report Memory a s = tt
+  act_in L most acted report (Refused v) a (inl s) = inr (inl s)
+  act_in L most acted report (Refused v) a (inr s) = inr (inr (record {
+    history = s.history;
+    reported = s.reported;
+    over = record { acted_is = s.acted_is ∙ a; number = n; time = time; call = call; line_is = refl; due = s.due; beyond = s.beyond };
+  }))
+
   -- its action
-  pub halts_in_act : (new : Run) (halt : Halt) → HaltsInAct N P n (called_of d call.name call.args) there new halt → HaltsInLine d N P (lines.Act n time call) old new halt
+  pub halts_in_act : (new : Run) (halt : Halt) → HaltsInAct d N P n call there new halt → HaltsInLine d N P (lines.Act n time call) old new halt
   unfolding line
   halts_in_act new halt s = record {
     stops = λ L h ready.
         let x = reached L h ready in
-        in_line d N P L old.timeline.most (lines.Act n time call) line new.report.bytes.items halt refl
-        (subst (λ m. StopsIn N P (with_line L line) m n new.report.bytes.items halt) r.most
+        act_in L old.timeline.most there.timeline.now.acted new.report.bytes.items halt x.1.acted_is
+        (subst (λ m. StopsInAct d N P (with_line L line) m n there.timeline.now.acted call new.report.bytes.items halt) r.most
         (s.stops (with_line L line) x.0 (has_begun L line) x.1.played x.1.present
-        (act_due N P L x.0 there.timeline there.report.bytes.items (called_of d call.name call.args) (value_of time) x.1)));
+        (act_due N P L x.0 there.timeline there.report.bytes.items (called_of d.domain d.problem call.name call.args) (value_of time) x.1)));
   }
 
   -- what comes behind it
-  pub halts_behind : (acted new : Run) (now : Fraction) (halt : Halt) → ActsOnce N P (called_of d call.name call.args) there acted → now ≡ acted.timeline.now.time → HaltsOnWay N P now acted new halt → HaltsInLine d N P (lines.Act n time call) old new halt
+  pub halts_behind : (acted new : Run) (now : Fraction) (halt : Halt) → ActsOnce N P (called_of d.domain d.problem call.name call.args) there acted → now ≡ acted.timeline.now.time → HaltsOnWay N P now acted new halt → HaltsInLine d N P (lines.Act n time call) old new halt
   unfolding line
   halts_behind acted new now halt a e s = record {
     stops = λ L h ready.
         let x = reached L h ready in
-        let y = a.acted (with_line L line) x.0 (has_begun L line) x.1.played (act_due N P L x.0 there.timeline there.report.bytes.items (called_of d call.name call.args) (value_of time) x.1) in
+        let y = a.acted (with_line L line) x.0 (has_begun L line) x.1.played (act_due N P L x.0 there.timeline there.report.bytes.items (called_of d.domain d.problem call.name call.args) (value_of time) x.1) in
         let many : acted.timeline.now.acted ≡ suc (length L.lines) = a.acted_is ∙ ap suc x.1.acted_is in
         in_line d N P L old.timeline.most (lines.Act n time call) line new.report.bytes.items halt refl
         (way_in N P (with_line L line) old.timeline.most n new.report.bytes.items halt

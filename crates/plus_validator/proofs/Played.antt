@@ -32,9 +32,10 @@ use Rattle.plus_plan.specs.Lines.{numbered, plan_lines}
 use Rattle.plus_plan.specs.Answers.{IsLineAt}
 use Rattle.plus_plan.specs.declared.forms.Time.{Time}
 use Rattle.plus_plan.specs.TimeValue.{value_of}
-use Rattle.plus_ground.specs.Expansion.{called_of, expanded, labels_meant}
+use Rattle.plus_expansion.specs.Expansion.{expanded, labels_meant}
+use Rattle.plus_expansion.specs.Calls.{called_of}
 use Rattle.plus_validator.specs.Accepted.{entries_of, IsAccepted}
-use Rattle.plus_validator.specs.Plans.{line_meant, plan_of}
+use Rattle.plus_validator.specs.Plans.{Pair, pair, line_meant, plan_of}
 use Rattle.plus_validator.specs.Refused.{NoLimit}
 use Rattle.plus_validator.proofs.Clear.{clear_at_due}
 use Rattle.plus_validator.specs.Standing.{IsPlayed, CanGoOn, IsReady, IsReached}
@@ -101,7 +102,7 @@ acts_once N P call action old new c i a x e r = record {
 -- ---- lines
 
 -- a line that is no line of the plan leaves the run as it is
-pub no_line : (d : Domain) (N : Labels) (P : Problem) (line : Line) (run : Run) → line_meant d line ≡ [] → CanGoOn P run.timeline → run.timeline.now.running ≡ None → PlaysLine d N P line run run
+pub no_line : (d : Pair) (N : Labels) (P : Problem) (line : Line) (run : Run) → line_meant d line ≡ [] → CanGoOn P run.timeline → run.timeline.now.running ≡ None → PlaysLine d N P line run run
 no_line d N P line run e c m = record {
   rests = record { can = c; moment = m; most_is = refl };
   ready = λ L h r. (h, subst (λ ls. Readied N P (record { lines = ls; closed = L.closed }) h run) (sym (ap (λ x. L.lines ++ x) e ∙ append-nil L.lines)) r);
@@ -120,7 +121,7 @@ on_way N P L h run line u e le r = record {
 }
 
 -- the end of the plan is played
-pub end_played : (d : Domain) (N : Labels) (P : Problem) (n : ℕ) (time : Time) (at : Frac64) (old mid new : Run) → IsInTime old time at → Reaches N P (fraction_of at) old mid → new.timeline ≡ mid.timeline → new.report ≡ mid.report → new.ended ≡ true → PlaysLine d N P (lines.End n time) old new
+pub end_played : (d : Pair) (N : Labels) (P : Problem) (n : ℕ) (time : Time) (at : Frac64) (old mid new : Run) → IsInTime old time at → Reaches N P (fraction_of at) old mid → new.timeline ≡ mid.timeline → new.report ≡ mid.report → new.ended ≡ true → PlaysLine d N P (lines.End n time) old new
 end_played d N P n time at old mid new i r t w e = record {
   rests = record { can = subst (CanGoOn P) (sym t) r.can; moment = ap (λ v. v.now.running) t ∙ r.moment; most_is = ap (λ v. v.most) t ∙ r.most };
   ready = λ L h ready.
@@ -137,12 +138,12 @@ end_played d N P n time at old mid new i r t w e = record {
 }
 
 -- an action is played
-pub act_played : (d : Domain) (N : Labels) (P : Problem) (n : ℕ) (time : Time) (call : Call) (at : Frac64) (now : Fraction) (old there acted new : Run) → IsInTime old time at → Reaches N P (fraction_of at) old there → ActsOnce N P (called_of d call.name call.args) there acted → now ≡ acted.timeline.now.time → Reaches N P now acted new → PlaysLine d N P (lines.Act n time call) old new
+pub act_played : (d : Pair) (N : Labels) (P : Problem) (n : ℕ) (time : Time) (call : Call) (at : Frac64) (now : Fraction) (old there acted new : Run) → IsInTime old time at → Reaches N P (fraction_of at) old there → ActsOnce N P (called_of d.domain d.problem call.name call.args) there acted → now ≡ acted.timeline.now.time → Reaches N P now acted new → PlaysLine d N P (lines.Act n time call) old new
 act_played d N P n time call at now old there acted new i r a e s = record {
   rests = record { can = s.can; moment = s.moment; most_is = s.most ∙ a.most ∙ r.most };
   ready = λ L h ready.
       let k = not_ended N P L h old i.not_ended ready in
-      let called : Called = called_of d call.name call.args in
+      let called : Called = called_of d.domain d.problem call.name call.args in
       let line : model.Line = ActLine (value_of time) called in
       let L' : Plan = with_line L line in
       let x = r.reached L' (length L.lines) h (has_begun L line) (on_way N P L h old line (fraction_of at) i.is i.ahead k) in
@@ -164,7 +165,7 @@ act_played d N P n time call at now old there acted new i r a e s = record {
 -- ---- the lines of a text
 
 -- so far
-pub record ReadsTo (d : Domain) (N : Labels) (P : Problem) (text : List ℕ) (start : Run) (number from : ℕ) (run : Run) : Type 0 where
+pub record ReadsTo (d : Pair) (N : Labels) (P : Problem) (text : List ℕ) (start : Run) (number from : ℕ) (run : Run) : Type 0 where
   pub rests : IsResting P start.timeline.most run
   pub lines_read : List Line
   pub said : plan_lines Timed text ≡ map Ok lines_read ++ numbered Timed number (lines_of (drop from text))
@@ -175,7 +176,7 @@ pub record ReadsTo (d : Domain) (N : Labels) (P : Problem) (text : List ℕ) (st
   pub few : number ≤ from + 1
   pub counted : number ≡ length lines_read + 1
 
-pub reads_none : (d : Domain) (N : Labels) (P : Problem) (text : List ℕ) (run : Run) → CanGoOn P run.timeline → run.timeline.now.running ≡ None → ReadsTo d N P text run 1 0 run
+pub reads_none : (d : Pair) (N : Labels) (P : Problem) (text : List ℕ) (run : Run) → CanGoOn P run.timeline → run.timeline.now.running ≡ None → ReadsTo d N P text run 1 0 run
 reads_none d N P text run c m = record {
   rests = record { can = c; moment = m; most_is = refl };
   lines_read = [];
@@ -190,7 +191,7 @@ lines_with : (ls : List Line) (l : Line) → length (ls ++ l ∷ []) ≡ length 
 lines_with [] l = refl
 lines_with (x ∷ ls) l = let i = lines_with ls l in omega arith
 
-pub reads_more : (d : Domain) (N : Labels) (P : Problem) (text : List ℕ) (start run new : Run) (number from : ℕ) (x : Line × ℕ) → ReadsTo d N P text start number from run → IsLineAt Timed number text from x → PlaysLine d N P x.0 run new → ReadsTo d N P text start (number + 1) x.1 new
+pub reads_more : (d : Pair) (N : Labels) (P : Problem) (text : List ℕ) (start run new : Run) (number from : ℕ) (x : Line × ℕ) → ReadsTo d N P text start number from run → IsLineAt Timed number text from x → PlaysLine d N P x.0 run new → ReadsTo d N P text start (number + 1) x.1 new
 reads_more d N P text start run new number from x r l p = record {
   rests = record { can = p.rests.can; moment = p.rests.moment; most_is = p.rests.most_is ∙ r.rests.most_is };
   lines_read = r.lines_read ++ x.0 ∷ [];
@@ -204,11 +205,11 @@ reads_more d N P text start run new number from x r l p = record {
   counted = (let k = lines_with r.lines_read x.0 in let c = r.counted in omega arith);
 }
 
-pub reads_on : (d : Domain) (N : Labels) (P : Problem) (text : List ℕ) (start run new : Run) (number from : ℕ) (o : Option (Line × ℕ)) (read : Line) (next : ℕ) → o ≡ Some (read, next) → ReadsTo d N P text start number from run → IfSome o (IsLineAt Timed number text from) → PlaysLine d N P read run new → ReadsTo d N P text start (number + 1) next new
+pub reads_on : (d : Pair) (N : Labels) (P : Problem) (text : List ℕ) (start run new : Run) (number from : ℕ) (o : Option (Line × ℕ)) (read : Line) (next : ℕ) → o ≡ Some (read, next) → ReadsTo d N P text start number from run → IfSome o (IsLineAt Timed number text from) → PlaysLine d N P read run new → ReadsTo d N P text start (number + 1) next new
 reads_on d N P text start run new number from o read next e r l p =
     reads_more d N P text start run new number from (read, next) r (subst (λ x. IfSome x (IsLineAt Timed number text from)) e l) p
 
-pub reads_all : (d : Domain) (N : Labels) (P : Problem) (text : List ℕ) (start run : Run) (number from : ℕ) → ReadsTo d N P text start number from run → from ≡ length text → ReadsAll d N P text start run number
+pub reads_all : (d : Pair) (N : Labels) (P : Problem) (text : List ℕ) (start run : Run) (number from : ℕ) → ReadsTo d N P text start number from run → from ≡ length text → ReadsAll d N P text start run number
 reads_all d N P text start run number from r e = record {
   rests = r.rests;
   lines = r.lines_read;
@@ -219,7 +220,7 @@ reads_all d N P text start run number from r e = record {
 }
 
 -- the text is played to its end
-pub plays_all : (d : Domain) (N : Labels) (P : Problem) (text : List ℕ) (old mid new : Run) (number : ℕ) → ReadsAll d N P text old mid number → Closes N P mid new → PlaysAll d N P text old new
+pub plays_all : (d : Pair) (N : Labels) (P : Problem) (text : List ℕ) (old mid new : Run) (number : ℕ) → ReadsAll d N P text old mid number → Closes N P mid new → PlaysAll d N P text old new
 plays_all d N P text old mid new number r c = record {
   lines = r.lines;
   read = r.read;
@@ -230,21 +231,21 @@ plays_all d N P text old mid new number r c = record {
 }
 
 -- and accepted
-pub accepted : (d : Domain) (p : tree.Problem) (N : Labels) (P : Problem) (most : ℕ) (text bytes : List ℕ) (old new : Run) → length text ≤ 1048576 → P ≡ expanded d p → N ≡ labels_meant d → Begins N P most old → PlaysAll d N P text old new → bytes ≡ new.report.bytes.items ++ codes "valid\n" → IsAccepted d p most text bytes
+pub accepted : (d : Domain) (p : tree.Problem) (N : Labels) (P : Problem) (most : ℕ) (text bytes : List ℕ) (old new : Run) → length text ≤ 1048576 → P ≡ expanded d p → N ≡ labels_meant d p → Begins N P most old → PlaysAll (pair d p) N P text old new → bytes ≡ new.report.bytes.items ++ codes "valid\n" → IsAccepted d p most text bytes
 accepted d p N P most text bytes old new w e f b a k =
-    let start = b.ready (plan_of d [] false) refl refl in
+    let start = b.ready (plan_of (pair d p) [] false) refl refl in
     let finish = a.ends start.0 start.1 in
-    let ends : Ends (labels_meant d) (expanded d p) (plan_of d a.lines true) most finish.0 new.report.bytes.items =
-    subst (λ M. Ends M (expanded d p) (plan_of d a.lines true) most finish.0 new.report.bytes.items) f
-    (subst (λ Q. Ends N Q (plan_of d a.lines true) most finish.0 new.report.bytes.items) e
-    (subst (λ m. Ends N P (plan_of d a.lines true) m finish.0 new.report.bytes.items) b.rests.most_is finish.1)) in
+    let ends : Ends (labels_meant d p) (expanded d p) (plan_of (pair d p) a.lines true) most finish.0 new.report.bytes.items =
+    subst (λ M. Ends M (expanded d p) (plan_of (pair d p) a.lines true) most finish.0 new.report.bytes.items) f
+    (subst (λ Q. Ends N Q (plan_of (pair d p) a.lines true) most finish.0 new.report.bytes.items) e
+    (subst (λ m. Ends N P (plan_of (pair d p) a.lines true) m finish.0 new.report.bytes.items) b.rests.most_is finish.1)) in
     record {
       within = w;
       lines = a.lines;
       read = a.read;
       history = finish.0;
       happens = ends.happens;
-      only = λ other t. one_trajectory (expanded d p) (plan_of d a.lines true) other finish.0 t ends.happens;
+      only = λ other t. one_trajectory (expanded d p) (plan_of (pair d p) a.lines true) other finish.0 t ends.happens;
       few = ends.few;
       written = k ∙ ap (λ t. t ++ codes "valid\n") ends.written;
     }

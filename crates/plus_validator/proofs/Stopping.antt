@@ -1,4 +1,5 @@
 -- A run that halts: the verdict stands at the history that is reported.
+use Rattle.plus_validator.specs.Plans.{Pair}
 use Rattle.std.proofs.Common.{◌≡◌, ℕ, ◌≤◌, List, refl, ap, sym, subst, ◌∙◌, inl, inr}
 use Rattle.std.specs.Prelude.{Option, Some, None, Err, IsSomeAnd}
 use Rattle.plus_fraction.specs.Fraction.{Fraction}
@@ -19,6 +20,8 @@ use Rattle.plus_timeline.specs.Timeline.{TimelineView}
 use Rattle.plus_ground.specs.declared.faults.InstanceFault.{InstanceFault}
 use Rattle.plus_ground.specs.declared.faults.InstanceFault.TheVariants as instances
 use Rattle.plus_ground.specs.Refusals.{RefusesCall}
+use Rattle.plus_expansion.specs.Calls.{called_of}
+use Rattle.plus_tree.specs.declared.trees.Call.{Call}
 use Rattle.plus_timeline.specs.Act.{StopsAct, BreaksAct, LimitsAct, UnfitAct}
 use Rattle.plus_timeline.specs.Advance.{BreaksOff, BreaksAdvance, Reaches, LimitsAdvance}
 use Rattle.plus_timeline.specs.Laws.{breach_of}
@@ -39,8 +42,8 @@ use Rattle.plus_validator.specs.Accepted.{entries_of}
 use Rattle.plus_validator.specs.Halts.{stop_halt, CallHalts}
 use Rattle.plus_validator.specs.Standing.{IsPlayed, CanGoOn, CanReach}
 use Rattle.plus_validator.specs.Running.{IsOnWay}
-use Rattle.plus_validator.specs.Refused.{BreachNames, NamesNone, NamesLine, LimitStands, IsTimeUnfit, IsActUnfit, Stands, NoLimit, IsNoLimit}
-use Rattle.plus_validator.specs.Stopped.{IsReported, StopsOnWay, HaltsOnWay, IsStoppedIn, StopsIn, HaltsInAct}
+use Rattle.plus_validator.specs.Refused.{BreachNames, NamesNone, NamesLine, LimitStands, IsTimeUnfit, IsActUnfit, Stands, NoLimit, IsNoLimit, IsBeyondCall}
+use Rattle.plus_validator.specs.Stopped.{IsReported, StopsOnWay, HaltsOnWay, IsStoppedIn, IsStoppedAtCall, StopsIn, StopsInAct, HaltsInAct}
 use Rattle.plus_validator.proofs.Runs.{Along}
 
 -- a fact for the value of an option
@@ -147,28 +150,38 @@ call_clear N P L h call run m p d n =
     clear_at_due P L run.timeline.most h call (ap (λ (w : View). w.running) (sym p.now) ∙ m) d' (no_act_unfit P L (view_of P h) call d' n)
 
 -- the line that is due calls no action
-call_stops : (N : Labels) (P : Problem) (n : ℕ) (call : Called) (name : List ℕ) (fault : InstanceFault) (run : Run) (v : Verdict Frac64) (L : Plan) (h : List Part) → CanGoOn P run.timeline → RefusesCall call name fault → CallHalts fault n name (Refused v) → HasBegun L → IsPlayed N P L h run.timeline run.report.bytes.items → IsPresent P run.timeline.now → next_line L run.timeline.now ≡ Some (ActLine run.timeline.now.time call) → IsStoppedIn N P L run.timeline.most n run.report.bytes.items v
-call_stops N P n call name instances.UnknownAction run v L h c f k begun p q d =
-    let b : Breach Frac64 = breaches.UnknownAction n name in
+breach_of_call : (N : Labels) (P : Problem) (n : ℕ) (call : Called) (b : Breach Frac64) (run : Run) (v : Verdict Frac64) (L : Plan) (h : List Part) → CanGoOn P run.timeline → ((action : Action) → call ≡ Instance action → ⊥) → v ≡ Invalid b → HasBegun L → IsPlayed N P L h run.timeline run.report.bytes.items → IsPresent P run.timeline.now → next_line L run.timeline.now ≡ Some (ActLine run.timeline.now.time call) → IsSomeAnd (breach_of fraction_of run.timeline.now.acted b) (model.Stands P L run.timeline.now) → NamesLine n (called_label (next_line L run.timeline.now)) (Invalid b) → IsStoppedIn N P L run.timeline.most n run.report.bytes.items v
+breach_of_call N P n call b run v L h c f k begun p q d s m =
     subst (IsStoppedIn N P L run.timeline.most n run.report.bytes.items) (sym k)
-    (stopped_in N P L n h run run (Invalid b) c p refl
-    (breaks_at P L h run.timeline.now b begun p.prefix p.now (refl, record { present = q; due = d ∙ ap (λ x. Some (ActLine run.timeline.now.time x)) f }))
-    (λ _. call_clear N P L h call run q.moment p d (λ action e. (let k = f in cc (e, k)))) refl)
-call_stops N P n call name instances.WrongArguments run v L h c f k begun p q d =
-    let b : Breach Frac64 = breaches.WrongArguments n name in
-    subst (IsStoppedIn N P L run.timeline.most n run.report.bytes.items) (sym k)
-    (stopped_in N P L n h run run (Invalid b) c p refl
-    (breaks_at P L h run.timeline.now b begun p.prefix p.now (refl, record { present = q; due = d ∙ ap (λ x. Some (ActLine run.timeline.now.time x)) f }))
-    (λ _. call_clear N P L h call run q.moment p d (λ action e. (let k = f in cc (e, k)))) refl)
-call_stops N P n call name instances.TooManyNodes run v L h c f k begun p q d = absurd k
-call_stops N P n call name (instances.Literal span) run v L h c f k begun p q d = absurd k
-call_stops N P n call name instances.Memory run v L h c f k begun p q d = absurd k
+    (stopped_in N P L n h run run (Invalid b) c p refl (breaks_at P L h run.timeline.now b begun p.prefix p.now s)
+    (λ _. call_clear N P L h call run q.moment p d f) m)
 
-pub call_halts_in : (N : Labels) (P : Problem) (n : ℕ) (call : Called) (name : List ℕ) (fault : InstanceFault) (run : Run) (halt : Halt) → CanGoOn P run.timeline → RefusesCall call name fault → CallHalts fault n name halt → HaltsInAct N P n call run run halt
-call_halts_in N P n call name fault run (Refused v) c f k = record {
-  stops = λ L h begun p q d. call_stops N P n call name fault run v L h c f k begun p q d;
+-- the instance of its call is over a limit
+over_limit : (w : Pair) (N : Labels) (P : Problem) (k : Call) (run : Run) (v : Verdict Frac64) (L : Plan) (h : List Part) → CanGoOn P run.timeline → IsBeyondCall w k v → IsPlayed N P L h run.timeline run.report.bytes.items → IsPresent P run.timeline.now → next_line L run.timeline.now ≡ Some (ActLine run.timeline.now.time (called_of w.domain w.problem k.name k.args)) → IsStoppedAtCall w N P L run.timeline.most run.timeline.now.acted k run.report.bytes.items v
+over_limit w N P k run v L h c b p q d = record {
+  history = h;
+  reported = reported N P L h run.timeline run.report.bytes.items run.report.bytes.items p c.within refl;
+  acted_is = ap (λ (x : View). x.acted) (sym p.now);
+  due = subst (λ (x : View). IsDue P L x (called_of w.domain w.problem k.name k.args)) p.now (record { present = q; due = d });
+  beyond = b;
 }
-call_halts_in N P n call name fault run Memory c f k = record { stops = λ L h begun p q d. tt }
+
+call_stops : (w : Pair) (N : Labels) (P : Problem) (n : ℕ) (k : Call) (fault : InstanceFault) (run : Run) (v : Verdict Frac64) (L : Plan) (h : List Part) → CanGoOn P run.timeline → RefusesCall IsFrac64 w.domain k.name (called_of w.domain w.problem k.name k.args) fault → CallHalts fault n k.name (Refused v) → HasBegun L → IsPlayed N P L h run.timeline run.report.bytes.items → IsPresent P run.timeline.now → next_line L run.timeline.now ≡ Some (ActLine run.timeline.now.time (called_of w.domain w.problem k.name k.args)) → StopsInAct w N P L run.timeline.most n run.timeline.now.acted k run.report.bytes.items (Refused v)
+call_stops w N P n k instances.UnknownAction run v L h c f e begun p q d =
+    inl (breach_of_call N P n (called_of w.domain w.problem k.name k.args) (breaches.UnknownAction n k.name) run v L h c (λ action x. (let y = f in cc (x, y))) e begun p q d
+    (refl, record { present = q; due = d ∙ ap (λ x. Some (ActLine run.timeline.now.time x)) f }) refl)
+call_stops w N P n k instances.WrongArguments run v L h c f e begun p q d =
+    inl (breach_of_call N P n (called_of w.domain w.problem k.name k.args) (breaches.WrongArguments n k.name) run v L h c (λ action x. (let y = f in cc (x, y))) e begun p q d
+    (refl, record { present = q; due = d ∙ ap (λ x. Some (ActLine run.timeline.now.time x)) f }) refl)
+call_stops w N P n k instances.TooManyNodes run v L h c f e begun p q d = inr (over_limit w N P k run v L h c (inl (f, e)) p q d)
+call_stops w N P n k (instances.Literal span) run v L h c f e begun p q d = inr (over_limit w N P k run v L h c (inr (span, f, e)) p q d)
+call_stops w N P n k instances.Memory run v L h c f e begun p q d = absurd e
+
+pub call_halts_in : (w : Pair) (N : Labels) (P : Problem) (n : ℕ) (k : Call) (fault : InstanceFault) (run : Run) (halt : Halt) → CanGoOn P run.timeline → RefusesCall IsFrac64 w.domain k.name (called_of w.domain w.problem k.name k.args) fault → CallHalts fault n k.name halt → HaltsInAct w N P n k run run halt
+call_halts_in w N P n k fault run (Refused v) c f e = record {
+  stops = λ L h begun p q d. call_stops w N P n k fault run v L h c f e begun p q d;
+}
+call_halts_in w N P n k fault run Memory c f e = record { stops = λ L h begun p q d. tt }
 
 act_names : (action : Action) (n : ℕ) (v : View) (b : Breach Frac64) (label : List ℕ) → label ≡ action.label → StopsAct IsFrac64 action n v.state b → BreachNames n label b
 act_names action n v (breaches.Precondition line whose) label e s = (s.line_is, s.label_is ∙ sym e)
@@ -202,9 +215,14 @@ act_stops N P n action old new (stops.Limit l) L h c b' l' r begun p q d =
 act_stops N P n action old new stops.Ended L h c b' l' r begun p q d = tt
 act_stops N P n action old new stops.Memory L h c b' l' r begun p q d = tt
 
-pub act_halts_in : (N : Labels) (P : Problem) (n : ℕ) (call : Called) (action : Action) (old new : Run) (stop : Stop Frac64) (halt : Halt) → CanGoOn P old.timeline → call ≡ Instance action → halt ≡ stop_halt stop → BreachExactly {A = Unit {0}} (BreaksAct IsFrac64 action n old.timeline) (Err stop) → LimitExactly {A = Unit {0}} (LimitsAct fraction_of IsFrac64 action old.timeline) (Err stop) → new.report.bytes.items ≡ old.report.bytes.items → HaltsInAct N P n call old new halt
-act_halts_in N P n call action old new stop halt c i e b' l' r = record {
+in_act : (w : Pair) (N : Labels) (P : Problem) (L : Plan) (most n acted : ℕ) (k : Call) (report : List ℕ) (halt : Halt) → StopsIn N P L most n report halt → StopsInAct w N P L most n acted k report halt
+in_act w N P L most n acted k report (Refused v) s = inl s
+in_act w N P L most n acted k report Memory s = tt
+
+pub act_halts_in : (w : Pair) (N : Labels) (P : Problem) (n : ℕ) (k : Call) (action : Action) (old new : Run) (stop : Stop Frac64) (halt : Halt) → CanGoOn P old.timeline → called_of w.domain w.problem k.name k.args ≡ Instance action → halt ≡ stop_halt stop → BreachExactly {A = Unit {0}} (BreaksAct IsFrac64 action n old.timeline) (Err stop) → LimitExactly {A = Unit {0}} (LimitsAct fraction_of IsFrac64 action old.timeline) (Err stop) → new.report.bytes.items ≡ old.report.bytes.items → HaltsInAct w N P n k old new halt
+act_halts_in w N P n k action old new stop halt c i e b' l' r = record {
   stops = λ L h begun p q d.
-      subst (StopsIn N P L old.timeline.most n new.report.bytes.items) (sym e)
-      (act_stops N P n action old new stop L h c b' l' r begun p q (d ∙ ap (λ x. Some (ActLine old.timeline.now.time x)) i));
+      in_act w N P L old.timeline.most n old.timeline.now.acted k new.report.bytes.items halt
+      (subst (StopsIn N P L old.timeline.most n new.report.bytes.items) (sym e)
+      (act_stops N P n action old new stop L h c b' l' r begun p q (d ∙ ap (λ x. Some (ActLine old.timeline.now.time x)) i)));
 }

@@ -19,7 +19,6 @@ use Rattle.plus_number.specs.Frac.{fraction_of}
 use Rattle.plus_state.specs.View.{Labels}
 use Rattle.plus_state.specs.declared.outcome.Breach.{Breach}
 use Rattle.plus_state.specs.declared.outcome.Breach.TheVariants as breaches
-use Rattle.plus_tree.specs.declared.trees.Domain.{Domain}
 use Rattle.plus_plan.specs.declared.forms.Time.{Time}
 use Rattle.plus_plan.specs.declared.forms.Line.{Line}
 use Rattle.plus_plan.specs.declared.forms.PlanForm.TheVariants.{Timed}
@@ -36,11 +35,12 @@ use Rattle.plus_validator.specs.declared.halt.Halt.{Halt}
 use Rattle.plus_validator.specs.declared.halt.Halt.TheVariants.{Refused, Memory}
 use Rattle.plus_validator.specs.declared.run.Run.{Run}
 use Rattle.plus_validator.specs.Halts.{line_halt}
-use Rattle.plus_validator.specs.Plans.{line_meant, lines_meant, plan_of}
+use Rattle.plus_validator.specs.Plans.{Pair, line_meant, lines_meant, plan_of}
 use Rattle.plus_validator.specs.Standing.{CanGoOn}
 use Rattle.plus_validator.specs.Playing.{Readied, ReadsAll}
-use Rattle.plus_validator.specs.Refused.{Stands, IsClear, AreWorked, NamesFault, IsWaiting, TimeFault, after_end, no_value, goes_back, cut_verdict, NonePlays, BreachRefutes, Refutes, IsNoLimit, number_in}
-use Rattle.plus_validator.specs.Stopped.{IsReported, IsStoppedIn, StopsOnWay, StopsInLine, HaltsInLine, HaltsAtEnd, IsStoppedInText, StopsInText, HaltsInLines, HaltsInText}
+use Rattle.plus_validator.specs.Refused.{Stands, IsClear, AreWorked, NamesFault, IsWaiting, TimeFault, after_end, no_value, goes_back, cut_verdict, NonePlays, BreachRefutes, Refutes, IsNoLimit, IsBeyondCall, number_in}
+use Rattle.plus_tree.specs.declared.trees.Call.{Call}
+use Rattle.plus_validator.specs.Stopped.{IsReported, IsStoppedIn, IsStoppedOver, StopsOnWay, StopsInLine, HaltsInLine, HaltsAtEnd, IsStoppedInText, StopsInText, HaltsInLines, HaltsInText}
 use Rattle.plus_validator.proofs.Played.{ReadsTo}
 use Rattle.plus_validator.proofs.Texts.{plan_of-append}
 use Rattle.plus_validator.proofs.Stopping.{reported}
@@ -49,7 +49,7 @@ use Rattle.plus_validator.proofs.Clear.{clear_waiting, clear_grows, unbegun_rest
 
 -- ---- no prefix is longer
 
-pub waiting_longest : (d : Domain) (P : Problem) (ls : List Line) (h : List Part) → Prefix P (plan_of d ls false) h → IsWaiting P (plan_of d ls false) h → IsLongest P (plan_of d ls false) h
+pub waiting_longest : (d : Pair) (P : Problem) (ls : List Line) (h : List Part) → Prefix P (plan_of d ls false) h → IsWaiting P (plan_of d ls false) h → IsLongest P (plan_of d ls false) h
 waiting_longest d P ls h p (inl n) = unbegun_is_longest P (plan_of d ls false) h p (λ b. elim b [ inl s ↦ s n | inr t ↦ (let e : false ≡ true = t in cc e) ])
 waiting_longest d P ls h p (inr w) = worked_is_longest P (plan_of d ls false) h p w
 
@@ -65,15 +65,15 @@ stands_longest P L most h (Other e) s n = absurd s
 
 -- ---- no plan that begins so has a trajectory
 
-lines_meant-more : (d : Domain) (xs ys : List Line) → lines_meant d (xs ++ ys) ≡ lines_meant d xs ++ lines_meant d ys
+lines_meant-more : (d : Pair) (xs ys : List Line) → lines_meant d (xs ++ ys) ≡ lines_meant d xs ++ lines_meant d ys
 lines_meant-more d [] ys = refl
 lines_meant-more d (x ∷ xs) ys = ap (λ t. line_meant d x ++ t) (lines_meant-more d xs ys) ∙ sym (append_assoc (line_meant d x) (lines_meant d xs) (lines_meant d ys))
 
-goes_on : (d : Domain) (ls more : List Line) (c c' : Bool) → GoesOnFrom (plan_of d ls c) (plan_of d (ls ++ more) c')
+goes_on : (d : Pair) (ls more : List Line) (c c' : Bool) → GoesOnFrom (plan_of d ls c) (plan_of d (ls ++ more) c')
 goes_on d ls more c c' = record { more = lines_meant d more; lines = lines_meant-more d ls more }
 
 -- where no plan plays, the verdict tells no more than that
-refutes : (d : Domain) (P : Problem) (ls : List Line) (v : Verdict Frac64) → NonePlays d P ls → Refutes d P ls v
+refutes : (d : Pair) (P : Problem) (ls : List Line) (v : Verdict Frac64) → NonePlays d P ls → Refutes d P ls v
 refutes d P ls Valid n = tt
 refutes d P ls (Beyond l) n = tt
 refutes d P ls (Other e) n = tt
@@ -96,23 +96,23 @@ not_goal P L h b c s e =
     let f : false ≡ true = sym c ∙ k in
     cc f
 
-none_after_breach : (d : Domain) (P : Problem) (ls : List Line) (h : List Part) (o : Option breach.Breach) → IsSomeAnd o (Breaks P (plan_of d ls false) h) → NonePlays d P ls
+none_after_breach : (d : Pair) (P : Problem) (ls : List Line) (h : List Part) (o : Option breach.Breach) → IsSomeAnd o (Breaks P (plan_of d ls false) h) → NonePlays d P ls
 none_after_breach d P ls h None s = absurd s
 none_after_breach d P ls h (Some b) s =
     λ more closed h' t. breach_is_final P (plan_of d ls false) h b s (not_goal P (plan_of d ls false) h b refl s) (plan_of d (ls ++ more) closed) h' (goes_on d ls more false closed) t
 
 -- of lines that are not all
-stands_refutes : (d : Domain) (P : Problem) (ls : List Line) (most : ℕ) (h : List Part) (v : Verdict Frac64) → Stands P (plan_of d ls false) most h v → Refutes d P ls v
+stands_refutes : (d : Pair) (P : Problem) (ls : List Line) (most : ℕ) (h : List Part) (v : Verdict Frac64) → Stands P (plan_of d ls false) most h v → Refutes d P ls v
 stands_refutes d P ls most h Valid s = absurd s
 stands_refutes d P ls most h (Invalid b) s = refutes d P ls (Invalid b) (none_after_breach d P ls h _ s)
 stands_refutes d P ls most h (Beyond l) s = tt
 stands_refutes d P ls most h (Other e) s = tt
 
-none_plays_on : (d : Domain) (P : Problem) (ls : List Line) (h : List Part) (b : breach.Breach) → Breaks P (plan_of d ls true) h b → b ≢ breach.Goal → NonePlays d P ls
+none_plays_on : (d : Pair) (P : Problem) (ls : List Line) (h : List Part) (b : breach.Breach) → Breaks P (plan_of d ls true) h b → b ≢ breach.Goal → NonePlays d P ls
 none_plays_on d P ls h b s n = λ more closed h' t. breach_is_final P (plan_of d ls true) h b s n (plan_of d (ls ++ more) closed) h' (goes_on d ls more true closed) t
 
 -- of all lines
-end_breach : (d : Domain) (P : Problem) (ls : List Line) (h : List Part) (acted : ℕ) (b : Breach Frac64) → IsSomeAnd (breach_of fraction_of acted b) (Breaks P (plan_of d ls true) h) → BreachRefutes d P ls b
+end_breach : (d : Pair) (P : Problem) (ls : List Line) (h : List Part) (acted : ℕ) (b : Breach Frac64) → IsSomeAnd (breach_of fraction_of acted b) (Breaks P (plan_of d ls true) h) → BreachRefutes d P ls b
 end_breach d P ls h acted (breaches.UnknownAction line name) s = none_plays_on d P ls h (breach.UnknownAction acted name) s (λ e. cc e)
 end_breach d P ls h acted (breaches.WrongArguments line name) s = none_plays_on d P ls h (breach.WrongArguments acted name) s (λ e. cc e)
 end_breach d P ls h acted (breaches.Precondition line whose) s = none_plays_on d P ls h (breach.Precondition acted) s (λ e. cc e)
@@ -126,14 +126,14 @@ end_breach d P ls h acted (breaches.Coupled x y) s = none_plays_on d P ls h (bre
 end_breach d P ls h acted (breaches.NoFirstMoment x t) s = none_plays_on d P ls h (breach.NoFirstMoment x.0 (fraction_of t)) s (λ e. cc e)
 end_breach d P ls h acted breaches.Goal s = λ h' t. breach_is_no_trajectory P (plan_of d ls true) h h' breach.Goal s t
 
-end_refutes : (d : Domain) (P : Problem) (ls : List Line) (most : ℕ) (h : List Part) (v : Verdict Frac64) → Stands P (plan_of d ls true) most h v → Refutes d P ls v
+end_refutes : (d : Pair) (P : Problem) (ls : List Line) (most : ℕ) (h : List Part) (v : Verdict Frac64) → Stands P (plan_of d ls true) most h v → Refutes d P ls v
 end_refutes d P ls most h Valid s = absurd s
 end_refutes d P ls most h (Invalid b) s = end_breach d P ls h (view_of P h).acted b s
 end_refutes d P ls most h (Beyond l) s = tt
 end_refutes d P ls most h (Other e) s = tt
 
 -- of a line that cannot be played
-none_after_line : (d : Domain) (P : Problem) (ls : List Line) (line : Line) (h : List Part) (meant : model.Line) (b : LineBreach) → line_meant d line ≡ meant ∷ [] → BreaksBy P (plan_of d ls false) h meant b → NonePlays d P (ls ++ line ∷ [])
+none_after_line : (d : Pair) (P : Problem) (ls : List Line) (line : Line) (h : List Part) (meant : model.Line) (b : LineBreach) → line_meant d line ≡ meant ∷ [] → BreaksBy P (plan_of d ls false) h meant b → NonePlays d P (ls ++ line ∷ [])
 none_after_line d P ls line h meant b e s =
     λ more closed h' t.
     line_breach_is_final P (plan_of d ls false) h meant b s (plan_of d ((ls ++ line ∷ []) ++ more) closed) h' (lines_meant d more)
@@ -141,7 +141,7 @@ none_after_line d P ls line h meant b e s =
     ∙ append_assoc (lines_meant d ls) (meant ∷ []) (lines_meant d more))
     t
 
-time_refutes : (d : Domain) (P : Problem) (ls : List Line) (line : Line) (h : List Part) (meant : model.Line) (time : Time) (n : ℕ) (v : Verdict Frac64) → line_meant d line ≡ meant ∷ [] → TimeFault P (plan_of d ls false) h n meant time v → Refutes d P (ls ++ line ∷ []) v
+time_refutes : (d : Pair) (P : Problem) (ls : List Line) (line : Line) (h : List Part) (meant : model.Line) (time : Time) (n : ℕ) (v : Verdict Frac64) → line_meant d line ≡ meant ∷ [] → TimeFault P (plan_of d ls false) h n meant time v → Refutes d P (ls ++ line ∷ []) v
 time_refutes d P ls line h meant time n v e (after_end b k) = refutes d P (ls ++ line ∷ []) v (none_after_line d P ls line h meant breach.AfterEnd e b)
 time_refutes d P ls line h meant time n v e (no_value b f k) = subst (Refutes d P (ls ++ line ∷ [])) (sym k) tt
 time_refutes d P ls line h meant time n v e (goes_back b f k) = refutes d P (ls ++ line ∷ []) v (none_after_line d P ls line h meant breach.TimeGoesBack e b)
@@ -169,7 +169,7 @@ some_more : (xs ys : List model.Line) → xs ++ ys ≡ [] → xs ≡ []
 some_more [] ys e = refl
 some_more (x ∷ xs) ys e = cc e
 
-begun_more : (d : Domain) (ls more : List Line) (closed : Bool) → HasBegun (plan_of d ls false) → HasBegun (plan_of d (ls ++ more) closed)
+begun_more : (d : Pair) (ls more : List Line) (closed : Bool) → HasBegun (plan_of d ls false) → HasBegun (plan_of d (ls ++ more) closed)
 begun_more d ls more closed (inl n) = inl (λ e. n (some_more (lines_meant d ls) (lines_meant d more) (sym (lines_meant-more d ls more) ∙ e)))
 begun_more d ls more closed (inr t) = let f : false ≡ true = t in absurd (cc f)
 
@@ -178,7 +178,7 @@ is_begun [] = inr (λ b. elim b [ inl n ↦ n refl | inr t ↦ (let f : false �
 is_begun (l ∷ ls) = inl (inl (λ e. cc e))
 
 -- the lines read, and the same with more
-are_worked : (d : Domain) (P : Problem) (ls more : List Line) (closed : Bool) (most : ℕ) (g h : List Part) (v : Verdict Frac64) → Prefix P (plan_of d ls false) g → IsClear P (plan_of d ls false) most g → IsWaiting P (plan_of d ls false) g → Prefix P (plan_of d (ls ++ more) closed) h → Stands P (plan_of d (ls ++ more) closed) most h v → (HasBegun (plan_of d (ls ++ more) closed)) ⊎ (HasBegun (plan_of d (ls ++ more) closed) → ⊥) → AreWorked P (plan_of d ls false) h
+are_worked : (d : Pair) (P : Problem) (ls more : List Line) (closed : Bool) (most : ℕ) (g h : List Part) (v : Verdict Frac64) → Prefix P (plan_of d ls false) g → IsClear P (plan_of d ls false) most g → IsWaiting P (plan_of d ls false) g → Prefix P (plan_of d (ls ++ more) closed) h → Stands P (plan_of d (ls ++ more) closed) most h v → (HasBegun (plan_of d (ls ++ more) closed)) ⊎ (HasBegun (plan_of d (ls ++ more) closed) → ⊥) → AreWorked P (plan_of d ls false) h
 are_worked d P ls more closed most g h v a c w p s (inl b) =
     let L = plan_of d ls false in
     let M = plan_of d (ls ++ more) closed in
@@ -199,15 +199,24 @@ are_worked d P ls more closed most g h v a c w p s (inr n) = record {
   };
 }
 
+-- an instance over a limit is a limit, and refutes nothing
+beyond_is_limit : (d : Pair) (call : Call) (v : Verdict Frac64) → IsBeyondCall d call v → IsNoLimit v → ⊥
+beyond_is_limit d call v (inl b) n = subst IsNoLimit b.1 n
+beyond_is_limit d call v (inr b) n = subst IsNoLimit b.2 n
+
+beyond_refutes : (d : Pair) (P : Problem) (ls : List Line) (call : Call) (v : Verdict Frac64) → IsBeyondCall d call v → Refutes d P ls v
+beyond_refutes d P ls call v (inl b) = subst (Refutes d P ls) (sym b.1) tt
+beyond_refutes d P ls call v (inr b) = subst (Refutes d P ls) (sym b.2) tt
+
 -- ---- what the run leaves
 
 -- the report is that of the lines read, which are worked
-waiting_report : (d : Domain) (N : Labels) (P : Problem) (ls : List Line) (most : ℕ) (h : List Part) (run : Run) → CanGoOn P run.timeline → run.timeline.most ≡ most → Readied N P (plan_of d ls false) h run → IsReported N P (plan_of d ls false) most h run.report.bytes.items
+waiting_report : (d : Pair) (N : Labels) (P : Problem) (ls : List Line) (most : ℕ) (h : List Part) (run : Run) → CanGoOn P run.timeline → run.timeline.most ≡ most → Readied N P (plan_of d ls false) h run → IsReported N P (plan_of d ls false) most h run.report.bytes.items
 waiting_report d N P ls most h run c m r =
     subst (λ k. IsReported N P (plan_of d ls false) k h run.report.bytes.items) m
     (reported N P (plan_of d ls false) h run.timeline run.report.bytes.items run.report.bytes.items r.played c.within refl)
 
-module _ (d : Domain) (N : Labels) (P : Problem) (text : List ℕ) (start run : Run) (number from : ℕ) (r : ReadsTo d N P text start number from run) where
+module _ (d : Pair) (N : Labels) (P : Problem) (text : List ℕ) (start run : Run) (number from : ℕ) (r : ReadsTo d N P text start number from run) where
   -- the verdict on a next line that is none
   none_next : (fault : PlanFault) (v : Verdict Frac64) (more : Bool) (piece : List ℕ) (h : List Part) → numbered Timed number (lines_of (drop from text)) ≡ Err fault ∷ numbered Timed (number + 1) (lines_of (drop (next_line text from) text)) → NamesFault fault v → Refutes d P (r.lines_read ++ []) v → Readied N P (plan_of d [] false) h start → IsStoppedInText d N P start.timeline.most more text piece run.report.bytes.items v
   none_next fault v more piece h e n f ready =
@@ -265,7 +274,26 @@ module _ (d : Domain) (N : Labels) (P : Problem) (text : List ℕ) (start run : 
     };
     written = b.reported.written;
   }
-  line_stops new x (Refused v) more piece g ready w l (inr b) =
+  line_stops new x (Refused v) more piece g ready w l (inr (inr b)) =
+      let k = subst (λ (M : Plan). IsStoppedOver d N P M start.timeline.most (length (plan_of d r.lines_read false).lines) x.0 new.report.bytes.items v) (sym (plan_of-append d r.lines_read x.0 false)) b in
+      record {
+        refusal = record {
+          before = r.lines_read;
+          rest = Ok x.0 ∷ numbered Timed (number + 1) (lines_of (drop x.1 text));
+          read = r.said ∙ ap (λ t. map Ok r.lines_read ++ t) l.said;
+          plan = plan_of d (r.lines_read ++ x.0 ∷ []) false;
+          history = k.history;
+          prefix = k.reported.prefix;
+          few = k.reported.few;
+          clear = k.reported.clear;
+          alone = λ n. absurd (beyond_is_limit d k.over.call v k.over.beyond n);
+          cause = inr (inr (record { lines = refl; over = k.over }));
+          longest = λ n. absurd (beyond_is_limit d k.over.call v k.over.beyond n);
+          final = beyond_refutes d P (r.lines_read ++ x.0 ∷ []) k.over.call v k.over.beyond;
+        };
+        written = k.reported.written;
+      }
+  line_stops new x (Refused v) more piece g ready w l (inr (inl b)) =
       let k = subst (λ (M : Plan). IsStoppedIn N P M start.timeline.most (number_in x.0) new.report.bytes.items v) (sym (plan_of-append d r.lines_read x.0 false)) b in
       record {
         refusal = record {
@@ -278,13 +306,13 @@ module _ (d : Domain) (N : Labels) (P : Problem) (text : List ℕ) (start run : 
           few = k.stopped.reported.few;
           clear = k.stopped.reported.clear;
           alone = k.stopped.alone;
-          cause = inr (record {
+          cause = inr (inl (record {
             lines = refl;
             worked = are_worked d P r.lines_read (x.0 ∷ []) false start.timeline.most g k.stopped.history v ready.prefix ready.clear w k.stopped.reported.prefix k.stopped.stands
                 (is_begun (lines_meant d (r.lines_read ++ x.0 ∷ [])));
             stands = k.stopped.stands;
             names = k.names;
-          });
+          }));
           longest = stands_longest P (plan_of d (r.lines_read ++ x.0 ∷ []) false) start.timeline.most k.stopped.history v k.stopped.stands;
           final = stands_refutes d P (r.lines_read ++ x.0 ∷ []) start.timeline.most k.stopped.history v k.stopped.stands;
         };
@@ -305,7 +333,7 @@ module _ (d : Domain) (N : Labels) (P : Problem) (text : List ℕ) (start run : 
 
 -- ---- all lines are worked
 
-module _ (d : Domain) (N : Labels) (P : Problem) (text : List ℕ) (old mid : Run) (number : ℕ) (r : ReadsAll d N P text old mid number) where
+module _ (d : Pair) (N : Labels) (P : Problem) (text : List ℕ) (old mid : Run) (number : ℕ) (r : ReadsAll d N P text old mid number) where
   end_worked : (g h : List Part) (v : Verdict Frac64) → IsReported N P (plan_of d r.lines false) old.timeline.most g mid.report.bytes.items → IsWaiting P (plan_of d r.lines false) g → Prefix P (plan_of d r.lines true) h → Stands P (plan_of d r.lines true) old.timeline.most h v → AreWorked P (plan_of d r.lines false) h
   end_worked g h v a w p s =
       let more : plan_of d r.lines true ≡ plan_of d (r.lines ++ []) true = ap (λ (ls : List Line). plan_of d ls true) (sym (append-nil r.lines)) in
@@ -371,5 +399,5 @@ module _ (d : Domain) (N : Labels) (P : Problem) (text : List ℕ) (old mid : Ru
         });
   }
 
-pub lines_halt : (d : Domain) (N : Labels) (P : Problem) (text : List ℕ) (old new : Run) (more : Bool) (piece : List ℕ) (halt : Halt) → HaltsInLines d N P text old new halt → HaltsInText d N P more text piece old new halt
+pub lines_halt : (d : Pair) (N : Labels) (P : Problem) (text : List ℕ) (old new : Run) (more : Bool) (piece : List ℕ) (halt : Halt) → HaltsInLines d N P text old new halt → HaltsInText d N P more text piece old new halt
 lines_halt d N P text old new more piece halt s = record { stops = λ h ready. s.stops more piece h ready }

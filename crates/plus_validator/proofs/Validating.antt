@@ -19,26 +19,26 @@ some_fact (Some x) P Q f h = f x h
 
 -- ---- the pair is not grounded
 
-pub ungrounded_not_valid : (d : Domain) (before now : ℕ) (old new : Option (List ℕ)) (r : Outcome) → EndsUngrounded d before now old new r → r ≡ Valid → ⊥
-ungrounded_not_valid d before now old new r e h = subst (EndsUngrounded d before now old new) h e
+pub ungrounded_not_valid : (d : Domain) (p : Problem) (before now : ℕ) (old new : Option (List ℕ)) (r : Outcome) → EndsUngrounded d p before now old new r → r ≡ Valid → ⊥
+ungrounded_not_valid d p before now old new r e h = subst (EndsUngrounded d p before now old new) h e
 
-pub ungrounded_reads : (d : Domain) (before now : ℕ) (old new : Option (List ℕ)) (r : Outcome) → EndsUngrounded d before now old new r → r ≡ ReadFault → ⊥
-ungrounded_reads d before now old new r e h = subst (EndsUngrounded d before now old new) h e
+pub ungrounded_reads : (d : Domain) (p : Problem) (before now : ℕ) (old new : Option (List ℕ)) (r : Outcome) → EndsUngrounded d p before now old new r → r ≡ ReadFault → ⊥
+ungrounded_reads d p before now old new r e h = subst (EndsUngrounded d p before now old new) h e
 
-pub ungrounded_refused : (d : Domain) (before now : ℕ) (old new : Option (List ℕ)) (r : Outcome) → EndsUngrounded d before now old new r → IsRefusal r → (r ≡ Beyond) × RefusesPair d old new
-ungrounded_refused d before now old new Beyond e h = (refl, e)
-ungrounded_refused d before now old new Invalid e h = absurd e
-ungrounded_refused d before now old new BadText e h = absurd e
-ungrounded_refused d before now old new Valid e h = absurd e
-ungrounded_refused d before now old new ReadFault e h = absurd e
-ungrounded_refused d before now old new WriteFault e h = absurd h
-ungrounded_refused d before now old new NoMemory e h = absurd h
+pub ungrounded_refused : (d : Domain) (p : Problem) (before now : ℕ) (old new : Option (List ℕ)) (r : Outcome) → EndsUngrounded d p before now old new r → IsRefusal r → (r ≡ Beyond) × RefusesPair d p old new
+ungrounded_refused d p before now old new Beyond e h = (refl, e)
+ungrounded_refused d p before now old new Invalid e h = absurd e
+ungrounded_refused d p before now old new BadText e h = absurd e
+ungrounded_refused d p before now old new Valid e h = absurd e
+ungrounded_refused d p before now old new ReadFault e h = absurd e
+ungrounded_refused d p before now old new WriteFault e h = absurd h
+ungrounded_refused d p before now old new NoMemory e h = absurd h
 
-pub ungrounded_fault : (d : Domain) (before now : ℕ) (old new : Option (List ℕ)) (r : Outcome) → EndsUngrounded d before now old new r → r ≡ WriteFault → Rose before now × RefusesPairInPart d old new
-ungrounded_fault d before now old new r e h = subst (EndsUngrounded d before now old new) h e
+pub ungrounded_fault : (d : Domain) (p : Problem) (before now : ℕ) (old new : Option (List ℕ)) (r : Outcome) → EndsUngrounded d p before now old new r → r ≡ WriteFault → Rose before now × RefusesPairInPart d p old new
+ungrounded_fault d p before now old new r e h = subst (EndsUngrounded d p before now old new) h e
 
-pub ungrounded_memory : (d : Domain) (before now : ℕ) (old new : Option (List ℕ)) (r : Outcome) → EndsUngrounded d before now old new r → r ≡ NoMemory → new ≡ old
-ungrounded_memory d before now old new r e h = subst (EndsUngrounded d before now old new) h e
+pub ungrounded_memory : (d : Domain) (p : Problem) (before now : ℕ) (old new : Option (List ℕ)) (r : Outcome) → EndsUngrounded d p before now old new r → r ≡ NoMemory → new ≡ old
+ungrounded_memory d p before now old new r e h = subst (EndsUngrounded d p before now old new) h e
 
 -- ---- the plan is not read
 

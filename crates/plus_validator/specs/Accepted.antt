@@ -8,9 +8,9 @@ use Rattle.plus_tree.specs.declared.trees.Problem.{Problem}
 use Rattle.plus_plan.specs.declared.forms.Line.{Line}
 use Rattle.plus_plan.specs.declared.forms.PlanForm.TheVariants.{Timed}
 use Rattle.plus_plan.specs.Lines.{plan_lines}
-use Rattle.plus_ground.specs.Expansion.{expanded, labels_meant}
+use Rattle.plus_expansion.specs.Expansion.{expanded, labels_meant}
 use Rattle.plus_report.specs.Report.{report_of}
-use Rattle.plus_validator.specs.Plans.{plan_of}
+use Rattle.plus_validator.specs.Plans.{pair, plan_of}
 use Rattle.plus_validator.specs.Limits.{text_limit}
 
 -- how many moments a history enters
@@ -26,7 +26,7 @@ pub record IsAccepted (d : Domain) (p : Problem) (most : ℕ) (text bytes : List
   pub lines : List Line
   pub read : plan_lines Timed text ≡ map Ok lines
   pub history : List Part
-  pub happens : Trajectory (expanded d p) (plan_of d lines true) history
-  pub only : (other : List Part) → Trajectory (expanded d p) (plan_of d lines true) other → other ≡ history
+  pub happens : Trajectory (expanded d p) (plan_of (pair d p) lines true) history
+  pub only : (other : List Part) → Trajectory (expanded d p) (plan_of (pair d p) lines true) other → other ≡ history
   pub few : entries_of history ≤ most
-  pub written : bytes ≡ report_of (labels_meant d) (expanded d p) (plan_of d lines true) history ++ codes "valid\n"
+  pub written : bytes ≡ report_of (labels_meant d p) (expanded d p) (plan_of (pair d p) lines true) history ++ codes "valid\n"

@@ -11,7 +11,9 @@ use Rattle.plus_timeline.specs.declared.stop.Stop.TheVariants as stops
 use Rattle.plus_report.specs.declared.verdicts.Verdict.{Verdict}
 use Rattle.plus_number.specs.declared.frac.Frac64.{Frac64}
 use Rattle.plus_report.specs.declared.verdicts.Verdict.TheVariants.{Valid, Invalid, Beyond, Other}
-use Rattle.plus_report.specs.declared.refusals.Early.TheVariants.{BadLine, LineTooLong}
+use Rattle.plus_report.specs.declared.refusals.Early.TheVariants.{BadLine, LineTooLong, Literal, TooMany}
+use Rattle.plus_report.specs.declared.refusals.Kinds.TheVariants as kinds
+use Rattle.plus_report.specs.declared.refusals.Text.TheVariants as texts
 use Rattle.plus_report.specs.Verdicts.{BreachFits, LimitFits}
 use Rattle.plus_validator.specs.declared.halt.Halt.{Halt}
 use Rattle.plus_validator.specs.declared.halt.Halt.TheVariants.{Refused, Memory}
@@ -38,12 +40,12 @@ NamesOf P Memory = Unit {0}
 pub record HaltFits (P : Problem) (halt : Halt) : Type 0 where
   pub names : NamesOf P halt
 
--- the verdict on the call of a line that names no action: its number, and the name
+-- the verdict on the call of a line: its number and the name where it names no action, else which limit its instance is over
 abbrev pub CallVerdict : InstanceFault → ℕ → List ℕ → Verdict Frac64 → Type 0
 CallVerdict instances.UnknownAction line name v = v ≡ Invalid (breaches.UnknownAction line name)
 CallVerdict instances.WrongArguments line name v = v ≡ Invalid (breaches.WrongArguments line name)
-CallVerdict instances.TooManyNodes line name v = ⊥
-CallVerdict (instances.Literal span) line name v = ⊥
+CallVerdict instances.TooManyNodes line name v = v ≡ Other (TooMany kinds.Nodes 1000000)
+CallVerdict (instances.Literal span) line name v = v ≡ Other (Literal texts.Domain span.start span.«end»)
 CallVerdict instances.Memory line name v = ⊥
 
 abbrev pub CallHalts : InstanceFault → ℕ → List ℕ → Halt → Type 0

@@ -11,24 +11,22 @@ use Rattle.plus_state.specs.declared.problem.Ground.{Ground}
 use Rattle.plus_state.specs.View.{Labels, problem_of, labels_of}
 use Rattle.plus_tree.specs.declared.trees.Domain.{Domain}
 use Rattle.plus_tree.specs.declared.trees.Problem as tree
-use Rattle.plus_types.specs.Faults.{predicate_names}
 use Rattle.plus_plan.specs.declared.forms.Time.{Time}
 use Rattle.plus_plan.specs.declared.forms.Line.{Line}
 use Rattle.plus_plan.specs.declared.forms.PlanForm.TheVariants.{Timed}
 use Rattle.plus_plan.specs.TimeValue.{value_of}
 use Rattle.plus_plan.specs.Lines.{plan_lines}
-use Rattle.plus_ground.specs.Expansion.{expanded, labels_meant}
+use Rattle.plus_expansion.specs.Expansion.{expanded, labels_meant}
 use Rattle.plus_report.specs.Report.{report_of}
 use Rattle.plus_validator.specs.Accepted.{entries_of}
-use Rattle.plus_validator.specs.Plans.{line_meant, plan_of}
+use Rattle.plus_validator.specs.Plans.{Pair, line_meant, plan_of}
 use Rattle.plus_validator.specs.Standing.{IsPlayed, CanGoOn, IsReady}
 use Rattle.plus_validator.specs.declared.run.Run.{Run}
 
 -- the ground form of a pair
 pub record IsGroundOf (d : Domain) (p : tree.Problem) (g : Ground Frac64) : Type 0 where
   pub expands : problem_of fraction_of g ≡ expanded d p
-  pub labels : labels_of g ≡ labels_meant d
-  pub few : length (predicate_names d) ≤ 200000
+  pub labels : labels_of g ≡ labels_meant d p
 
 -- the time of a line that may be played: none stands after an end, and time does not go back
 pub record IsInTime (run : Run) (time : Time) (at : Frac64) : Type 0 where
@@ -60,14 +58,14 @@ pub record IsResting (P : Problem) (most : ℕ) (run : Run) : Type 0 where
   pub most_is : run.timeline.most ≡ most
 
 -- a line of the text is played
-pub record PlaysLine (d : Domain) (N : Labels) (P : Problem) (line : Line) (old new : Run) : Type 0 where
+pub record PlaysLine (d : Pair) (N : Labels) (P : Problem) (line : Line) (old new : Run) : Type 0 where
   pub rests : IsResting P old.timeline.most new
   pub ready :
       (L : Plan) (h : List Part) → Readied N P L h old
       → (h' : List Part) × Readied N P (record { lines = L.lines ++ line_meant d line; closed = L.closed }) h' new
 
 -- the lines of a text are played, and the next would have this number
-pub record ReadsAll (d : Domain) (N : Labels) (P : Problem) (text : List ℕ) (old new : Run) (number : ℕ) : Type 0 where
+pub record ReadsAll (d : Pair) (N : Labels) (P : Problem) (text : List ℕ) (old new : Run) (number : ℕ) : Type 0 where
   pub rests : IsResting P old.timeline.most new
   pub lines : List Line
   pub number_is : number ≡ length lines + 1
@@ -99,7 +97,7 @@ pub record Begins (N : Labels) (P : Problem) (most : ℕ) (run : Run) : Type 0 w
       → (h : List Part) × Readied N P L h run
 
 -- a text is played to its end, and the goal holds there
-pub record PlaysAll (d : Domain) (N : Labels) (P : Problem) (text : List ℕ) (old new : Run) : Type 0 where
+pub record PlaysAll (d : Pair) (N : Labels) (P : Problem) (text : List ℕ) (old new : Run) : Type 0 where
   pub lines : List Line
   pub read : plan_lines Timed text ≡ map Ok lines
   pub ends :
@@ -107,6 +105,6 @@ pub record PlaysAll (d : Domain) (N : Labels) (P : Problem) (text : List ℕ) (o
       → (h' : List Part) × Ends N P (plan_of d lines true) old.timeline.most h' new.report.bytes.items
 
 -- the same of a text that is not cut off
-pub record PlaysWhole (d : Domain) (N : Labels) (P : Problem) (text : List ℕ) (goes_on : Bool) (old new : Run) : Type 0 where
+pub record PlaysWhole (d : Pair) (N : Labels) (P : Problem) (text : List ℕ) (goes_on : Bool) (old new : Run) : Type 0 where
   pub whole : goes_on ≡ false
   pub plays : PlaysAll d N P text old new

@@ -29,21 +29,26 @@ use Rattle.plus_plan.specs.declared.faults.PlanFault.TheVariants as faults
 use Rattle.plus_plan.specs.Lines.{plan_lines}
 use Rattle.plus_plan.specs.Spells.{line_limit}
 use Rattle.plus_plan.specs.TimeValue.{value_of}
-use Rattle.plus_ground.specs.Expansion.{expanded, labels_meant}
+use Rattle.plus_expansion.specs.Expansion.{expanded, labels_meant}
 use Rattle.plus_timeline.specs.Act.{act_steps}
 use Rattle.plus_timeline.specs.Advance.{time_left}
 use Rattle.plus_timeline.specs.Laws.{breach_of}
 use Rattle.plus_report.specs.declared.verdicts.Verdict.{Verdict}
 use Rattle.plus_report.specs.declared.verdicts.Verdict.TheVariants.{Valid, Invalid, Beyond, Other}
 use Rattle.plus_report.specs.declared.refusals.Early.{Early}
-use Rattle.plus_report.specs.declared.refusals.Early.TheVariants.{BadLine, TooLong, LineTooLong, Literal}
+use Rattle.plus_report.specs.declared.refusals.Early.TheVariants.{BadLine, TooLong, LineTooLong, Literal, TooMany}
+use Rattle.plus_report.specs.declared.refusals.Kinds.TheVariants as kinds
 use Rattle.plus_report.specs.declared.refusals.Text.TheVariants as texts
 use Rattle.plus_report.specs.Report.{called_label, report_of}
 use Rattle.plus_report.specs.Verdicts.{verdict_text}
 use Rattle.plus_validator.specs.declared.judge.Outcome.{Outcome}
 use Rattle.plus_validator.specs.Accepted.{entries_of}
 use Rattle.plus_validator.specs.Outcomes.{outcome_of}
-use Rattle.plus_validator.specs.Plans.{line_meant, plan_of}
+use Rattle.plus_validator.specs.Plans.{Pair, pair, line_meant, plan_of}
+use Rattle.plus_tree.specs.declared.names.Span.{Span}
+use Rattle.plus_tree.specs.declared.trees.Call.{Call}
+use Rattle.plus_expansion.specs.Calls.{called_of}
+use Rattle.plus_ground.specs.Refusals.{IsTooLarge, HasUnfit}
 
 -- ---- a limit stands
 
@@ -131,7 +136,7 @@ NamesFault (faults.LineTooLong n) v = v ≡ Other (LineTooLong n)
 NamesFault faults.Memory v = ⊥
 
 -- the lines before are worked, and the next is none
-pub record IsBadLine (d : Domain) (P : Problem) (before : List Line) (fault : PlanFault) (L : Plan) (h : List Part) (v : Verdict Frac64) : Type 0 where
+pub record IsBadLine (d : Pair) (P : Problem) (before : List Line) (fault : PlanFault) (L : Plan) (h : List Part) (v : Verdict Frac64) : Type 0 where
   pub lines : L ≡ plan_of d before false
   pub waits : IsWaiting P L h
   pub names : NamesFault fault v
@@ -161,7 +166,7 @@ pub data TimeFault (P : Problem) (L : Plan) (h : List Part) (n : ℕ) (meant : m
       → v ≡ Invalid (breaches.TimeGoesBack n) → TimeFault P L h n meant time v
 
 -- the lines before are worked, and the next cannot be played because of its place or its time
-pub record IsTimeRefused (d : Domain) (P : Problem) (before : List Line) (line : Line) (L : Plan) (h : List Part) (v : Verdict Frac64) : Type 0 where
+pub record IsTimeRefused (d : Pair) (P : Problem) (before : List Line) (line : Line) (L : Plan) (h : List Part) (v : Verdict Frac64) : Type 0 where
   pub lines : L ≡ plan_of d before false
   pub waits : IsWaiting P L h
   pub meant : model.Line
@@ -178,14 +183,36 @@ pub record AreWorked (P : Problem) (L : Plan) (h : List Part) : Type 0 where
   pub begins : Begins front h
 
 -- the lines before are worked, and then a breach or a limit stands on the way to the next line or in it
-pub record IsStopped (d : Domain) (P : Problem) (most : ℕ) (before : List Line) (line : Line) (L : Plan) (h : List Part) (v : Verdict Frac64) : Type 0 where
+pub record IsStopped (d : Pair) (P : Problem) (most : ℕ) (before : List Line) (line : Line) (L : Plan) (h : List Part) (v : Verdict Frac64) : Type 0 where
   pub lines : L ≡ plan_of d (before ++ line ∷ []) false
   pub worked : AreWorked P (plan_of d before false) h
   pub stands : Stands P L most h v
   pub names : NamesLine (number_in line) (called_label (next_line L (view_of P h))) v
 
+-- the instance that a call names has too many nodes, or a literal of its action is no number of the program
+abbrev pub IsBeyondCall : Pair → Call → Verdict Frac64 → Type 0
+IsBeyondCall d c v =
+    (IsTooLarge (called_of d.domain d.problem c.name c.args) × (v ≡ Other (TooMany kinds.Nodes 1000000)))
+    ⊎ ((span : Span) × HasUnfit IsFrac64 d.domain c.name (called_of d.domain d.problem c.name c.args) span
+    × (v ≡ Other (Literal texts.Domain span.start span.«end»)))
+
+-- so many actions are acted in the history, then that which the line calls is due, and its instance is over a limit
+pub record IsCallOver (d : Pair) (P : Problem) (L : Plan) (acted : ℕ) (h : List Part) (line : Line) (v : Verdict Frac64) : Type 0 where
+  pub acted_is : (view_of P h).acted ≡ acted
+  pub number : ℕ
+  pub time : Time
+  pub call : Call
+  pub line_is : line ≡ Act number time call
+  pub due : IsDue P L (view_of P h) (called_of d.domain d.problem call.name call.args)
+  pub beyond : IsBeyondCall d call v
+
+-- the actions of the lines before are acted, and then that of the next is due, whose instance is over a limit
+pub record IsCallRefused (d : Pair) (P : Problem) (before : List Line) (line : Line) (L : Plan) (h : List Part) (v : Verdict Frac64) : Type 0 where
+  pub lines : L ≡ plan_of d (before ++ line ∷ []) false
+  pub over : IsCallOver d P L (length (plan_of d before false).lines) h line v
+
 -- all lines are read and worked, and then a breach or a limit stands at the end
-pub record IsStoppedAtEnd (d : Domain) (P : Problem) (most : ℕ) (before : List Line) (L : Plan) (h : List Part) (v : Verdict Frac64) : Type 0 where
+pub record IsStoppedAtEnd (d : Pair) (P : Problem) (most : ℕ) (before : List Line) (L : Plan) (h : List Part) (v : Verdict Frac64) : Type 0 where
   pub lines : L ≡ plan_of d before true
   pub worked : AreWorked P (plan_of d before false) h
   pub stands : Stands P L most h v
@@ -196,34 +223,34 @@ abbrev pub cut_verdict : ℕ → ℕ → Early
 cut_verdict n size = if nat_lt line_limit size then LineTooLong n else TooLong texts.Plan
 
 -- all whole lines are worked, and the text goes on behind the limit
-pub record IsCutOff (d : Domain) (P : Problem) (before : List Line) (piece : List ℕ) (L : Plan) (h : List Part) (v : Verdict Frac64) : Type 0 where
+pub record IsCutOff (d : Pair) (P : Problem) (before : List Line) (piece : List ℕ) (L : Plan) (h : List Part) (v : Verdict Frac64) : Type 0 where
   pub lines : L ≡ plan_of d before false
   pub waits : IsWaiting P L h
   pub is : v ≡ Other (cut_verdict (length before + 1) (length piece))
 
-abbrev pub EndRefused : Domain → Problem → ℕ → Bool → List ℕ → List Line → Plan → List Part → Verdict Frac64 → Type 0
+abbrev pub EndRefused : Pair → Problem → ℕ → Bool → List ℕ → List Line → Plan → List Part → Verdict Frac64 → Type 0
 EndRefused d P most false piece before L h v = IsStoppedAtEnd d P most before L h v
 EndRefused d P most true piece before L h v = IsCutOff d P before piece L h v
 
 -- why the plan goes on no further, by what is left of the text behind the lines accepted
-abbrev pub Cause : Domain → Problem → ℕ → Bool → List ℕ → List Line → List (Result Line PlanFault) → Plan → List Part → Verdict Frac64 → Type 0
+abbrev pub Cause : Pair → Problem → ℕ → Bool → List ℕ → List Line → List (Result Line PlanFault) → Plan → List Part → Verdict Frac64 → Type 0
 Cause d P most goes_on piece before [] L h v = EndRefused d P most goes_on piece before L h v
 Cause d P most goes_on piece before (Err fault ∷ rest) L h v = IsBadLine d P before fault L h v
 Cause d P most goes_on piece before (Ok line ∷ rest) L h v =
-    IsTimeRefused d P before line L h v ⊎ IsStopped d P most before line L h v
+    IsTimeRefused d P before line L h v ⊎ (IsStopped d P most before line L h v ⊎ IsCallRefused d P before line L h v)
 
 -- ---- what follows for every plan that begins so
 
 -- no plan that begins with these lines has a trajectory
-abbrev pub NonePlays : Domain → Problem → List Line → Type 0
+abbrev pub NonePlays : Pair → Problem → List Line → Type 0
 NonePlays d P lines = (more : List Line) (closed : Bool) (h : List Part) → Trajectory P (plan_of d (lines ++ more) closed) h → ⊥
 
 -- a breach tells this, and a goal that fails that these lines alone have none
-abbrev pub BreachRefutes : Domain → Problem → List Line → Breach Frac64 → Type 0
+abbrev pub BreachRefutes : Pair → Problem → List Line → Breach Frac64 → Type 0
 BreachRefutes d P lines breaches.Goal = (h : List Part) → Trajectory P (plan_of d lines true) h → ⊥
 BreachRefutes d P lines _ = NonePlays d P lines
 
-abbrev pub Refutes : Domain → Problem → List Line → Verdict Frac64 → Type 0
+abbrev pub Refutes : Pair → Problem → List Line → Verdict Frac64 → Type 0
 Refutes d P lines (Invalid b) = BreachRefutes d P lines b
 Refutes d P lines _ = Unit {0}
 
@@ -233,15 +260,22 @@ line_next [] = []
 line_next (Ok line ∷ rest) = line ∷ []
 line_next (Err fault ∷ rest) = []
 
+-- a text refused is no limit of what happens, and an instance that is over a limit is one
+abbrev pub IsOfText : Early → Type 0
+IsOfText (TooMany kind most) = ⊥
+IsOfText (Literal texts.Domain start last) = ⊥
+IsOfText _ = Unit {0}
+
 -- the verdict is no limit of what happens
 abbrev pub IsNoLimit : Verdict Frac64 → Type 0
 IsNoLimit (Beyond l) = ⊥
+IsNoLimit (Other early) = IsOfText early
 IsNoLimit _ = Unit {0}
 
 -- ---- a refusal
 
 -- how far the lines of a text are played, and the verdict on them
-pub record Refusal (d : Domain) (P : Problem) (most : ℕ) (goes_on : Bool) (whole piece : List ℕ) (v : Verdict Frac64) : Type 0 where
+pub record Refusal (d : Pair) (P : Problem) (most : ℕ) (goes_on : Bool) (whole piece : List ℕ) (v : Verdict Frac64) : Type 0 where
   pub before : List Line  -- read and accepted
   pub rest : List (Result Line PlanFault)
   pub read : plan_lines Timed whole ≡ map Ok before ++ rest
@@ -275,8 +309,8 @@ pub record IsRefused (d : Domain) (p : tree.Problem) (most : ℕ) (text : List �
   pub cut : WholeLines goes_on text whole piece
   pub verdict : Verdict Frac64
   pub outcome_is : outcome ≡ outcome_of verdict
-  pub refusal : Refusal d (expanded d p) most goes_on whole piece verdict
+  pub refusal : Refusal (pair d p) (expanded d p) most goes_on whole piece verdict
   pub written :
       bytes
-      ≡ report_of (labels_meant d) (expanded d p) refusal.plan refusal.history
-      ++ verdict_text fraction_of (labels_meant d) (expanded d p) verdict
+      ≡ report_of (labels_meant d p) (expanded d p) refusal.plan refusal.history
+      ++ verdict_text fraction_of (labels_meant d p) (expanded d p) verdict

@@ -1,15 +1,14 @@
 -- What a run that halts leaves: the report of a history of the lines read, at which its verdict stands.
-use Rattle.std.specs.Prelude.{◌≡◌, ◌⊎◌, ℕ, ◌≤◌, Bool, false, List, [], ◌∷◌, ◌++◌, Some}
+use Rattle.std.specs.Prelude.{◌≡◌, ◌⊎◌, ℕ, ◌≤◌, Bool, false, List, [], ◌∷◌, ◌++◌, length, Some}
 use Rattle.plus_fraction.specs.Fraction.{Fraction}
 use Rattle.plus_model.specs.Terms.{Problem}
 use Rattle.plus_model.specs.Plan as model
-use Rattle.plus_model.specs.Plan.{Called, Plan, ActLine}
+use Rattle.plus_model.specs.Plan.{Plan, ActLine}
 use Rattle.plus_model.specs.History.{Part}
 use Rattle.plus_model.specs.Trajectory.{HasBegun, next_line, Prefix, view_of}
-use Rattle.plus_model.specs.Breach.{IsPresent}
+use Rattle.plus_model.specs.Breach.{IsPresent, IsDue}
 use Rattle.plus_number.specs.declared.frac.Frac64.{Frac64}
 use Rattle.plus_state.specs.View.{Labels}
-use Rattle.plus_tree.specs.declared.trees.Domain.{Domain}
 use Rattle.plus_plan.specs.declared.forms.Time.{Time}
 use Rattle.plus_plan.specs.declared.forms.Line.{Line}
 use Rattle.plus_plan.specs.TimeValue.{value_of}
@@ -19,11 +18,13 @@ use Rattle.plus_validator.specs.declared.halt.Halt.{Halt}
 use Rattle.plus_validator.specs.declared.halt.Halt.TheVariants.{Refused, Memory}
 use Rattle.plus_validator.specs.declared.run.Run.{Run}
 use Rattle.plus_validator.specs.Accepted.{entries_of}
-use Rattle.plus_validator.specs.Plans.{line_meant, plan_of}
+use Rattle.plus_validator.specs.Plans.{Pair, line_meant, plan_of}
+use Rattle.plus_tree.specs.declared.trees.Call.{Call}
+use Rattle.plus_expansion.specs.Calls.{called_of}
 use Rattle.plus_validator.specs.Standing.{IsPlayed}
 use Rattle.plus_validator.specs.Running.{IsOnWay}
 use Rattle.plus_validator.specs.Playing.{Readied, closed}
-use Rattle.plus_validator.specs.Refused.{NoLimit, IsClear, IsNoLimit, Stands, NamesLine, NamesNoLine, IsWaiting, HasTime, number_in, TimeFault, Refusal, WholeLines}
+use Rattle.plus_validator.specs.Refused.{NoLimit, IsClear, IsNoLimit, Stands, NamesLine, NamesNoLine, IsWaiting, HasTime, number_in, TimeFault, Refusal, WholeLines, IsBeyondCall, IsCallOver}
 
 -- the report is that of a history of the plan, before which no limit stands
 pub record IsReported (N : Labels) (P : Problem) (L : Plan) (most : ℕ) (h : List Part) (report : List ℕ) : Type 0 where
@@ -72,12 +73,25 @@ abbrev pub StopsIn : Labels → Problem → Plan → ℕ → ℕ → List ℕ �
 StopsIn N P L most n report (Refused v) = IsStoppedIn N P L most n report v
 StopsIn N P L most n report Memory = Unit {0}
 
+-- the instance of a call that is due is over a limit
+pub record IsStoppedAtCall (d : Pair) (N : Labels) (P : Problem) (L : Plan) (most acted : ℕ) (call : Call) (report : List ℕ) (v : Verdict Frac64) : Type 0 where
+  pub history : List Part
+  pub reported : IsReported N P L most history report
+  pub acted_is : (view_of P history).acted ≡ acted
+  pub due : IsDue P L (view_of P history) (called_of d.domain d.problem call.name call.args)
+  pub beyond : IsBeyondCall d call v
+
+abbrev pub StopsInAct : Pair → Labels → Problem → Plan → ℕ → ℕ → ℕ → Call → List ℕ → Halt → Type 0
+StopsInAct d N P L most n acted call report (Refused v) = IsStoppedIn N P L most n report v ⊎ IsStoppedAtCall d N P L most acted call report v
+StopsInAct d N P L most n acted call report Memory = Unit {0}
+
 -- the run halts at the action that is due, which line n calls
-pub record HaltsInAct (N : Labels) (P : Problem) (n : ℕ) (call : Called) (old new : Run) (halt : Halt) : Type 0 where
+pub record HaltsInAct (d : Pair) (N : Labels) (P : Problem) (n : ℕ) (call : Call) (old new : Run) (halt : Halt) : Type 0 where
   pub stops :
       (L : Plan) (h : List Part) → HasBegun L → IsPlayed N P L h old.timeline old.report.bytes.items
-      → IsPresent P old.timeline.now → next_line L old.timeline.now ≡ Some (ActLine old.timeline.now.time call)
-      → StopsIn N P L old.timeline.most n new.report.bytes.items halt
+      → IsPresent P old.timeline.now
+      → next_line L old.timeline.now ≡ Some (ActLine old.timeline.now.time (called_of d.domain d.problem call.name call.args))
+      → StopsInAct d N P L old.timeline.most n old.timeline.now.acted call new.report.bytes.items halt
 
 abbrev pub TimeHalts : Problem → Plan → List Part → ℕ → model.Line → Time → Halt → Type 0
 TimeHalts P L h n meant time (Refused v) = TimeFault P L h n meant time v
@@ -90,7 +104,7 @@ pub record HaltsAtMoment (n : ℕ) (time : Time) (run : Run) (halt : Halt) : Typ
       → model.time_of meant ≡ value_of time → TimeHalts P L h n meant time halt
 
 -- the lines before are worked, and the report is theirs
-pub record IsStoppedBefore (d : Domain) (N : Labels) (P : Problem) (L : Plan) (most : ℕ) (line : Line) (report : List ℕ) (v : Verdict Frac64) : Type 0 where
+pub record IsStoppedBefore (d : Pair) (N : Labels) (P : Problem) (L : Plan) (most : ℕ) (line : Line) (report : List ℕ) (v : Verdict Frac64) : Type 0 where
   pub history : List Part
   pub reported : IsReported N P L most history report
   pub waits : IsWaiting P L history
@@ -100,14 +114,21 @@ pub record IsStoppedBefore (d : Domain) (N : Labels) (P : Problem) (L : Plan) (m
   pub time_is : HasTime line time
   pub why : TimeFault P L history (number_in line) meant time v
 
-abbrev pub StopsInLine : Domain → Labels → Problem → Plan → ℕ → Line → List ℕ → Halt → Type 0
+-- the instance of the call of this line, which is due, is over a limit
+pub record IsStoppedOver (d : Pair) (N : Labels) (P : Problem) (L : Plan) (most acted : ℕ) (line : Line) (report : List ℕ) (v : Verdict Frac64) : Type 0 where
+  pub history : List Part
+  pub reported : IsReported N P L most history report
+  pub over : IsCallOver d P L acted history line v
+
+abbrev pub StopsInLine : Pair → Labels → Problem → Plan → ℕ → Line → List ℕ → Halt → Type 0
 StopsInLine d N P L most line report (Refused v) =
     IsStoppedBefore d N P L most line report v
-    ⊎ IsStoppedIn N P (record { lines = L.lines ++ line_meant d line; closed = L.closed }) most (number_in line) report v
+    ⊎ (IsStoppedIn N P (record { lines = L.lines ++ line_meant d line; closed = L.closed }) most (number_in line) report v
+    ⊎ IsStoppedOver d N P (record { lines = L.lines ++ line_meant d line; closed = L.closed }) most (length L.lines) line report v)
 StopsInLine d N P L most line report Memory = Unit {0}
 
 -- the run halts at a line, or on its way to it
-pub record HaltsInLine (d : Domain) (N : Labels) (P : Problem) (line : Line) (old new : Run) (halt : Halt) : Type 0 where
+pub record HaltsInLine (d : Pair) (N : Labels) (P : Problem) (line : Line) (old new : Run) (halt : Halt) : Type 0 where
   pub stops :
       (L : Plan) (h : List Part) → Readied N P L h old
       → StopsInLine d N P L old.timeline.most line new.report.bytes.items halt
@@ -115,28 +136,28 @@ pub record HaltsInLine (d : Domain) (N : Labels) (P : Problem) (line : Line) (ol
 -- ---- in a text
 
 -- the plan is refused, and the report is that of the history before
-pub record IsStoppedInText (d : Domain) (N : Labels) (P : Problem) (most : ℕ) (goes_on : Bool) (whole piece report : List ℕ) (v : Verdict Frac64) : Type 0 where
+pub record IsStoppedInText (d : Pair) (N : Labels) (P : Problem) (most : ℕ) (goes_on : Bool) (whole piece report : List ℕ) (v : Verdict Frac64) : Type 0 where
   pub refusal : Refusal d P most goes_on whole piece v
   pub written : report ≡ report_of N P refusal.plan refusal.history
 
-abbrev pub StopsInText : Domain → Labels → Problem → ℕ → Bool → List ℕ → List ℕ → List ℕ → Halt → Type 0
+abbrev pub StopsInText : Pair → Labels → Problem → ℕ → Bool → List ℕ → List ℕ → List ℕ → Halt → Type 0
 StopsInText d N P most goes_on whole piece report (Refused v) = IsStoppedInText d N P most goes_on whole piece report v
 StopsInText d N P most goes_on whole piece report Memory = Unit {0}
 
 -- the run halts in these lines, whatever stands behind them
-pub record HaltsInLines (d : Domain) (N : Labels) (P : Problem) (whole : List ℕ) (old new : Run) (halt : Halt) : Type 0 where
+pub record HaltsInLines (d : Pair) (N : Labels) (P : Problem) (whole : List ℕ) (old new : Run) (halt : Halt) : Type 0 where
   pub stops :
       (goes_on : Bool) (piece : List ℕ) (h : List Part) → Readied N P (plan_of d [] false) h old
       → StopsInText d N P old.timeline.most goes_on whole piece new.report.bytes.items halt
 
 -- the run halts in a text that goes on so
-pub record HaltsInText (d : Domain) (N : Labels) (P : Problem) (goes_on : Bool) (whole piece : List ℕ) (old new : Run) (halt : Halt) : Type 0 where
+pub record HaltsInText (d : Pair) (N : Labels) (P : Problem) (goes_on : Bool) (whole piece : List ℕ) (old new : Run) (halt : Halt) : Type 0 where
   pub stops :
       (h : List Part) → Readied N P (plan_of d [] false) h old
       → StopsInText d N P old.timeline.most goes_on whole piece new.report.bytes.items halt
 
 -- the run halts in a plan text
-pub record HaltsInPlan (d : Domain) (N : Labels) (P : Problem) (text : List ℕ) (goes_on : Bool) (old new : Run) (halt : Halt) : Type 0 where
+pub record HaltsInPlan (d : Pair) (N : Labels) (P : Problem) (text : List ℕ) (goes_on : Bool) (old new : Run) (halt : Halt) : Type 0 where
   pub whole : List ℕ
   pub piece : List ℕ
   pub cut : WholeLines goes_on text whole piece

@@ -1,13 +1,14 @@
 -- What the check of a plan does.
 use Rattle.std.specs.Prelude.{◌≡◌, ℕ, ◌<◌, ◌≤◌, Bool, true, false, List, length, take, Option}
 use Rattle.plus_io.specs.Faults.{Rose}
+use Rattle.plus_number.specs.Frac.{IsFrac64}
 use Rattle.plus_io.specs.Taken.{Took, TookPart}
 use Rattle.plus_tree.specs.declared.trees.Domain.{Domain}
 use Rattle.plus_tree.specs.declared.trees.Problem.{Problem}
 use Rattle.plus_types.specs.declared.faults.File.{File}
 use Rattle.plus_types.specs.declared.faults.File.TheVariants as files
-use Rattle.plus_ground.specs.declared.faults.Count.{Count}
-use Rattle.plus_ground.specs.declared.faults.Count.TheVariants as counts
+use Rattle.plus_numbering.specs.declared.faults.Count.{Count}
+use Rattle.plus_numbering.specs.declared.faults.Count.TheVariants as counts
 use Rattle.plus_ground.specs.declared.faults.GroundFault.{GroundFault}
 use Rattle.plus_ground.specs.declared.faults.GroundFault.TheVariants as faults
 use Rattle.plus_ground.specs.Refusals.{RefusesGround}
@@ -45,32 +46,32 @@ TellsFault (faults.Literal file span) line = line ≡ early_text (Literal (file_
 TellsFault faults.Memory line = ⊥
 
 -- the pair is not grounded, and the line says why
-pub record IsUngrounded (d : Domain) (line : List ℕ) : Type 0 where
+pub record IsUngrounded (d : Domain) (p : Problem) (line : List ℕ) : Type 0 where
   pub fault : GroundFault
-  pub refused : RefusesGround d fault
+  pub refused : RefusesGround IsFrac64 d p fault
   pub tells : TellsFault fault line
 
 -- the sink took that line alone
-pub record RefusesPair (d : Domain) (old new : Option (List ℕ)) : Type 0 where
+pub record RefusesPair (d : Domain) (p : Problem) (old new : Option (List ℕ)) : Type 0 where
   pub line : List ℕ
-  pub ungrounded : IsUngrounded d line
+  pub ungrounded : IsUngrounded d p line
   pub took : Took old new line
 
 -- or a part of it
-pub record RefusesPairInPart (d : Domain) (old new : Option (List ℕ)) : Type 0 where
+pub record RefusesPairInPart (d : Domain) (p : Problem) (old new : Option (List ℕ)) : Type 0 where
   pub line : List ℕ
-  pub ungrounded : IsUngrounded d line
+  pub ungrounded : IsUngrounded d p line
   pub part : TookPart old new line
 
 -- that is written, or the sink failed, or memory is wanting and nothing is written
-abbrev pub EndsUngrounded : Domain → ℕ → ℕ → Option (List ℕ) → Option (List ℕ) → Outcome → Type 0
-EndsUngrounded d before now old new Beyond = RefusesPair d old new
-EndsUngrounded d before now old new WriteFault = Rose before now × RefusesPairInPart d old new
-EndsUngrounded d before now old new NoMemory = new ≡ old
-EndsUngrounded d before now old new Valid = ⊥
-EndsUngrounded d before now old new Invalid = ⊥
-EndsUngrounded d before now old new BadText = ⊥
-EndsUngrounded d before now old new ReadFault = ⊥
+abbrev pub EndsUngrounded : Domain → Problem → ℕ → ℕ → Option (List ℕ) → Option (List ℕ) → Outcome → Type 0
+EndsUngrounded d p before now old new Beyond = RefusesPair d p old new
+EndsUngrounded d p before now old new WriteFault = Rose before now × RefusesPairInPart d p old new
+EndsUngrounded d p before now old new NoMemory = new ≡ old
+EndsUngrounded d p before now old new Valid = ⊥
+EndsUngrounded d p before now old new Invalid = ⊥
+EndsUngrounded d p before now old new BadText = ⊥
+EndsUngrounded d p before now old new ReadFault = ⊥
 
 -- ---- the plan text
 

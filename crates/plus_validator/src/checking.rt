@@ -4,12 +4,17 @@ ghost use Rattle.plus_io.specs.Files.{KeepsFiles};
 ghost use Rattle.plus_validator.specs.Validates.{Accepts, Refuses, BreaksOff, RefusesPair, RefusesPairInPart, IsRefusal, IsRead, ReadsNot, EndsUngrounded, kind_meant, file_meant};
 ghost use Rattle.plus_ground.specs.Refusals.{RefusesGround};
 ghost use Rattle.plus_tree.specs.declared.trees.Domain.{Domain};
+ghost use Rattle.plus_tree.specs.declared.trees.Problem.{Problem};
+ghost use Rattle.plus_number.specs.Frac.{IsFrac64};
+ghost use Rattle.plus_types.specs.Faults.{problem_context};
+ghost use Rattle.plus_numbering.specs.Counts.{name_counts, RefusesCount};
 ghost use Rattle.plus_io.specs.Faults.{Rose};
 
 use crate::judge::{Outcome, PlanText, judge};
-use plus_ground::{Count, GroundFault, ground};
+use plus_ground::{GroundFault, ground};
 use plus_io::{ReadStop, Shelf, Sink, read_all, write_all};
 use plus_number::frac::Frac64;
+use plus_numbering::{Count, CountFault, Numbering};
 use plus_report::{Early, Kinds, Text, write_early};
 use plus_types::{File, Typed};
 use std::alloc::Global;
@@ -40,10 +45,20 @@ fn text_of(file: File) -> Text
     }
 }
 
+// The refusal of a pair of which too many are counted.
+fn ground_fault(fault: CountFault) -> GroundFault
+    ensures { (d : Domain) (p : Problem) → RefusesCount (name_counts (problem_context d p)) fault → RefusesGround IsFrac64 d p result }
+{
+    match fault {
+        CountFault::TooMany { kind, most } => GroundFault::TooMany { kind, most },
+        CountFault::Memory => GroundFault::Memory,
+    }
+}
+
 // Writes why the pair is not grounded.
 fn refuse<O: Sink>(out: &mut O, fault: GroundFault) -> Outcome
-    ensures refused { (d : Domain) → RefusesGround d fault →
-        EndsUngrounded d (O.faults out.old) (O.faults out.new) (O.taken out.old) (O.taken out.new) result }
+    ensures refused { (d : Domain) (p : Problem) → RefusesGround IsFrac64 d p fault →
+        EndsUngrounded d p (O.faults out.old) (O.faults out.new) (O.taken out.old) (O.taken out.new) result }
     ensures no_fall { O.faults out.old ≤ O.faults out.new }
 {
     let early = match fault {
@@ -87,6 +102,55 @@ fn read_text<S: Shelf>(alloc: Global, shelf: &mut S, plan: &str) -> Result<PlanT
     }
 }
 
+// Checks the plan of a pair whose ground atoms and fluents are numbered.
+fn validate_numbered<S: Shelf, O: Sink>(
+    alloc: Global,
+    numbering: &Numbering,
+    shelf: &mut S,
+    plan: &str,
+    out: &mut O,
+    happenings: u64,
+) -> Outcome
+    requires some { 1 ≤ happenings }
+    requires few { happenings ≤ 1000000 }
+    ensures valid { result ≡ Outcome.Valid → IfSome (S.bytes shelf.old plan.now) (λ text.
+        Accepts numbering.now.typed.now.domain numbering.now.typed.now.problem happenings text (O.taken out.old) (O.taken out.new)) }
+    // The pair is not grounded, or the plan is refused.
+    ensures refused { IsRefusal result →
+        ((result ≡ Outcome.Beyond) × RefusesPair numbering.now.typed.now.domain numbering.now.typed.now.problem (O.taken out.old) (O.taken out.new))
+        ⊎ IfSome (S.bytes shelf.old plan.now) (λ text.
+        Refuses numbering.now.typed.now.domain numbering.now.typed.now.problem happenings text result (O.taken out.old) (O.taken out.new)) }
+
+    // A fault is answered only where it came, and leaves a part of what was to be written.
+    ensures read_fault { result ≡ Outcome.ReadFault →
+        Rose (S.faults shelf.old) (S.faults shelf.new) × (O.taken out.new ≡ O.taken out.old) }
+    ensures write_fault { result ≡ Outcome.WriteFault →
+        Rose (O.faults out.old) (O.faults out.new)
+        × (RefusesPairInPart numbering.now.typed.now.domain numbering.now.typed.now.problem (O.taken out.old) (O.taken out.new)
+        ⊎ IfSome (S.bytes shelf.old plan.now) (λ text.
+        BreaksOff numbering.now.typed.now.domain numbering.now.typed.now.problem happenings text (O.taken out.old) (O.taken out.new))) }
+    ensures no_memory { result ≡ Outcome.NoMemory → O.taken out.new ≡ O.taken out.old }
+
+    ensures keeps { KeepsFiles S.names S.bytes S.faults shelf.old shelf.new }
+    ensures no_fall { O.faults out.old ≤ O.faults out.new }
+{
+    let ground = match ground::<Frac64>(alloc, numbering) {
+        Ok(ground) => ground,
+        Err(fault) => return refuse(out, fault),
+    };
+    let text = match read_text(alloc, shelf, plan) {
+        Ok(text) => text,
+        Err(outcome) => return outcome,
+    };
+    match judge(alloc, numbering, &ground, &text, happenings) {
+        Ok(judgement) => match write_all(out, &judgement.bytes) {
+            Ok(()) => judgement.outcome,
+            Err(_) => Outcome::WriteFault,
+        },
+        Err(_) => Outcome::NoMemory,
+    }
+}
+
 /// Checks the plan under a name of the shelf, and writes its report and its verdict line.
 /// `happenings` is how many moments it may enter.
 pub fn validate<S: Shelf, O: Sink>(
@@ -103,7 +167,7 @@ pub fn validate<S: Shelf, O: Sink>(
         Accepts typed.now.domain typed.now.problem happenings text (O.taken out.old) (O.taken out.new)) }
     // The pair is not grounded, or the plan is refused.
     ensures refused { IsRefusal result →
-        ((result ≡ Outcome.Beyond) × RefusesPair typed.now.domain (O.taken out.old) (O.taken out.new))
+        ((result ≡ Outcome.Beyond) × RefusesPair typed.now.domain typed.now.problem (O.taken out.old) (O.taken out.new))
         ⊎ IfSome (S.bytes shelf.old plan.now) (λ text.
         Refuses typed.now.domain typed.now.problem happenings text result (O.taken out.old) (O.taken out.new)) }
 
@@ -112,7 +176,7 @@ pub fn validate<S: Shelf, O: Sink>(
         Rose (S.faults shelf.old) (S.faults shelf.new) × (O.taken out.new ≡ O.taken out.old) }
     ensures write_fault { result ≡ Outcome.WriteFault →
         Rose (O.faults out.old) (O.faults out.new)
-        × (RefusesPairInPart typed.now.domain (O.taken out.old) (O.taken out.new)
+        × (RefusesPairInPart typed.now.domain typed.now.problem (O.taken out.old) (O.taken out.new)
         ⊎ IfSome (S.bytes shelf.old plan.now) (λ text.
         BreaksOff typed.now.domain typed.now.problem happenings text (O.taken out.old) (O.taken out.new))) }
     ensures no_memory { result ≡ Outcome.NoMemory → O.taken out.new ≡ O.taken out.old }
@@ -120,19 +184,8 @@ pub fn validate<S: Shelf, O: Sink>(
     ensures keeps { KeepsFiles S.names S.bytes S.faults shelf.old shelf.new }
     ensures no_fall { O.faults out.old ≤ O.faults out.new }
 {
-    let ground = match ground::<Frac64>(alloc, typed) {
-        Ok(ground) => ground,
-        Err(fault) => return refuse(out, fault),
-    };
-    let text = match read_text(alloc, shelf, plan) {
-        Ok(text) => text,
-        Err(outcome) => return outcome,
-    };
-    match judge(alloc, typed, &ground, &text, happenings) {
-        Ok(judgement) => match write_all(out, &judgement.bytes) {
-            Ok(()) => judgement.outcome,
-            Err(_) => Outcome::WriteFault,
-        },
-        Err(_) => Outcome::NoMemory,
+    match Numbering::new(alloc, typed) {
+        Ok(numbering) => validate_numbered(alloc, &numbering, shelf, plan, out, happenings),
+        Err(fault) => refuse(out, ground_fault(fault)),
     }
 }

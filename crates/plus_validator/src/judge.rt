@@ -3,6 +3,7 @@ ghost use Rattle.std.specs.Prelude.{◌≡◌, ◌≤◌, None, [], true, false,
 ghost use Rattle.plus_state.specs.View.{problem_of, labels_of};
 ghost use Rattle.plus_state.specs.Fits.{ProblemFits};
 ghost use Rattle.plus_number.specs.Frac.{fraction_of};
+ghost use Rattle.plus_validator.specs.Plans.{pair_in};
 ghost use Rattle.plus_validator.specs.Playing.{IsGroundOf, PlaysAll, PlaysWhole};
 ghost use Rattle.plus_model.specs.Terms.{Problem};
 ghost use Rattle.plus_validator.specs.Standing.{CanGoOn};
@@ -15,9 +16,9 @@ ghost use Rattle.plus_validator.specs.Stopped.{HaltsInText, HaltsInPlan};
 use crate::halt::Halt;
 use crate::run::Run;
 use plus_number::frac::Frac64;
+use plus_numbering::Numbering;
 use plus_report::{Early, Text, Verdict, write_verdict};
 use plus_state::problem::Ground;
-use plus_types::Typed;
 use std::alloc::Global;
 
 /// How the check of a plan ends.
@@ -60,21 +61,21 @@ pub struct Judgement {
 fn play(
     run: &mut Run,
     alloc: Global,
-    typed: &Typed,
+    numbering: &Numbering,
     ground: &Ground<Frac64>,
     text: &[u8],
 ) -> Result<(), Halt>
-    requires expands { IsGroundOf typed.now.domain typed.now.problem ground.now }
+    requires expands { IsGroundOf numbering.now.typed.now.domain numbering.now.typed.now.problem ground.now }
     requires can { CanGoOn (problem_of fraction_of ground.now) run.old.timeline }
     requires moment { run.old.timeline.now.running ≡ None }
     requires few { length text.now ≤ 1048576 }
-    ensures plays { OnOk result (PlaysAll typed.now.domain (labels_of ground.now)
+    ensures plays { OnOk result (PlaysAll (pair_in numbering.now.typed.now) (labels_of ground.now)
         (problem_of fraction_of ground.now) text.now run.old run.new) }
-    ensures stops { IfErr result (HaltsInText typed.now.domain (labels_of ground.now)
+    ensures stops { IfErr result (HaltsInText (pair_in numbering.now.typed.now) (labels_of ground.now)
         (problem_of fraction_of ground.now) false text.now [] run.old run.new) }
     ensures fits { IfErr result (HaltFits (problem_of fraction_of ground.now)) }
 {
-    run.text(alloc, typed, ground, text)?;
+    run.text(alloc, numbering, ground, text)?;
     run.close(ground)?;
     Ok(())
 }
@@ -109,20 +110,20 @@ fn too_long(number: u32, rest: usize) -> Halt
 fn play_cut(
     run: &mut Run,
     alloc: Global,
-    typed: &Typed,
+    numbering: &Numbering,
     ground: &Ground<Frac64>,
     text: &[u8],
 ) -> Halt
-    requires expands { IsGroundOf typed.now.domain typed.now.problem ground.now }
+    requires expands { IsGroundOf numbering.now.typed.now.domain numbering.now.typed.now.problem ground.now }
     requires can { CanGoOn (problem_of fraction_of ground.now) run.old.timeline }
     requires moment { run.old.timeline.now.running ≡ None }
     requires few { length text.now ≤ 1048576 }
-    ensures stops { HaltsInPlan typed.now.domain (labels_of ground.now)
+    ensures stops { HaltsInPlan (pair_in numbering.now.typed.now) (labels_of ground.now)
         (problem_of fraction_of ground.now) text.now true run.old run.new result }
     ensures fits { HaltFits (problem_of fraction_of ground.now) result }
 {
     let end = whole_lines(text);
-    match run.text(alloc, typed, ground, &text[..end]) {
+    match run.text(alloc, numbering, ground, &text[..end]) {
         Ok(number) => too_long(number, text.len() - end),
         Err(halt) => halt,
     }
@@ -132,24 +133,24 @@ fn play_cut(
 fn play_text(
     run: &mut Run,
     alloc: Global,
-    typed: &Typed,
+    numbering: &Numbering,
     ground: &Ground<Frac64>,
     text: &PlanText,
 ) -> Result<(), Halt>
-    requires expands { IsGroundOf typed.now.domain typed.now.problem ground.now }
+    requires expands { IsGroundOf numbering.now.typed.now.domain numbering.now.typed.now.problem ground.now }
     requires can { CanGoOn (problem_of fraction_of ground.now) run.old.timeline }
     requires moment { run.old.timeline.now.running ≡ None }
     requires few { length text.now.bytes.items ≤ 1048576 }
-    ensures plays { OnOk result (PlaysWhole typed.now.domain (labels_of ground.now)
+    ensures plays { OnOk result (PlaysWhole (pair_in numbering.now.typed.now) (labels_of ground.now)
         (problem_of fraction_of ground.now) text.now.bytes.items text.now.goes_on run.old run.new) }
-    ensures stops { IfErr result (HaltsInPlan typed.now.domain (labels_of ground.now)
+    ensures stops { IfErr result (HaltsInPlan (pair_in numbering.now.typed.now) (labels_of ground.now)
         (problem_of fraction_of ground.now) text.now.bytes.items text.now.goes_on run.old run.new) }
     ensures fits { IfErr result (HaltFits (problem_of fraction_of ground.now)) }
 {
     if text.goes_on {
-        return Err(play_cut(run, alloc, typed, ground, &text.bytes));
+        return Err(play_cut(run, alloc, numbering, ground, &text.bytes));
     }
-    play(run, alloc, typed, ground, &text.bytes)?;
+    play(run, alloc, numbering, ground, &text.bytes)?;
     Ok(())
 }
 
@@ -182,21 +183,21 @@ fn verdict_of(played: Result<(), Halt>) -> Result<Verdict<Frac64>, Halt>
 /// Judges a plan text.
 pub fn judge(
     alloc: Global,
-    typed: &Typed,
+    numbering: &Numbering,
     ground: &Ground<Frac64>,
     text: &PlanText,
     happenings: u64,
 ) -> Result<Judgement, Halt>
-    requires expands { IsGroundOf typed.now.domain typed.now.problem ground.now }
+    requires expands { IsGroundOf numbering.now.typed.now.domain numbering.now.typed.now.problem ground.now }
     requires fits { ProblemFits (problem_of fraction_of ground.now) }
     requires some { 1 ≤ happenings }
     requires few { length text.now.bytes.items ≤ 1048576 }
-    ensures judged { IfOk result (IsJudged typed.now.domain typed.now.problem happenings
+    ensures judged { IfOk result (IsJudged numbering.now.typed.now.domain numbering.now.typed.now.problem happenings
         text.now.bytes.items text.now.goes_on) }
     ensures memory { IfErr result (λ halt. halt ≡ Halt.Memory) }
 {
     let mut run = Run::begin(alloc, ground, happenings)?;
-    let verdict = verdict_of(play_text(&mut run, alloc, typed, ground, text))?;
+    let verdict = verdict_of(play_text(&mut run, alloc, numbering, ground, text))?;
     write_verdict(&mut run.report, ground, &verdict)?;
     let outcome = outcome_of(&verdict);
     Ok(Judgement {

@@ -6,7 +6,8 @@ ghost use Rattle.plus_model.specs.Trajectory.{is_below};
 ghost use Rattle.plus_plan.specs.Answers.{HasBottom};
 ghost use Rattle.plus_state.specs.View.{problem_of, labels_of};
 ghost use Rattle.plus_timeline.specs.Finish.{IsPaused};
-ghost use Rattle.plus_ground.specs.Expansion.{called_of};
+ghost use Rattle.plus_expansion.specs.Calls.{called_of};
+ghost use Rattle.plus_validator.specs.Plans.{pair_in};
 ghost use Rattle.plus_validator.specs.Halts.{CallHalts, HaltFits};
 ghost use Rattle.plus_validator.specs.Standing.{CanGoOn};
 ghost use Rattle.plus_validator.specs.Stopped.{HaltsAtMoment, HaltsInAct, HaltsInLine, HaltsInLines, HaltsAtEnd};
@@ -17,13 +18,13 @@ use crate::run::Run;
 use plus_ground::{InstanceFault, instance};
 use plus_number::exact::Exact;
 use plus_number::frac::Frac64;
+use plus_numbering::Numbering;
 use plus_plan::{Line, PlanForm, Time, line_at, time_value};
-use plus_report::{Early, Text, Verdict, write_act};
+use plus_report::{Early, Kinds, Text, Verdict, write_act};
 use plus_state::Label;
 use plus_state::outcome::Breach;
 use plus_state::problem::Ground;
 use plus_tree::Call;
-use plus_types::Typed;
 use std::alloc::Global;
 use std::cmp::Ordering;
 
@@ -44,7 +45,10 @@ fn broken(breach: Breach<Frac64>) -> Halt
     Halt::Refused(Verdict::Invalid(breach))
 }
 
-// Why an action cannot be called.
+/// The most nodes of an instance of an action.
+const MOST_NODES: u32 = 1000000;
+
+// Why an action cannot be called, or its instance is over a limit.
 fn refused_call(alloc: Global, fault: InstanceFault, line: u32, call: &Call) -> Halt
     ensures says { CallHalts fault line call.now.name result }
     ensures fits { (P : Problem) → HaltFits P result }
@@ -58,8 +62,16 @@ fn refused_call(alloc: Global, fault: InstanceFault, line: u32, call: &Call) -> 
             Ok(name) => broken(Breach::WrongArguments { line, name }),
             Err(_) => Halt::Memory,
         },
-        InstanceFault::TooManyNodes | InstanceFault::Literal { .. } | InstanceFault::Memory =>
-            Halt::Memory,
+        InstanceFault::TooManyNodes => Halt::Refused(Verdict::Other(Early::TooMany {
+            kind: Kinds::Nodes,
+            most: MOST_NODES,
+        })),
+        InstanceFault::Literal { span } => Halt::Refused(Verdict::Other(Early::Literal {
+            text: Text::Domain,
+            start: span.start,
+            end: span.end,
+        })),
+        InstanceFault::Memory => Halt::Memory,
     }
 }
 
@@ -101,21 +113,21 @@ impl Run {
     fn act(
         &mut self,
         alloc: Global,
-        typed: &Typed,
+        numbering: &Numbering,
         ground: &Ground<Frac64>,
         line: u32,
         call: &Call,
     ) -> Result<(), Halt>
-        requires expands { IsGroundOf typed.now.domain typed.now.problem ground.now }
+        requires expands { IsGroundOf numbering.now.typed.now.domain numbering.now.typed.now.problem ground.now }
         requires can { CanGoOn (problem_of fraction_of ground.now) self.old.timeline }
         requires paused { IsPaused self.old.timeline }
         ensures acts { OnOk result (ActsOnce (labels_of ground.now) (problem_of fraction_of ground.now)
-            (called_of typed.now.domain call.now.name call.now.args) self.old self.new) }
-        ensures stops { IfErr result (HaltsInAct (labels_of ground.now) (problem_of fraction_of ground.now)
-            line (called_of typed.now.domain call.now.name call.now.args) self.old self.new) }
+            (called_of numbering.now.typed.now.domain numbering.now.typed.now.problem call.now.name call.now.args) self.old self.new) }
+        ensures stops { IfErr result (HaltsInAct (pair_in numbering.now.typed.now) (labels_of ground.now)
+            (problem_of fraction_of ground.now) line call.now self.old self.new) }
         ensures fits { IfErr result (HaltFits (problem_of fraction_of ground.now)) }
     {
-        let action = match instance::<Frac64>(alloc, typed, call) {
+        let action = match instance::<Frac64>(alloc, numbering, call) {
             Ok(action) => action,
             Err(fault) => return Err(refused_call(alloc, fault, line, call)),
         };
@@ -134,17 +146,17 @@ impl Run {
     pub fn line(
         &mut self,
         alloc: Global,
-        typed: &Typed,
+        numbering: &Numbering,
         ground: &Ground<Frac64>,
         read: &Line,
     ) -> Result<(), Halt>
-        requires expands { IsGroundOf typed.now.domain typed.now.problem ground.now }
+        requires expands { IsGroundOf numbering.now.typed.now.domain numbering.now.typed.now.problem ground.now }
         requires can { CanGoOn (problem_of fraction_of ground.now) self.old.timeline }
         requires moment { self.old.timeline.now.running ≡ None }
         requires bottom { HasBottom read.now }
-        ensures plays { OnOk result (PlaysLine typed.now.domain (labels_of ground.now)
+        ensures plays { OnOk result (PlaysLine (pair_in numbering.now.typed.now) (labels_of ground.now)
             (problem_of fraction_of ground.now) read.now self.old self.new) }
-        ensures stops { IfErr result (HaltsInLine typed.now.domain (labels_of ground.now)
+        ensures stops { IfErr result (HaltsInLine (pair_in numbering.now.typed.now) (labels_of ground.now)
             (problem_of fraction_of ground.now) read.now self.old self.new) }
         ensures fits { IfErr result (HaltFits (problem_of fraction_of ground.now)) }
     {
@@ -152,7 +164,7 @@ impl Run {
             Line::Act { line, time, call } => {
                 let until = self.moment(*line, time)?;
                 self.reach(ground, until)?;
-                self.act(alloc, typed, ground, *line, call)?;
+                self.act(alloc, numbering, ground, *line, call)?;
                 let now = self.timeline.time();
                 self.reach(ground, now)
             }
@@ -186,17 +198,17 @@ impl Run {
     pub fn text(
         &mut self,
         alloc: Global,
-        typed: &Typed,
+        numbering: &Numbering,
         ground: &Ground<Frac64>,
         text: &[u8],
     ) -> Result<u32, Halt>
-        requires expands { IsGroundOf typed.now.domain typed.now.problem ground.now }
+        requires expands { IsGroundOf numbering.now.typed.now.domain numbering.now.typed.now.problem ground.now }
         requires can { CanGoOn (problem_of fraction_of ground.now) self.old.timeline }
         requires moment { self.old.timeline.now.running ≡ None }
         requires few { length text.now ≤ 1048576 }
-        ensures reads { IfOk result (ReadsAll typed.now.domain (labels_of ground.now)
+        ensures reads { IfOk result (ReadsAll (pair_in numbering.now.typed.now) (labels_of ground.now)
             (problem_of fraction_of ground.now) text.now self.old self.new) }
-        ensures stops { IfErr result (HaltsInLines typed.now.domain (labels_of ground.now)
+        ensures stops { IfErr result (HaltsInLines (pair_in numbering.now.typed.now) (labels_of ground.now)
             (problem_of fraction_of ground.now) text.now self.old self.new) }
         ensures fits { IfErr result (HaltFits (problem_of fraction_of ground.now)) }
     {
@@ -209,7 +221,7 @@ impl Run {
             number,
             PlanForm::Timed,
         )? {
-            self.line(alloc, typed, ground, &read)?;
+            self.line(alloc, numbering, ground, &read)?;
             from = next;
             number += 1;
         }

@@ -1,6 +1,6 @@
 use Rattle.std.proofs.Common.{◌≡◌, ◌∙◌, ap, arith, length, subst, List, ℕ}
-use Rattle.plus_parser.specs.Items.{items_of}
-use Rattle.plus_parser.specs.Reading.{Fails}
+use Rattle.plus_reading.specs.Items.{items_of}
+use Rattle.plus_reading.specs.Reading.{Fails}
 use Rattle.plus_parser.specs.ReadingDomain.{domain_of}
 use Rattle.plus_report.specs.declared.refusals.Text.TheVariants.{Domain}
 use Rattle.planplus.specs.Pair.{text_refusal}

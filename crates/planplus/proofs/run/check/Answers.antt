@@ -1,5 +1,6 @@
-use Rattle.std.proofs.Common.{ap}
-use Rattle.planplus.proofs.RunLemmas.{valid_run, plan_refused, plan_broken, pair_refused, pair_broken}
+use Rattle.std.proofs.Common.{ap, sym, ◌∙◌}
+use Rattle.plus_io.proofs.Pieces.{KeepsFiles-trans}
+use Rattle.planplus.proofs.RunLemmas.{only_broken, only_read, only_memory, no_usage, rose_before, valid_run, plan_refused, plan_broken, pair_refused, pair_broken}
 use Rattle.planplus.proofs.run.check.Goals as goal
 
 pub returns-in-Ok-clause-valid : goal.returns-in-Ok-clause-valid
@@ -28,3 +29,20 @@ returns-in-Err-Early-clause-broken g c v =
     let line = rw c.in-Err-Early.early-is at c.refuse.ensures.writes in
     let cause = rw c.in-Err-Early.field-0-is at c.in-Err-Early.ensures.not_read in
     pair_broken _ _ _ c.in-Err-Early.early _ _ _ _ _ cause line v
+
+pub returns-in-Ok-clause-no_usage : goal.returns-in-Ok-clause-no_usage
+returns-in-Ok-clause-no_usage g c = no_usage c.validate.result c.of.result c.of.ensures
+
+pub returns-in-Ok-clause-read_fault : goal.returns-in-Ok-clause-read_fault
+returns-in-Ok-clause-read_fault g c v =
+    let h = c.validate.ensures.read_fault (only_read c.validate.result (sym c.of.ensures ∙ v)) in
+    (rose_before _ _ _ c.in-Ok.ensures.keeps.no_fall h.0, h.1)
+
+pub returns-in-Ok-clause-write_fault : goal.returns-in-Ok-clause-write_fault
+returns-in-Ok-clause-write_fault g c v = (c.validate.ensures.write_fault (only_broken c.validate.result (sym c.of.ensures ∙ v))).0
+
+pub returns-in-Ok-clause-no_memory : goal.returns-in-Ok-clause-no_memory
+returns-in-Ok-clause-no_memory g c v = c.validate.ensures.no_memory (only_memory c.validate.result (sym c.of.ensures ∙ v))
+
+pub returns-in-Ok-clause-keeps : goal.returns-in-Ok-clause-keeps
+returns-in-Ok-clause-keeps g c = KeepsFiles-trans _ _ _ c.in-Ok.ensures.keeps c.validate.ensures.keeps

@@ -1,3 +1,4 @@
+use Rattle.plus_validator.proofs.Grounded.{ground_still}
 use Rattle.plus_number.specs.Frac.{fraction_of}
 use Rattle.plus_state.specs.View.{problem_of, labels_of}
 use Rattle.plus_report.specs.Verdicts.{verdict_text}
@@ -15,9 +16,13 @@ returns-clause-judged c =
     let N = labels_of c.args.ground.now in
     let P = problem_of fraction_of c.args.ground.now in
     let j : Judgement = record { bytes = c.write_verdict.new.out.bytes; outcome = c.outcome_of-outcome.result } in
-    judged c.args.typed.now.domain c.args.typed.now.problem N P c.args.happenings c.args.text.now.bytes.items c.args.text.now.goes_on
+    judged c.args.numbering.now.typed.now.domain c.args.numbering.now.typed.now.problem N P c.args.happenings c.args.text.now.bytes.items c.args.text.now.goes_on
     c.in_ok-run.run' c.play_text.new.run j c.play_text.result c.in_ok-verdict.verdict c.requires.few c.requires.expands.expands
     c.requires.expands.labels c.in_ok-run.ensures.begins c.play_text.ensures.plays c.play_text.ensures.stops c.play_text.ensures.fits c.in_ok-verdict.ensures.gives
     c.outcome_of-outcome.ensures
     (took_all c.play_text.new.run.report.bytes.items c.write_verdict.new.out.bytes.items (verdict_text fraction_of N P c.in_ok-verdict.verdict)
     c.in_ok-write_verdict.ensures.outcome)
+
+pub begin-requires-clause-still : goal.begin-requires-clause-still
+begin-requires-clause-still c =
+    ground_still c.args.numbering.now.typed.now.domain c.args.numbering.now.typed.now.problem c.args.ground.now c.args.numbering.now.typed.now.well_typed c.requires.expands

@@ -1,3 +1,4 @@
+use Rattle.plus_validator.specs.Plans.{pair_in}
 use Rattle.std.proofs.Common.{true, ap, ◌∙◌, drop, take}
 use Rattle.plus_number.specs.Frac.{fraction_of}
 use Rattle.plus_state.specs.View.{problem_of, labels_of}
@@ -15,7 +16,7 @@ pub returns-in-Ok-clause-stops : goal.returns-in-Ok-clause-stops
 returns-in-Ok-clause-stops c =
     let N = labels_of c.args.ground.now in
     let P = problem_of fraction_of c.args.ground.now in
-    let d = c.args.typed.now.domain in
+    let d = (pair_in c.args.numbering.now.typed.now) in
     let n = c.whole_lines-end.result in
     let whole = take n c.args.text.now in
     let piece = drop n c.args.text.now in
@@ -31,7 +32,7 @@ pub returns-in-Err-clause-stops : goal.returns-in-Err-clause-stops
 returns-in-Err-clause-stops c =
     let N = labels_of c.args.ground.now in
     let P = problem_of fraction_of c.args.ground.now in
-    let d = c.args.typed.now.domain in
+    let d = (pair_in c.args.numbering.now.typed.now) in
     let n = c.whole_lines-end.result in
     let whole = take n c.args.text.now in
     let piece = drop n c.args.text.now in

@@ -1,3 +1,4 @@
+use Rattle.plus_validator.specs.Plans.{pair_in}
 use Rattle.std.proofs.Common.{◌≡◌, refl, sym, subst, true}
 use Rattle.plus_number.specs.Frac.{fraction_of}
 use Rattle.plus_state.specs.View.{problem_of, labels_of}
@@ -9,7 +10,7 @@ use Rattle.plus_validator.specs.declared.halt.Halt.{Halt}
 use Rattle.plus_validator.specs.Halts.{HaltFits}
 use Rattle.plus_validator.proofs.Halting.{from_err}
 use Rattle.plus_plan.specs.TimeValue.{value_of}
-use Rattle.plus_ground.specs.Expansion.{called_of}
+use Rattle.plus_expansion.specs.Calls.{called_of}
 use Rattle.plus_model.specs.Plan.{ActLine, EndLine}
 use Rattle.plus_plan.specs.declared.forms.Line.{Line}
 use Rattle.plus_plan.specs.declared.forms.Line.TheVariants as lines
@@ -25,7 +26,7 @@ pub returns-in_ok-act-in-Act-clause-plays : goal.returns-in_ok-act-in-Act-clause
 returns-in_ok-act-in-Act-clause-plays c =
     let N = labels_of c.args.ground.now in
     let P = problem_of fraction_of c.args.ground.now in
-    let d = c.args.typed.now.domain in
+    let d = (pair_in c.args.numbering.now.typed.now) in
     on_ok c.reach-in-Act.result _ _ (λ r.
     subst (λ l. PlaysLine d N P l c.args.self.now c.reach-in-Act.new.self) (sym c.in-Act.is)
     (act_played d N P c.in-Act.line c.in-Act.time c.in-Act.call c.in_ok-until-in-Act.until (fraction_of c.time-now.result)
@@ -37,7 +38,7 @@ pub returns-in_ok-reach-in-End-clause-plays : goal.returns-in_ok-reach-in-End-cl
 returns-in_ok-reach-in-End-clause-plays c =
     let N = labels_of c.args.ground.now in
     let P = problem_of fraction_of c.args.ground.now in
-    let d = c.args.typed.now.domain in
+    let d = (pair_in c.args.numbering.now.typed.now) in
     let new : Run = record { timeline = c.reach-in-End.new.self.timeline; report = c.reach-in-End.new.self.report; ended = true } in
     subst (λ l. PlaysLine d N P l c.args.self.now new) (sym c.in-End.is)
     (end_played d N P c.in-End.line c.in-End.time c.in_ok-until-in-End.until c.args.self.now c.reach-in-End.new.self new
@@ -61,18 +62,18 @@ pub returns-in_err-until-in-Act-clause-stops : goal.returns-in_err-until-in-Act-
 returns-in_err-until-in-Act-clause-stops c =
     let N = labels_of c.args.ground.now in
     let P = problem_of fraction_of c.args.ground.now in
-    let d = c.args.typed.now.domain in
+    let d = (pair_in c.args.numbering.now.typed.now) in
     let line : Line = lines.Act c.in-Act.line c.in-Act.time c.in-Act.call in
     from_err c.from_residual.result (λ (h : Halt). h ≡ c.in_err-until-in-Act.field-0.0) (HaltsInLine d N P c.args.read.now c.args.self.now c.args.self.now) c.from_residual.ensures.1
     (λ h e. subst (λ (l : Line). HaltsInLine d N P l c.args.self.now c.args.self.now h) (sym c.in-Act.is)
-    (halts_by_time d N P line (ActLine (value_of c.in-Act.time) (called_of d c.in-Act.call.name c.in-Act.call.args)) c.in-Act.time c.args.self.now h refl refl refl c.requires.can
+    (halts_by_time d N P line (ActLine (value_of c.in-Act.time) (called_of d.domain d.problem c.in-Act.call.name c.in-Act.call.args)) c.in-Act.time c.args.self.now h refl refl refl c.requires.can
     (subst (HaltsAtMoment c.in-Act.line c.in-Act.time c.args.self.now) (sym e) c.in_err-until-in-Act.ensures.stops)))
 
 pub returns-in_err-until-in-End-clause-stops : goal.returns-in_err-until-in-End-clause-stops
 returns-in_err-until-in-End-clause-stops c =
     let N = labels_of c.args.ground.now in
     let P = problem_of fraction_of c.args.ground.now in
-    let d = c.args.typed.now.domain in
+    let d = (pair_in c.args.numbering.now.typed.now) in
     let line : Line = lines.End c.in-End.line c.in-End.time in
     from_err c.from_residual-in_err-until-in-End.result (λ (h : Halt). h ≡ c.in_err-until-in-End.field-0.0) (HaltsInLine d N P c.args.read.now c.args.self.now c.args.self.now) c.from_residual-in_err-until-in-End.ensures.1
     (λ h e. subst (λ (l : Line). HaltsInLine d N P l c.args.self.now c.args.self.now h) (sym c.in-End.is)
@@ -83,12 +84,12 @@ pub returns-in_err-reach-in-Act-clause-stops : goal.returns-in_err-reach-in-Act-
 returns-in_err-reach-in-Act-clause-stops c =
     let N = labels_of c.args.ground.now in
     let P = problem_of fraction_of c.args.ground.now in
-    let d = c.args.typed.now.domain in
+    let d = (pair_in c.args.numbering.now.typed.now) in
     let line : Line = lines.Act c.in-Act.line c.in-Act.time c.in-Act.call in
     let at = c.in_ok-until-in-Act.until in
     from_err c.from_residual-in_err-reach-in-Act.result (λ (h : Halt). h ≡ c.in_err-reach-in-Act.field-0.0) (HaltsInLine d N P c.args.read.now c.args.self.now c.reach.new.self) c.from_residual-in_err-reach-in-Act.ensures.1
     (λ h e. subst (λ (l : Line). HaltsInLine d N P l c.args.self.now c.reach.new.self h) (sym c.in-Act.is)
-    (halts_before d N P line (ActLine (value_of c.in-Act.time) (called_of d c.in-Act.call.name c.in-Act.call.args)) c.in-Act.time at c.args.self.now c.reach.new.self h refl refl
+    (halts_before d N P line (ActLine (value_of c.in-Act.time) (called_of d.domain d.problem c.in-Act.call.name c.in-Act.call.args)) c.in-Act.time at c.args.self.now c.reach.new.self h refl refl
     c.in_ok-until-in-Act.ensures.ok
     (subst (HaltsOnWay N P (fraction_of at) c.args.self.now c.reach.new.self) (sym e) c.in_err-reach-in-Act.ensures.stops)))
 
@@ -96,7 +97,7 @@ pub returns-in_err-reach-in-End-clause-stops : goal.returns-in_err-reach-in-End-
 returns-in_err-reach-in-End-clause-stops c =
     let N = labels_of c.args.ground.now in
     let P = problem_of fraction_of c.args.ground.now in
-    let d = c.args.typed.now.domain in
+    let d = (pair_in c.args.numbering.now.typed.now) in
     let line : Line = lines.End c.in-End.line c.in-End.time in
     let at = c.in_ok-until-in-End.until in
     from_err c.from_residual-in_err-reach-in-End.result (λ (h : Halt). h ≡ c.in_err-reach-in-End.field-0.0) (HaltsInLine d N P c.args.read.now c.args.self.now c.reach-in-End.new.self) c.from_residual-in_err-reach-in-End.ensures.1
@@ -109,19 +110,18 @@ pub returns-in_err-act-in-Act-clause-stops : goal.returns-in_err-act-in-Act-clau
 returns-in_err-act-in-Act-clause-stops c =
     let N = labels_of c.args.ground.now in
     let P = problem_of fraction_of c.args.ground.now in
-    let d = c.args.typed.now.domain in
-    let call = called_of d c.in-Act.call.name c.in-Act.call.args in
+    let d = (pair_in c.args.numbering.now.typed.now) in
     let at = c.in_ok-until-in-Act.until in
     from_err c.from_residual-in_err-act-in-Act.result (λ (h : Halt). h ≡ c.in_err-act-in-Act.field-0.0) (HaltsInLine d N P c.args.read.now c.args.self.now c.act.new.self) c.from_residual-in_err-act-in-Act.ensures.1
     (λ h e. subst (λ (l : Line). HaltsInLine d N P l c.args.self.now c.act.new.self h) (sym c.in-Act.is)
     (halts_in_act d N P c.in-Act.line c.in-Act.time c.in-Act.call at c.args.self.now c.reach.new.self c.in_ok-until-in-Act.ensures.ok c.in_ok-reach-in-Act.ensures.reaches
-    c.act.new.self h (subst (HaltsInAct N P c.in-Act.line call c.reach.new.self c.act.new.self) (sym e) c.in_err-act-in-Act.ensures.stops)))
+    c.act.new.self h (subst (HaltsInAct d N P c.in-Act.line c.in-Act.call c.reach.new.self c.act.new.self) (sym e) c.in_err-act-in-Act.ensures.stops)))
 
 pub returns-in_ok-act-in-Act-clause-stops : goal.returns-in_ok-act-in-Act-clause-stops
 returns-in_ok-act-in-Act-clause-stops c =
     let N = labels_of c.args.ground.now in
     let P = problem_of fraction_of c.args.ground.now in
-    let d = c.args.typed.now.domain in
+    let d = (pair_in c.args.numbering.now.typed.now) in
     let at = c.in_ok-until-in-Act.until in
     on_err c.reach-in-Act.result (HaltsOnWay N P (fraction_of c.time-now.result) c.act.new.self c.reach-in-Act.new.self) (HaltsInLine d N P c.args.read.now c.args.self.now c.reach-in-Act.new.self)
     (λ h s. subst (λ (l : Line). HaltsInLine d N P l c.args.self.now c.reach-in-Act.new.self h) (sym c.in-Act.is)

@@ -1,3 +1,4 @@
+use Rattle.plus_validator.specs.Plans.{pair_in}
 use Rattle.std.proofs.Common.{◌≡◌, rules, arith, sym, subst}
 use Rattle.std.specs.Prelude.{Some}
 use Rattle.plus_number.specs.Frac.{fraction_of}
@@ -13,21 +14,21 @@ use Rattle.plus_validator.proofs.run.Run.text.Goals as goal
 pub lines-preserved-in_ok-line : goal.lines-preserved-in_ok-line
 lines-preserved-in_ok-line c =
     let e : c.in_ok-read.field-0 ≡ Some (c.in-Some.read, c.in-Some.next) = first_of (cc, search rules, grind arith) in
-    reads_on c.args.typed.now.domain (labels_of c.args.ground.now) (problem_of fraction_of c.args.ground.now) c.args.text.now
+    reads_on (pair_in c.args.numbering.now.typed.now) (labels_of c.args.ground.now) (problem_of fraction_of c.args.ground.now) c.args.text.now
     c.args.self.now c.lines.self c.line.new.self c.lines.number c.lines.from c.in_ok-read.field-0 c.in-Some.read c.in-Some.next e
     c.lines.invariant c.in_ok-read.ensures.line c.in_ok-line.ensures.plays
 
 pub lines-preserved-in_ok-line-2 : goal.lines-preserved-in_ok-line-2
 lines-preserved-in_ok-line-2 c =
     let e : c.in_ok-read.field-0 ≡ Some (c.in-Some.read, c.in-Some.next) = first_of (cc, search rules, grind arith) in
-    reads_on c.args.typed.now.domain (labels_of c.args.ground.now) (problem_of fraction_of c.args.ground.now) c.args.text.now
+    reads_on (pair_in c.args.numbering.now.typed.now) (labels_of c.args.ground.now) (problem_of fraction_of c.args.ground.now) c.args.text.now
     c.args.self.now c.lines.self c.line.new.self c.lines.number c.lines.from c.in_ok-read.field-0 c.in-Some.read c.in-Some.next e
     c.lines.invariant c.in_ok-read.ensures.line c.in_ok-line.ensures.plays
 
 pub lines-preserved : goal.lines-preserved
 lines-preserved c =
     let e : c.in_ok-read.field-0 ≡ Some (c.in-Some.read, c.in-Some.next) = first_of (cc, search rules, grind arith) in
-    reads_on c.args.typed.now.domain (labels_of c.args.ground.now) (problem_of fraction_of c.args.ground.now) c.args.text.now
+    reads_on (pair_in c.args.numbering.now.typed.now) (labels_of c.args.ground.now) (problem_of fraction_of c.args.ground.now) c.args.text.now
     c.args.self.now c.lines.self c.line.new.self c.lines.number c.lines.from c.in_ok-read.field-0 c.in-Some.read c.in-Some.next e
     c.lines.invariant c.in_ok-read.ensures.line c.in_ok-line.ensures.plays
 
@@ -35,7 +36,7 @@ pub returns-in_err-read-clause-stops : goal.returns-in_err-read-clause-stops
 returns-in_err-read-clause-stops c =
     let N = labels_of c.args.ground.now in
     let P = problem_of fraction_of c.args.ground.now in
-    let d = c.args.typed.now.domain in
+    let d = (pair_in c.args.numbering.now.typed.now) in
     let fault = c.in_err-read.field-0.0 in
     from_err c.from_residual.result (λ (h : Halt). h ≡ line_halt fault) (HaltsInLines d N P c.args.text.now c.args.self.now c.lines.self) c.from_residual.ensures.1
     (λ h e. halts_at_bad_line d N P c.args.text.now c.args.self.now c.lines.self c.lines.number c.lines.from c.lines.invariant fault h c.in_err-read.ensures.refused e)
@@ -44,7 +45,7 @@ pub returns-in_err-line-clause-stops : goal.returns-in_err-line-clause-stops
 returns-in_err-line-clause-stops c =
     let N = labels_of c.args.ground.now in
     let P = problem_of fraction_of c.args.ground.now in
-    let d = c.args.typed.now.domain in
+    let d = (pair_in c.args.numbering.now.typed.now) in
     let e : c.in_ok-read.field-0 ≡ Some (c.in-Some.read, c.in-Some.next) = first_of (cc, search rules, grind arith) in
     from_err c.from_residual-in_err-line.result (λ (h : Halt). h ≡ c.in_err-line.field-0.0) (HaltsInLines d N P c.args.text.now c.args.self.now c.line.new.self) c.from_residual-in_err-line.ensures.1
     (λ h k. halts_at_line d N P c.args.text.now c.args.self.now c.lines.self c.lines.number c.lines.from c.lines.invariant c.line.new.self

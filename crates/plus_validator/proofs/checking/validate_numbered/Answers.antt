@@ -1,0 +1,43 @@
+use Rattle.std.proofs.Common.{inl, inr, subst}
+use Rattle.plus_io.specs.Taken.{Took, TookPart}
+use Rattle.plus_validator.proofs.Validating.{ungrounded_not_valid, ungrounded_reads, ungrounded_refused, ungrounded_fault, ungrounded_memory, refuses_told, breaks_off_told}
+use Rattle.plus_validator.proofs.checking.validate_numbered.Goals as goal
+
+pub returns-in-Err-clause-valid : goal.returns-in-Err-clause-valid
+returns-in-Err-clause-valid g c = λ h.
+    absurd (ungrounded_not_valid c.args.numbering.now.typed.now.domain c.args.numbering.now.typed.now.problem _ _ _ _ c.refuse.result (c.refuse.ensures.refused c.args.numbering.now.typed.now.domain c.args.numbering.now.typed.now.problem c.in-Err.ensures.limits) h)
+
+pub returns-in-Err-clause-refused : goal.returns-in-Err-clause-refused
+returns-in-Err-clause-refused g c = λ h.
+    inl (ungrounded_refused c.args.numbering.now.typed.now.domain c.args.numbering.now.typed.now.problem _ _ _ _ c.refuse.result (c.refuse.ensures.refused c.args.numbering.now.typed.now.domain c.args.numbering.now.typed.now.problem c.in-Err.ensures.limits) h)
+
+pub returns-in-Err-clause-read_fault : goal.returns-in-Err-clause-read_fault
+returns-in-Err-clause-read_fault g c = λ h.
+    absurd (ungrounded_reads c.args.numbering.now.typed.now.domain c.args.numbering.now.typed.now.problem _ _ _ _ c.refuse.result (c.refuse.ensures.refused c.args.numbering.now.typed.now.domain c.args.numbering.now.typed.now.problem c.in-Err.ensures.limits) h)
+
+pub returns-in-Err-clause-write_fault : goal.returns-in-Err-clause-write_fault
+returns-in-Err-clause-write_fault g c = λ h.
+    let k = ungrounded_fault c.args.numbering.now.typed.now.domain c.args.numbering.now.typed.now.problem _ _ _ _ c.refuse.result (c.refuse.ensures.refused c.args.numbering.now.typed.now.domain c.args.numbering.now.typed.now.problem c.in-Err.ensures.limits) h in
+    (k.0, inl k.1)
+
+pub returns-in-Err-clause-no_memory : goal.returns-in-Err-clause-no_memory
+returns-in-Err-clause-no_memory g c = λ h.
+    ungrounded_memory c.args.numbering.now.typed.now.domain c.args.numbering.now.typed.now.problem _ _ _ _ c.refuse.result (c.refuse.ensures.refused c.args.numbering.now.typed.now.domain c.args.numbering.now.typed.now.problem c.in-Err.ensures.limits) h
+
+pub returns-in-Ok-write_all-clause-refused : goal.returns-in-Ok-write_all-clause-refused
+returns-in-Ok-write_all-clause-refused g c = λ h.
+    let old = g.O.Sink.taken c.args.out.now in
+    let new = g.O.Sink.taken c.write_all.new.sink in
+    inr (refuses_told c.args.numbering.now.typed.now.domain c.args.numbering.now.typed.now.problem c.args.happenings (g.S.Shelf.bytes c.args.shelf.now c.args.plan.now)
+    c.in-Ok-read_text.text.bytes.items c.in-Ok-read_text.text.goes_on c.in-Ok-judge.judgement c.in-Ok-judge.ensures.judged old new
+    c.in-Ok-read_text.ensures.read (subst (Took old new) c.deref.ensures.value c.in-Ok-write_all.ensures.took) h)
+
+pub returns-in-Ok-judge-clause-write_fault : goal.returns-in-Ok-judge-clause-write_fault
+returns-in-Ok-judge-clause-write_fault g c = λ h.
+    let old = g.O.Sink.taken c.args.out.now in
+    let new = g.O.Sink.taken c.write_all.new.sink in (
+      c.in-Err-write_all.ensures.cause,
+      inr (breaks_off_told c.args.numbering.now.typed.now.domain c.args.numbering.now.typed.now.problem c.args.happenings (g.S.Shelf.bytes c.args.shelf.now c.args.plan.now)
+          c.in-Ok-read_text.text.bytes.items c.in-Ok-read_text.text.goes_on c.in-Ok-judge.judgement c.in-Ok-judge.ensures.judged old new
+          c.in-Ok-read_text.ensures.read (subst (TookPart old new) c.deref.ensures.value c.in-Err-write_all.ensures.part)),
+    )
