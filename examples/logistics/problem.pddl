@@ -1,0 +1,10 @@
+(define (problem two-shops)
+ (:domain logistics)
+ (:objects van - truck books lamp - parcel north - depot mill harbour - shop)
+ (:init
+  (at van north) (at books north) (at lamp north)
+  (= (room van) 1) (= (fuel van) 12) (= (driven) 0)
+  (= (distance north mill) 2.5) (= (distance mill north) 2.5)
+  (= (distance north harbour) 6) (= (distance harbour north) 6)
+  (= (distance mill harbour) 4) (= (distance harbour mill) 4))
+ (:goal (and (at books mill) (at lamp harbour) (<= (driven) 12))))

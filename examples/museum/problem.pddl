@@ -1,0 +1,5 @@
+(define (problem night)
+ (:domain museum)
+ (:objects ada ben - guard hall gallery vault - room)
+ (:init (in ada hall) (in ben gallery) (door hall gallery) (door gallery vault) (alarm))
+ (:goal (and (forall (?r - room) (or (checked ?r) (= ?r hall))) (not (in ben gallery)))))
