@@ -10,12 +10,11 @@ use Rattle.plus_model.specs.Value.{fluent_of}
 use Rattle.plus_model.specs.Joint.{Conflict}
 use Rattle.plus_state.specs.declared.due.Update as code
 use Rattle.plus_state.specs.Node.{Node}
-use Rattle.plus_state.specs.Asked.{AllFit, FirstUnfit}
+use Rattle.plus_state.specs.Asked.{NodeFits, AllFit, FirstUnfit}
 use Rattle.plus_state.specs.Due.{Update, Due, puts, updates, DuesFit, OnFluents, put_update, updated, all_updated, updates_on, by_fluent, new_fluents, is_move, all_moves, clash}
-use Rattle.plus_state.specs.Steps.{Step, fault, AllPass, FirstStop, updated_nodes, all_updated_nodes, clash_steps, fluents_nodes}
+use Rattle.plus_state.specs.Steps.{Step, fault, Passes, AllPass, FirstStop, updated_nodes, all_updated_nodes, clash_steps, fluents_nodes}
 use Rattle.plus_state.specs.Stops.{update_of}
-use Rattle.plus_state.proofs.AskedLemmas.{fit_append, unfit_left, unfit_right, fit_none}
-use Rattle.plus_state.proofs.StepsLemmas.{pass_none}
+use Rattle.plus_state.proofs.Testing.{pass_none, pass_append, fail_left, fail_right, fail_here}
 
 -- the writes on one fluent, one after the other
 pub record Updating (fits : Fraction → Type 0) (rest : List Update) (v : Option Fraction) (whole : List Update) (first : Option Fraction) : Type 0 where
@@ -29,15 +28,15 @@ updating_start fits whole v = record { so_far = refl; fit = λ a. a; unfit = λ 
 pub updating_next : (fits : Fraction → Type 0) (u : Update) (rest : List Update) (v w : Option Fraction) (whole : List Update) (first : Option Fraction) → Updating fits (u ∷ rest) v whole first → AllFit fits (updated_nodes u.op u.amount v) → w ≡ updated u.op u.amount v → Updating fits rest w whole first
 updating_next fits u rest v w whole first h a e = subst (λ (x : Option Fraction). Updating fits rest x whole first) (sym e) (record {
   so_far = h.so_far;
-  fit = λ r. h.fit (fit_append fits _ _ a r);
-  unfit = λ m r. h.unfit m (unfit_right fits _ _ m a r);
+  fit = λ r. h.fit (pass_append (NodeFits fits) _ _ a r);
+  unfit = λ m r. h.unfit m (fail_right (NodeFits fits) _ _ m a r);
 })
 
 pub updating_err : (fits : Fraction → Type 0) (u : Update) (rest : List Update) (v : Option Fraction) (whole : List Update) (first : Option Fraction) (m : Node) → Updating fits (u ∷ rest) v whole first → FirstUnfit fits (updated_nodes u.op u.amount v) m → FirstUnfit fits (all_updated_nodes whole first) m
-updating_err fits u rest v whole first m h r = h.unfit m (unfit_left fits _ _ m r)
+updating_err fits u rest v whole first m h r = h.unfit m (fail_left (NodeFits fits) _ _ m r)
 
 pub updating_end : (fits : Fraction → Type 0) (v : Option Fraction) (whole : List Update) (first : Option Fraction) → Updating fits [] v whole first → AllFit fits (all_updated_nodes whole first) × (v ≡ all_updated whole first)
-updating_end fits v whole first h = (h.fit (fit_none fits), h.so_far)
+updating_end fits v whole first h = (h.fit (pass_none (NodeFits fits)), h.so_far)
 
 -- writes sorted by their fluents
 abbrev pub put_updates : List Due → List (List Update) → List (List Update)
@@ -145,13 +144,13 @@ comparing_next fits k us rest whole h e =
     })
 
 pub comparing_stop : (fits : Fraction → Type 0) (k : ℕ) (us : List Update) (rest whole : List (List Update)) → Comparing fits k (us ∷ rest) whole → true ≡ clash us → FirstStop fits (clash_steps 0 whole) (fault (Conflict k))
-unfolding FirstStop
+unfolding Passes
 comparing_stop fits k us rest whole h e =
     let same : fault (Conflict k) ∷ clash_steps (suc k) rest ≡ clash_steps k (us ∷ rest) = ap (λ (b : Bool). (if b then fault (Conflict k) ∷ [] else []) ++ clash_steps (suc k) rest) e in
-    h.stop _ (subst (λ (ns : List Step). FirstStop fits ns (fault (Conflict k))) same refl)
+    h.stop _ (subst (λ (ns : List Step). FirstStop fits ns (fault (Conflict k))) same (fail_here (Passes fits) _ _ (λ h. h)))
 
 pub comparing_end : (fits : Fraction → Type 0) (k : ℕ) (whole : List (List Update)) → Comparing fits k [] whole → AllPass fits (clash_steps 0 whole)
-comparing_end fits k whole h = h.pass (pass_none fits)
+comparing_end fits k whole h = h.pass (pass_none (Passes fits))
 
 -- fluents, one after the other: those done, and those left with their writes
 pub record Doing (fits : Fraction → Type 0) (k : ℕ) (rest : List (List Update)) (now : State) (whole : List (List Update)) (old : State) : Type 0 where
@@ -190,8 +189,8 @@ module _ (fits : Fraction → Type 0) (k : ℕ) (us : List Update) (rest whole :
         size = ap (λ (s : State). length s.fluents) is ∙ sym (ap length put) ∙ length-set (done ++ v ∷ left) k w ∙ size;
         now_is = is;
         so_far = append_assoc done (w ∷ []) (new_fluents rest left) ∙ so_far;
-        fit = λ r. fit (fit_append fits _ _ b r);
-        unfit = λ m r. unfit m (unfit_right fits _ _ m b r);
+        fit = λ r. fit (pass_append (NodeFits fits) _ _ b r);
+        unfit = λ m r. unfit m (fail_right (NodeFits fits) _ _ m b r);
       }
 
   pub doing_next : (now new : State) → Doing fits k (us ∷ rest) now whole old → AllFit fits (all_updated_nodes us (fluent_of now k)) → new ≡ record now { fluents = set now.fluents k (all_updated us (fluent_of now k)) } → Doing fits (k + 1) rest new whole old
@@ -203,18 +202,18 @@ module _ (fits : Fraction → Type 0) (k : ℕ) (us : List Update) (rest whole :
   doing_here : (done left : List (Option Fraction)) (m : Node) → length done ≡ k → length (us ∷ rest) ≡ length left → FirstUnfit fits (all_updated_nodes us (unwrap_or (slice_get (done ++ left) k) None)) m → FirstUnfit fits (fluents_nodes (us ∷ rest) left) m
   doing_here done [] m count same u = absurd (omega arith)
   doing_here done (v ∷ left) m count same u =
-      unfit_left fits _ _ m (subst (λ (x : Option Fraction). FirstUnfit fits (all_updated_nodes us x) m) (at_seam done v left k count) u)
+      fail_left (NodeFits fits) _ _ m (subst (λ (x : Option Fraction). FirstUnfit fits (all_updated_nodes us x) m) (at_seam done v left k count) u)
 
   pub doing_err : (now : State) (m : Node) → Doing fits k (us ∷ rest) now whole old → FirstUnfit fits (all_updated_nodes us (fluent_of now k)) m → FirstUnfit fits (fluents_nodes whole old.fluents) m
   doing_err now m h u =
       h.unfit m (doing_here h.done h.left m h.count h.same (subst (λ (s : State). FirstUnfit fits (all_updated_nodes us (fluent_of s k)) m) h.now_is u))
 
 pub doing_end : (fits : Fraction → Type 0) (k : ℕ) (now : State) (whole : List (List Update)) (old : State) → Doing fits k [] now whole old → AllFit fits (fluents_nodes whole old.fluents) × (now ≡ record old { fluents = new_fluents whole old.fluents })
-doing_end fits k now whole old h = (h.fit (fit_none fits), h.now_is ∙ ap (λ (x : List (Option Fraction)). record old { fluents = x }) h.so_far)
+doing_end fits k now whole old h = (h.fit (pass_none (NodeFits fits)), h.now_is ∙ ap (λ (x : List (Option Fraction)). record old { fluents = x }) h.so_far)
 
 -- a fluent without writes
 pub none_fit : {Q : Type 0} (fits : Fraction → Type 0) (v : Q → Fraction) (us : List (code.Update Q)) (x : Option Fraction) → length us ≡ 0 → AllFit fits (all_updated_nodes (map (update_of v) us) x)
-none_fit fits v [] x h = fit_none fits
+none_fit fits v [] x h = pass_none (NodeFits fits)
 none_fit fits v (u ∷ us) x h = absurd (omega arith)
 
 set_own : (vs : List (Option Fraction)) (f : ℕ) → set vs f (unwrap_or (slice_get vs f) None) ≡ vs
