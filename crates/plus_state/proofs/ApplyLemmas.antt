@@ -1,6 +1,6 @@
 -- What beginning, adding and ending come to.
 use Rattle.std.proofs.Common.{◌≡◌, List, [], ◌∷◌, ◌++◌, append_assoc, refl, ap, sym, subst, ◌∙◌}
-use Rattle.std.specs.Prelude.{Result, Ok, Err}
+use Rattle.std.specs.Prelude.{Ok}
 use Rattle.plus_fraction.specs.Fraction.{Fraction}
 use Rattle.plus_model.specs.Terms.{Effect, State}
 use Rattle.plus_model.specs.Joint.{joint}
@@ -8,8 +8,8 @@ use Rattle.plus_state.specs.declared.outcome.JointStop.{JointStop}
 use Rattle.plus_state.specs.declared.outcome.JointStop.TheVariants.{Conflict, NoValue, Number, Memory}
 use Rattle.plus_state.specs.Due.{Due, due_effect, dues, after_dues}
 use Rattle.plus_state.specs.Steps.{Passes, AllPass, effect_steps, add_steps, end_steps, joint_steps}
-use Rattle.plus_state.specs.Stops.{StopIs, DoesJointly}
-use Rattle.plus_state.specs.Applies.{NoJoint, Applies}
+use Rattle.plus_state.specs.Stops.{StopIs}
+use Rattle.plus_state.specs.Applies.{NoJoint}
 use Rattle.plus_state.proofs.Testing.{pass_append, fail_left, fail_right}
 use Rattle.plus_state.proofs.JointLemmas.{joint_passes, joint_stops}
 
@@ -46,10 +46,6 @@ module _ {Q : Type 0} (v : Q → Fraction) (fits : Fraction → Type 0) (es : Li
   ends ds t a k h e =
       let p : AllPass fits (joint_steps es s) = pass_append (Passes fits) _ _ a (subst (λ (x : List Due). AllPass fits (end_steps x s)) k h) in
       (p, joint_passes fits es s p ∙ ap Ok (sym (e ∙ ap (λ (x : List Due). after_dues x s) k)))
-
-  pub answered : (ds : List Due) (r : Result State (JointStop Q)) → AllPass fits (add_steps es s) → ds ≡ dues es s → DoesJointly v fits (end_steps ds s) (λ t. t ≡ after_dues ds s) r → Applies v fits es s r
-  answered ds (Ok t) a k h = ends ds t a k h.0 h.1
-  answered ds (Err e) a k h = end_stops ds e a k h
 
 -- more effects
 pub add_steps-append : (es fs : List Effect) (s : State) → add_steps (es ++ fs) s ≡ add_steps es s ++ add_steps fs s

@@ -1,11 +1,11 @@
 -- What the end of a joint effect comes to.
-use Rattle.std.proofs.Common.{◌≡◌, ℕ, List, ap, subst, ◌∙◌}
+use Rattle.std.proofs.Common.{◌≡◌, ℕ, List, subst}
 use Rattle.plus_fraction.specs.Fraction.{Fraction}
 use Rattle.plus_model.specs.Terms.{State}
 use Rattle.plus_model.specs.Joint.{Conflict, new_atoms}
 use Rattle.plus_state.specs.Node.{Node}
 use Rattle.plus_state.specs.Asked.{AllFit, FirstUnfit}
-use Rattle.plus_state.specs.Due.{Update, Due, by_fluent, new_fluents, atom_changes, after_dues}
+use Rattle.plus_state.specs.Due.{Update, Due, by_fluent, atom_changes}
 use Rattle.plus_state.specs.Steps.{asks, fault, Passes, AllPass, FirstStop, clash_steps, fluents_nodes, end_steps}
 use Rattle.plus_state.proofs.Testing.{pass_append, fail_left, fail_right, carry_pass, carry_fail}
 use Rattle.plus_state.proofs.StepsLemmas.{nodes_carry}
@@ -28,9 +28,3 @@ module _ (fits : Fraction → Type 0) (ds : List Due) (s now : State) (all : Lis
   unfolding end_steps
   end_pass e k a h =
       pass_append (Passes fits) _ _ (subst (λ us. AllPass fits (clash_steps 0 us)) e a) (carry_pass (nodes_carry fits) _ (subst (λ us. AllFit fits (fluents_nodes us s.fluents)) e (subst (λ (t : State). AllFit fits (fluents_nodes all t.fluents)) k h)))
-
-  pub end_state : (new : State) → all ≡ by_fluent 0 ds s.fluents → now ≡ half → new ≡ record now { fluents = new_fluents all now.fluents } → new ≡ after_dues ds s
-  end_state new e k h =
-      h ∙ ap (λ (t : State). record t { fluents = new_fluents all t.fluents }) k ∙ ap (λ us. record half { fluents = new_fluents us s.fluents }) e
-
-pub ruleset ending = (end_clash, end_unfit, end_pass, end_state)
