@@ -200,6 +200,24 @@ deciding_next all known k c rest whole s h e = record {
   so_far = decided_assoc all known k _ ∙ ap (λ o. join_decided all known (join_decided all o (decided (joined all rest) s))) e ∙ ap (join_decided all known) (sym (decided_pair all c (joined all rest) s)) ∙ h.so_far;
 }
 
+-- a member that decides
+decides_here : (all : Bool) (o : Option Bool) → join_decided all (Some (not all)) o ≡ Some (not all)
+decides_here true o = refl
+decides_here false o = refl
+
+decides_behind : (all : Bool) (known : Option Bool) → join_decided all known (Some (not all)) ≡ Some (not all)
+decides_behind true (Some true) = refl
+decides_behind true (Some false) = refl
+decides_behind true None = refl
+decides_behind false (Some true) = refl
+decides_behind false (Some false) = refl
+decides_behind false None = refl
+
+pub deciding_stop : (all : Bool) (known k : Option Bool) (c : Condition) (rest whole : List Condition) (s : State) → Deciding all known (c ∷ rest) whole s → k ≡ decided c s → k ≡ Some (not all) → k ≡ decided (joined all whole) s
+deciding_stop all known k c rest whole s h e d =
+    let here : Some (not all) ≡ decided c s = sym d ∙ e in
+    d ∙ sym (decides_behind all known) ∙ ap (join_decided all known) (sym (decides_here all _) ∙ ap (λ o. join_decided all o (decided (joined all rest) s)) here ∙ sym (decided_pair all c (joined all rest) s)) ∙ h.so_far
+
 pub deciding_end : (all : Bool) (known : Option Bool) (whole : List Condition) (s : State) → Deciding all known [] whole s → known ≡ decided (joined all whole) s
 deciding_end all known whole s h = sym (decided_last all known) ∙ ap (join_decided all known) (sym (decided_unit all s)) ∙ h.so_far
 

@@ -38,10 +38,7 @@ impl<Q: Exact> Trail<Q> {
         Ok(Trail {
             before: state.copy(alloc)?,
             state,
-            last: Changes {
-                atoms: Vec::new(alloc),
-                fluents: Vec::new(alloc),
-            },
+            last: Changes::none(alloc),
         })
     }
 
@@ -74,5 +71,16 @@ impl<Q: Exact> Trail<Q> {
         ensures { LeadsTo self.now.before result.now self.now.state }
     {
         &self.last
+    }
+
+    /// An equal trail.
+    pub fn copy(&self, alloc: Global) -> Result<Trail<Q>, AllocError>
+        ensures { IfOk result (λ t. t ≡ self.now) }
+    {
+        Ok(Trail {
+            state: self.state.copy(alloc)?,
+            before: self.before.copy(alloc)?,
+            last: self.last.copy(alloc)?,
+        })
     }
 }
