@@ -1,11 +1,21 @@
 -- Atoms after the writes of a joint effect: what is deleted goes, and then what is added comes.
-use Rattle.std.proofs.Common.{◌≡◌, ℕ, ◌<◌, ◌+◌, zero, suc, Bool, true, false, not, ◌&&◌, ◌||◌, List, [], ◌∷◌, length, get_or, set, refl, ap, ap₂, sym, subst, ◌∙◌, arith}
+use Rattle.std.proofs.Common.{◌≡◌, ℕ, ◌<◌, ◌+◌, zero, suc, Bool, true, false, not, ◌&&◌, ◌||◌, List, [], ◌∷◌, length, get_or, set, refl, ap, sym, subst, ◌∙◌, arith}
 use Rattle.std.proofs.lemmas.List.{ext_get_or, get_or-set_same, get_or-set_other, length-set}
 use Rattle.std.proofs.lemmas.Bool.{eqb-true, eqb-false}
 use Rattle.std.specs.Prelude.{nat_eq}
-use Rattle.plus_model.specs.Terms.{State}
 use Rattle.plus_model.specs.Joint.{Change, gains, loses, new_atoms}
-use Rattle.plus_state.specs.Due.{Due, puts, updates, DueFits, DuesFit, put_atom, put_atoms, atom_changes}
+use Rattle.plus_state.specs.Due.{Due, puts, updates, atom_changes}
+
+-- one write that gives an atom this truth
+abbrev pub put_atom : Bool → Due → List Bool → List Bool
+put_atom true (puts a true) bs = set bs a true
+put_atom false (puts a false) bs = set bs a false
+put_atom present d bs = bs
+
+-- all of them, one after the other
+abbrev pub put_atoms : Bool → List Due → List Bool → List Bool
+put_atoms present [] bs = bs
+put_atoms present (d ∷ ds) bs = put_atoms present ds (put_atom present d bs)
 
 length-put_atom : (present : Bool) (d : Due) (bs : List Bool) → length (put_atom present d bs) ≡ length bs
 length-put_atom true (puts a true) bs = length-set bs a true
@@ -77,39 +87,3 @@ atoms_are ds bs =
     let inside : k < length (put_atoms false ds bs) = rw length-put_atoms below in
     let start : k ≡ 0 + k = omega arith in
     get_or-added ds (put_atoms false ds bs) k inside ∙ ap (λ (x : Bool). gains k (atom_changes ds) || x) (get_or-deleted ds bs k below) ∙ ap (λ (n : ℕ). gains n (atom_changes ds) || (get_or bs k false && not (loses n (atom_changes ds)))) start ∙ sym (get_or-new_atoms 0 (atom_changes ds) bs k below))
-
--- one truth, write by write
-pub record Putting (present : Bool) (rest : List Due) (now : State) (whole : List Due) (old : State) : Type 0 where
-  pub size : length now.atoms ≡ length old.atoms
-  pub fit : DuesFit (length old.atoms) (length old.fluents) rest
-  pub fluents : now.fluents ≡ old.fluents
-  pub so_far : put_atoms present rest now.atoms ≡ put_atoms present whole old.atoms
-
-pub putting_start : (present : Bool) (whole : List Due) (old : State) → DuesFit (length old.atoms) (length old.fluents) whole → Putting present whole old whole old
-putting_start present whole old h = record { size = refl; fit = h; fluents = refl; so_far = refl }
-
-pub putting_inside : (present : Bool) (d : Due) (rest : List Due) (now : State) (whole : List Due) (old : State) → Putting present (d ∷ rest) now whole old → DueFits (length now.atoms) (length now.fluents) d
-putting_inside present d rest now whole old h =
-    subst (λ (n : ℕ). DueFits n (length now.fluents) d) (sym h.size) (subst (λ (n : ℕ). DueFits (length old.atoms) n d) (sym (ap length h.fluents)) h.fit.0)
-
-pub putting_next : (present : Bool) (d : Due) (rest : List Due) (now new : State) (whole : List Due) (old : State) → Putting present (d ∷ rest) now whole old → new ≡ record now { atoms = put_atom present d now.atoms } → Putting present rest new whole old
-putting_next present d rest now new whole old h e = subst (λ (s : State). Putting present rest s whole old) (sym e) (record {
-  size = length-put_atom present d now.atoms ∙ h.size;
-  fit = h.fit.1;
-  fluents = h.fluents;
-  so_far = h.so_far;
-})
-
-pub putting_end : (present : Bool) (now : State) (whole : List Due) (old : State) → Putting present [] now whole old → now ≡ record old { atoms = put_atoms present whole old.atoms }
-putting_end present now whole old h = ap₂ (λ (a : List Bool) f. record { atoms = a; fluents = f }) h.so_far h.fluents
-
--- first the deletions, then the additions
-pub both_put : (ds : List Due) (old middle new : State) → middle ≡ record old { atoms = put_atoms false ds old.atoms } → new ≡ record middle { atoms = put_atoms true ds middle.atoms } → new ≡ record old { atoms = new_atoms 0 (atom_changes ds) old.atoms }
-both_put ds old middle new e k =
-    k ∙ ap (λ (s : State). record s { atoms = put_atoms true ds s.atoms }) e ∙ ap (λ (a : List Bool). record old { atoms = a }) (atoms_are ds old.atoms)
-
-pub fit_between : (ds : List Due) (old middle : State) → middle ≡ record old { atoms = put_atoms false ds old.atoms } → DuesFit (length old.atoms) (length old.fluents) ds → DuesFit (length middle.atoms) (length middle.fluents) ds
-fit_between ds old middle e h =
-    subst (λ (s : State). DuesFit (length s.atoms) (length s.fluents) ds) (sym e) (subst (λ (n : ℕ). DuesFit n (length old.fluents) ds) (sym (length-put_atoms false ds old.atoms)) h)
-
-pub ruleset putting = (both_put, fit_between)

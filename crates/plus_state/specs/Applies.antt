@@ -6,6 +6,7 @@ use Rattle.plus_model.specs.Joint as model
 use Rattle.plus_model.specs.Joint.{joint}
 use Rattle.plus_state.specs.declared.outcome.JointStop.{JointStop}
 use Rattle.plus_state.specs.declared.outcome.JointStop.TheVariants.{Conflict, NoValue, Number, Memory}
+use Rattle.plus_state.specs.Changes.{Changes, patched}
 use Rattle.plus_state.specs.Steps.{AllPass, joint_steps}
 use Rattle.plus_state.specs.Stops.{StopIs}
 
@@ -20,3 +21,8 @@ NoJoint es s Memory = Unit {0}
 abbrev pub Applies : {Q : Type 0} → (Q → Fraction) → (Fraction → Type 0) → List Effect → State → Result State (JointStop Q) → Type 0
 Applies v fits es s r =
     MatchResult r (λ t. AllPass fits (joint_steps es s) × (joint es s ≡ Ok t)) (λ e. StopIs v fits (joint_steps es s) e × NoJoint es s e)
+
+-- all steps pass, and the state with these changes is that after the joint effect; or the first step that stops
+abbrev pub ChangesJointly : {Q : Type 0} → (Q → Fraction) → (Fraction → Type 0) → List Effect → State → Result Changes (JointStop Q) → Type 0
+ChangesJointly v fits es s r =
+    MatchResult r (λ c. AllPass fits (joint_steps es s) × (joint es s ≡ Ok (patched s c))) (λ e. StopIs v fits (joint_steps es s) e × NoJoint es s e)

@@ -1,5 +1,5 @@
 -- Writes that are due: the guard held and the amount was evaluated, and nothing is changed yet.
-use Rattle.std.specs.Prelude.{ℕ, suc, Bool, true, false, not, ◌&&◌, List, [], ◌∷◌, ◌++◌, ◌<◌, Option, Some, None, nat_eq, slice_set, slice_index_or, if◌then◌else◌}
+use Rattle.std.specs.Prelude.{ℕ, suc, Bool, true, false, not, ◌&&◌, List, [], ◌∷◌, ◌++◌, ◌<◌, Option, Some, None, nat_eq, if◌then◌else◌}
 use Rattle.plus_fraction.specs.Fraction.{Fraction}
 use Rattle.plus_model.specs.Terms as model
 use Rattle.plus_model.specs.Terms.{State, Effect}
@@ -86,16 +86,6 @@ abbrev pub by_fluent : ℕ → List Due → List (Option Fraction) → List (Lis
 by_fluent f ds [] = []
 by_fluent f ds (v ∷ vs) = updates_on f ds ∷ by_fluent (suc f) ds vs
 
--- the fluent of a write is below this number
-abbrev pub OnFluents : ℕ → Due → Type 0
-OnFluents fluents (puts a b) = Unit {0}
-OnFluents fluents (updates f u) = f < fluents
-
--- one more write that is due, behind those on its fluent
-abbrev pub put_update : Due → List (List Update) → List (List Update)
-put_update (puts a b) us = us
-put_update (updates f u) us = slice_set us f (slice_index_or us f [] ++ u ∷ [])
-
 -- each fluent after its writes
 abbrev pub new_fluents : List (List Update) → List (Option Fraction) → List (Option Fraction)
 new_fluents [] vs = vs
@@ -118,17 +108,6 @@ abbrev pub clash : List Update → Bool
 clash [] = false
 clash (u ∷ []) = false
 clash (u ∷ w ∷ us) = not (is_move u.op && all_moves (w ∷ us))
-
--- one write that gives an atom this truth
-abbrev pub put_atom : Bool → Due → List Bool → List Bool
-put_atom true (puts a true) bs = slice_set bs a true
-put_atom false (puts a false) bs = slice_set bs a false
-put_atom present d bs = bs
-
--- all of them, one after the other
-abbrev pub put_atoms : Bool → List Due → List Bool → List Bool
-put_atoms present [] bs = bs
-put_atoms present (d ∷ ds) bs = put_atoms present ds (put_atom present d bs)
 
 -- what becomes of atoms: an atom that is added and deleted is true
 abbrev pub atom_change : ℕ → Bool → Change

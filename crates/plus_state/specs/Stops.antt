@@ -1,7 +1,5 @@
 -- What the code's writes and stops mean.
-use Rattle.std.specs.Prelude.{List, [], ◌∷◌, map, Option, Some, None, Result, MatchResult}
-use Rattle.std.specs.declared.alloc.Global.{Global}
-use Rattle.std.specs.Prelude.{Vec}
+use Rattle.std.specs.Prelude.{List, [], ◌∷◌, Option, Some, None, Result, MatchResult}
 use Rattle.plus_fraction.specs.Fraction.{Fraction}
 use Rattle.plus_model.specs.Joint as joint
 use Rattle.plus_state.specs.declared.due.Update as code
@@ -21,10 +19,6 @@ update_of v u = record { op = u.op; amount = v u.amount }
 abbrev pub due_of : {Q : Type 0} → (Q → Fraction) → due.Due Q → Due
 due_of v (Put a b) = puts a.0 b
 due_of v (Set f u) = updates f.0 (update_of v u)
-
--- the writes on each fluent
-abbrev pub updates_of : {Q : Type 0} → (Q → Fraction) → List (Vec (code.Update Q) Global) → List (List Update)
-updates_of v us = map (λ w. map (update_of v) w.items) us
 
 abbrev pub as_list : {A : Type 0} → Option A → List A
 as_list None = []

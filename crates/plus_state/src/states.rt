@@ -1,11 +1,14 @@
 // States: the truth of each ground atom and the value of each ground fluent.
 ghost use Rattle.std.specs.Prelude.{◌≡◌, ◌<◌, ◌^◌, Bool, false, Option, None, length, map, option_map, replicate, slice_set, IfOk};
+ghost use Rattle.plus_state.specs.Changes.{patched_list, patched, AreIn, Within};
+ghost use Rattle.plus_state.specs.ChangesView.{atom_changes, fluent_changes};
 ghost use Rattle.plus_fraction.specs.Fraction.{Fraction};
 ghost use Rattle.plus_model.specs.Terms.{State as Meant};
 ghost use Rattle.plus_model.specs.Value.{fluent_of, atom_of};
 ghost use Rattle.plus_model.specs.Codes.{coded_state};
 
 use crate::bits::Bits;
+use crate::changes::{AtomChange, Changes, FluentChange};
 use crate::term::{AtomId, FluentId};
 use plus_number::exact::Exact;
 use std::alloc::{AllocError, Global};
@@ -56,6 +59,33 @@ impl<Q: Exact> State<Q> {
         ensures { self.new ≡ record (self.old) { fluents = slice_set (self.old.fluents) fluent.0 (option_map Q.value value) } }
     {
         self.values[fluent.0 as usize] = value;
+    }
+
+    fn patch_atoms(&mut self, changes: &[AtomChange])
+        requires { AreIn (length self.old.atoms) (atom_changes changes.now) }
+        ensures { self.new ≡ record self.old { atoms = patched_list (atom_changes changes.now) self.old.atoms } }
+    {
+        'each: for change in changes {
+            self.put(change.atom, change.truth);
+        }
+    }
+
+    fn patch_fluents(&mut self, changes: &[FluentChange<Q>])
+        requires { AreIn (length self.old.fluents) (fluent_changes Q.value changes.now) }
+        ensures { self.new ≡ record self.old { fluents = patched_list (fluent_changes Q.value changes.now) self.old.fluents } }
+    {
+        'each: for change in changes {
+            self.give(change.fluent, change.value);
+        }
+    }
+
+    /// Makes changes, one after the other. It takes no memory.
+    pub fn patch(&mut self, changes: &Changes<Q>)
+        requires { Within (length self.old.atoms) (length self.old.fluents) changes.now }
+        ensures { self.new ≡ patched self.old changes.now }
+    {
+        self.patch_atoms(&changes.atoms);
+        self.patch_fluents(&changes.fluents);
     }
 
     /// Whether an atom holds.

@@ -1,10 +1,23 @@
 use Rattle.std.proofs.Common.{◌≡◌, [], ◌<◌, ap, arith, length, get_or}
 use Rattle.plus_state.specs.View.{problem_of}
 use Rattle.plus_state.specs.Due.{Begun}
-use Rattle.plus_state.proofs.ApplyLemmas.{add_stops, answered}
+use Rattle.plus_state.proofs.ApplyLemmas.{add_stops, ends, end_stops}
 use Rattle.plus_cascade.proofs.FiredLemmas.{next_number, no_number}
 use Rattle.plus_cascade.proofs.FiringLemmas.{all_fit, below_all, event_fits, effects_here, joining_start, joining_inside, joining_next, joining_stops, joining_end, together_fits}
+use Rattle.std.proofs.Common.{List}
+use Rattle.std.specs.Prelude.{Result, Ok, Err}
+use Rattle.plus_fraction.specs.Fraction.{Fraction}
+use Rattle.plus_model.specs.Terms.{Effect, State}
+use Rattle.plus_state.specs.declared.outcome.JointStop.{JointStop}
+use Rattle.plus_state.specs.Due.{Due, dues, after_dues}
+use Rattle.plus_state.specs.Steps.{AllPass, add_steps, end_steps}
+use Rattle.plus_state.specs.Stops.{DoesJointly}
+use Rattle.plus_state.specs.Applies.{Applies}
 use Rattle.plus_cascade.proofs.firing.fired_together.Goals as goal
+
+answered : {Q : Type 0} (v : Q → Fraction) (fits : Fraction → Type 0) (es : List Effect) (s : State) (ds : List Due) (r : Result State (JointStop Q)) → AllPass fits (add_steps es s) → ds ≡ dues es s → DoesJointly v fits (end_steps ds s) (λ t. t ≡ after_dues ds s) r → Applies v fits es s r
+answered v fits es s ds (Ok t) a k h = ends v fits es s ds t a k h.0 h.1
+answered v fits es s ds (Err e) a k h = end_stops v fits es s ds e a k h
 
 pub each-init : goal.each-init
 each-init g c =
