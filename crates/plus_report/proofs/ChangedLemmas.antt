@@ -1,12 +1,11 @@
 -- The text of what changes of a state, by what is listed.
-use Rattle.std.proofs.Common.{◌≡◌, ℕ, Bool, true, false, List, [], length, refl, sym, ap, subst, ◌∙◌}
+use Rattle.std.proofs.Common.{◌≡◌, ℕ, Bool, true, false, List, [], length, refl, sym, ap, ◌∙◌}
 use Rattle.std.specs.Prelude.{Option, Some, None}
 use Rattle.std.specs.List.{flat_map}
-use Rattle.std.specs.declared.cmp.Ordering.{Ordering}
-use Rattle.plus_fraction.specs.Fraction.{Fraction, compared}
+use Rattle.plus_fraction.specs.Fraction.{Fraction}
 use Rattle.plus_fraction.proofs.Compared.{compared_refl}
-use Rattle.plus_model.specs.Terms.{Same, State}
-use Rattle.plus_model.specs.Value.{passes, atom_of, fluent_of}
+use Rattle.plus_model.specs.Terms.{State}
+use Rattle.plus_model.specs.Value.{atom_of, fluent_of}
 use Rattle.plus_state.specs.Changes.{Changes, patched, RisesIn}
 use Rattle.plus_state.specs.View.{Labels}
 use Rattle.plus_state.specs.declared.changes.AtomChange.{AtomChange}

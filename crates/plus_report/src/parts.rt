@@ -10,8 +10,8 @@ ghost use Rattle.plus_report.specs.Shown.{FitsIn, AreEvents, AreProcesses, event
 ghost use Rattle.plus_report.specs.Text.{newline, fraction_text, labels_text, entry_text, literals_text, round_text, act_text, run_text};
 
 use crate::changes::{put_changes, put_fluents};
-use crate::listed::{put_listed, put_listed_fluents};
 use crate::labels::{event_label_of, process_label_of};
+use crate::listed::{put_listed, put_listed_fluents};
 use crate::put::{Waiting, flush, put, put_fraction_end, put_three};
 use plus_io::{Failed, Sink};
 use plus_number::exact::Exact;
@@ -60,11 +60,7 @@ fn put_processes<Q: Exact, O: Sink>(
 }
 
 // The line of a moment.
-fn put_moment<Q: Exact, O: Sink>(
-    out: &mut O,
-    waiting: &mut Waiting,
-    time: Q,
-) -> Result<(), Failed>
+fn put_moment<Q: Exact, O: Sink>(out: &mut O, waiting: &mut Waiting, time: Q) -> Result<(), Failed>
     ensures { Puts O.taken O.faults out.old out.new waiting.old.items waiting.new.items
         (codes "at " ++ (fraction_text (Q.value time) ++ newline)) result }
 {
@@ -90,11 +86,7 @@ fn put_fired<Q: Exact, O: Sink>(
 }
 
 // The line of an action.
-fn put_called<O: Sink>(
-    out: &mut O,
-    waiting: &mut Waiting,
-    label: &Label,
-) -> Result<(), Failed>
+fn put_called<O: Sink>(out: &mut O, waiting: &mut Waiting, label: &Label) -> Result<(), Failed>
     ensures { Puts O.taken O.faults out.old out.new waiting.old.items waiting.new.items
         (codes "  act " ++ label.now ++ newline) result }
 {

@@ -4,7 +4,7 @@ use Rattle.plus_state.specs.Changes.{AreIn}
 use Rattle.plus_state.specs.ChangesView.{fluent_change}
 use Rattle.plus_state.specs.View.{labels_of}
 use Rattle.plus_report.proofs.PutsLemmas.{stop, worded}
-use Rattle.plus_report.proofs.LineLemmas.{no_text, next_text, last_text, all_texts}
+use Rattle.plus_report.proofs.LineLemmas.{next_text, last_text, all_texts}
 use Rattle.plus_report.proofs.ListedLemmas.{listed_in}
 use Rattle.plus_report.proofs.ChangedLemmas.{value_change, fluents_text-patched}
 use Rattle.plus_report.proofs.listed.put_listed_fluents.Goals as goal

@@ -1,6 +1,6 @@
 use Rattle.std.proofs.Common.{refl}
 use Rattle.plus_report.specs.Text.{literals_text}
-use Rattle.plus_report.proofs.PutsLemmas.{both, stop, early, wrote, cut}
+use Rattle.plus_report.proofs.PutsLemmas.{both, early, wrote, cut}
 use Rattle.plus_report.proofs.parts.write_literals.Goals as goal
 
 pub returns-in_err-put : goal.returns-in_err-put

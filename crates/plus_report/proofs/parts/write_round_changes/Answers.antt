@@ -1,6 +1,6 @@
 use Rattle.std.proofs.Common.{refl}
 use Rattle.plus_report.specs.Text.{round_text}
-use Rattle.plus_report.proofs.PutsLemmas.{both, stop, early, wrote, cut}
+use Rattle.plus_report.proofs.PutsLemmas.{both, early, wrote, cut}
 use Rattle.plus_report.proofs.parts.write_round_changes.Goals as goal
 
 pub returns-in_err-put_fired : goal.returns-in_err-put_fired
