@@ -4,3 +4,5 @@ pub mod PutsLemmas
 pub mod TextLemmas
 pub mod LineLemmas
 pub mod WroteLemmas
+pub mod ListedLemmas
+pub mod ChangedLemmas

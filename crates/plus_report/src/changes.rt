@@ -39,7 +39,8 @@ fn put_value<Q: Exact, O: Sink>(
     put_fraction_end(out, waiting, value)
 }
 
-fn put_new_value<Q: Exact, O: Sink>(
+/// Puts a new value, where there is one and it is not the old one.
+pub fn put_new_value<Q: Exact, O: Sink>(
     out: &mut O,
     waiting: &mut Waiting,
     indent: &[u8],
@@ -63,7 +64,8 @@ fn put_new_value<Q: Exact, O: Sink>(
     put_value(out, waiting, indent, label, value)
 }
 
-fn put_mark<O: Sink>(
+/// Puts a label behind a mark, where something was so and is no longer.
+pub fn put_mark<O: Sink>(
     out: &mut O,
     waiting: &mut Waiting,
     mark: &[u8],

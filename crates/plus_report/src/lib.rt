@@ -4,6 +4,7 @@
 mod changes;
 mod labels;
 pub mod laws;
+mod listed;
 mod parts;
 mod put;
 mod refusals;
@@ -11,6 +12,9 @@ mod refusals;
 mod tests;
 mod verdicts;
 
-pub use parts::{write_act, write_entry, write_literals, write_round, write_run};
+pub use parts::{
+    write_act, write_act_changes, write_entry, write_entry_changes, write_literals,
+    write_literals_changes, write_round, write_round_changes, write_run,
+};
 pub use refusals::{Early, Kinds, Text, Word, write_early};
 pub use verdicts::{Verdict, write_verdict};

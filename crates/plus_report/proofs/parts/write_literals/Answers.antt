@@ -1,8 +1,21 @@
-use Rattle.plus_report.proofs.PutsLemmas.{wrote, cut}
+use Rattle.std.proofs.Common.{refl}
+use Rattle.plus_report.specs.Text.{literals_text}
+use Rattle.plus_report.proofs.PutsLemmas.{both, early, wrote, cut}
 use Rattle.plus_report.proofs.parts.write_literals.Goals as goal
 
-pub returns-in_err-put_literals : goal.returns-in_err-put_literals
-returns-in_err-put_literals g c = cut c.new-waiting.ensures c.in_err-put_literals.ensures c.from_residual.ensures.0
+pub returns-in_err-put : goal.returns-in_err-put
+unfolding literals_text
+returns-in_err-put g c =
+    let h = c.from_residual.ensures.0 in
+    cut c.new-waiting.ensures (early _ c.in_err-put.ensures refl) h
+
+pub returns-in_err-put_changes : goal.returns-in_err-put_changes
+unfolding literals_text
+returns-in_err-put_changes g c =
+    let h = c.from_residual-in_err-put_changes.ensures.0 in
+    cut c.new-waiting.ensures (both c.in_ok-put.ensures c.in_err-put_changes.ensures) h
 
 pub returns : goal.returns
-returns g c = wrote c.new-waiting.ensures c.in_ok-put_literals.ensures c.flush.ensures.puts c.flush.ensures.empty
+unfolding literals_text
+returns g c =
+    wrote c.new-waiting.ensures (both c.in_ok-put.ensures c.in_ok-put_changes.ensures) c.flush.ensures.puts c.flush.ensures.empty
