@@ -1,6 +1,6 @@
 pub mod Places
 pub mod Within
-pub mod TableLemmas
+pub mod PutLemmas
 pub mod ObjectsLemmas
 pub mod SizeLemmas
 pub mod RankLemmas

@@ -1,8 +1,7 @@
 -- What the tables of a numbering hold.
-use Rattle.std.specs.Prelude.{◌≡◌, ℕ, ◌+◌, true, List, [], ◌∷◌, length, if◌then◌else◌}
+use Rattle.std.specs.Prelude.{◌≡◌, ◌<◌, ℕ, ◌+◌, Bool, true, false, nat_eq, List, [], ◌∷◌, ◌++◌, length, get_or, if◌then◌else◌}
 use Rattle.std.specs.Str.{bytes_eq}
 use Rattle.plus_tree.specs.declared.trees.Head.{Head}
-use Rattle.plus_types.specs.Types.{is_among, bound_names}
 use Rattle.plus_types.specs.declared.typed.Typed.{Typed}
 use Rattle.plus_types.specs.Faults.{Context, problem_context}
 use Rattle.plus_numbering.specs.Objects.{members_of, extents_of, tuples}
@@ -11,18 +10,31 @@ use Rattle.plus_numbering.specs.Objects.{members_of, extents_of, tuples}
 abbrev pub context : Typed → Context
 context t = problem_context t.domain t.problem
 
--- lists of objects by the names of their types
-abbrev pub Lists : Type 0
-Lists = List (List ℕ × List ℕ)
+-- the list that stands at the place of a name; where there is none, no object
+abbrev pub places_of : List (List ℕ) → List (List ℕ) → List ℕ → List ℕ
+places_of [] lists name = []
+places_of (n ∷ ns) [] name = []
+places_of (n ∷ ns) (l ∷ ls) name = if bytes_eq name n then l else places_of ns ls name
 
--- the list of a name; where there is none, no object
-abbrev pub places_of : Lists → List ℕ → List ℕ
-places_of [] name = []
-places_of (e ∷ es) name = if bytes_eq name e.0 then e.1 else places_of es name
+-- a name stands at a place first
+pub record IsPlace (names : List (List ℕ)) (name : List ℕ) (i : ℕ) : Type 0 where
+  pub within : i < length names
+  pub here : bytes_eq name (get_or names i []) ≡ true
+  pub first : (j : ℕ) → j < i → bytes_eq name (get_or names j []) ≡ false
 
--- each list that is there is that of the objects of the type
-abbrev pub AreRight : Context → Lists → Type 0
-AreRight c lists = (kind : List ℕ) → is_among (bound_names lists) kind ≡ true → places_of lists kind ≡ members_of c kind
+-- all numbers of a list are less than n
+abbrev pub AreBelow : ℕ → List ℕ → Type 0
+AreBelow n [] = Unit {0}
+AreBelow n (x ∷ xs) = (x < n) × AreBelow n xs
+
+-- whether a list ends with a number
+abbrev pub ends_with : ℕ → List ℕ → Bool
+ends_with p [] = false
+ends_with p (x ∷ xs) = nat_eq (get_or (x ∷ xs) (length xs) 0) p
+
+-- a list with a number at its end, which may stand there already
+abbrev pub once : ℕ → List ℕ → List ℕ
+once p xs = if ends_with p xs then xs else xs ++ p ∷ []
 
 -- Where the ground atoms or fluents of each predicate or function begin among all, counted on from n; at the end, how
 -- many there are.

@@ -1,16 +1,14 @@
 //! The objects of a well-typed pair by their types.
 
-ghost use Rattle.std.specs.Prelude.{◌≡◌, ℕ, List, ◌+◌, ◌<◌, ◌≤◌, ◌^◌, ◌||◌, [], ◌++◌, length, slice_index_or, OnOk, IfOk};
+ghost use Rattle.std.specs.Prelude.{◌≡◌, ℕ, List, map, false, ◌+◌, ◌<◌, ◌≤◌, ◌^◌, [], ◌∷◌, ◌++◌, length, slice_index_or, if◌then◌else◌, OnOk, IfOk};
 ghost use Rattle.std.specs.Str.{bytes_eq};
-ghost use Rattle.std.specs.List.{list_any};
-ghost use Rattle.plus_types.specs.Types.{is_among, bindings_of, bound_names, objects_of};
+ghost use Rattle.plus_types.specs.Types.{is_among, is_under, bindings_of, bound_names, objects_of};
 ghost use Rattle.plus_numbering.specs.Objects.{places_from, members_of};
-ghost use Rattle.plus_numbering.specs.Tables.{context, AreRight, places_of};
+ghost use Rattle.plus_numbering.specs.Tables.{context, places_of, once, IsPlace, AreBelow};
 
-use crate::table::Table;
 use plus_tree::TypedName;
 use plus_types::types::OBJECT;
-use plus_types::{Typed, Types};
+use plus_types::{Names, Typed, Types};
 use std::alloc::{AllocError, Global};
 
 /// How many objects there may be.
@@ -20,93 +18,148 @@ pub const MOST_OBJECTS: usize = 10_000;
 #[derive(Drop)]
 pub struct Extents<'a> {
     pub typed: &'a Typed,
-    table: Table,
+    names: Names,
+    lists: Vec<Vec<u32>>,
     ghost few: { length (objects_of typed.now.domain typed.now.problem) ≤ 10000 },
-    ghost lists_are: { (kind : List ℕ) → places_of table kind ≡ members_of (context typed.now) kind },
+    ghost lists_are: { (kind : List ℕ) → places_of names (map (λ v. v.items) lists.items) kind ≡ members_of (context typed.now) kind },
 }
 
-// Adds the places, counted on from `first`, of those of these objects that are of a type.
-fn add_places(
-    types: &Types,
-    kind: &[u8],
-    first: u32,
-    objects: &[TypedName],
-    places: &mut Vec<u32>,
-) -> Result<(), AllocError>
-    requires { first + length objects.now < 2 ^ 32 }
-    ensures { OnOk result (places.new.items
-        ≡ places.old.items ++ places_from types.now kind.now first (bindings_of objects.now)) }
+// The list of a type; where it has none, no object.
+fn places<'a>(names: &Names, lists: &'a Vec<Vec<u32>>, kind: &[u8]) -> &'a [u32]
+    ensures { result.now ≡ places_of names.now (map (λ v. v.items) lists.now.items) kind.now }
 {
+    match names.number(kind) {
+        None => &[],
+        Some(place) => {
+            if place < lists.len() {
+                return lists[place].as_slice();
+            }
+            &[]
+        }
+    }
+}
+
+// Puts an object at the end of a list, unless it stands there.
+fn put_once(list: &mut Vec<u32>, object: u32) -> Result<(), AllocError>
+    ensures { OnOk result (list.new.items ≡ once object list.old.items) }
+{
+    let len = list.len();
+    if len > 0 {
+        if list[len - 1] == object {
+            return Ok(());
+        }
+    }
+    list.push(object)?;
+    Ok(())
+}
+
+// Sees that a type has a list.
+fn know(
+    alloc: Global,
+    names: &mut Names,
+    lists: &mut Vec<Vec<u32>>,
+    name: &[u8],
+) -> Result<usize, AllocError>
+    requires { length names.old ≡ length lists.old.items }
+    ensures size { IfOk result (λ _. length names.new ≡ length lists.new.items) }
+    ensures place { IfOk result (λ i. IsPlace names.new name.now i) }
+    ensures same { IfOk result (λ _. (k : List ℕ) → places_of names.new (map (λ v. v.items) lists.new.items) k
+        ≡ places_of names.old (map (λ v. v.items) lists.old.items) k) }
+    ensures within { IfOk result (λ i. i < length lists.new.items) }
+{
+    if let Some(place) = names.number(name) {
+        return Ok(place);
+    }
+    let place = names.len();
+    lists.push(Vec::new(alloc))?;
+    names.add(alloc, name)?;
+    Ok(place)
+}
+
+// Puts an object at the end of the list of a type.
+fn put(
+    alloc: Global,
+    names: &mut Names,
+    lists: &mut Vec<Vec<u32>>,
+    name: &[u8],
+    object: u32,
+) -> Result<(), AllocError>
+    requires { length names.old ≡ length lists.old.items }
+    ensures size { OnOk result (length names.new ≡ length lists.new.items) }
+    ensures put { OnOk result ((k : List ℕ) → places_of names.new (map (λ v. v.items) lists.new.items) k
+        ≡ (if bytes_eq k name.now then once object (places_of names.old (map (λ v. v.items) lists.old.items) k)
+        else places_of names.old (map (λ v. v.items) lists.old.items) k)) }
+{
+    let place = know(alloc, names, lists, name)?;
+    put_once(&mut lists[place], object)?;
+    Ok(())
+}
+
+// Puts an object at the end of the lists of these types.
+fn put_all(
+    alloc: Global,
+    names: &mut Names,
+    lists: &mut Vec<Vec<u32>>,
+    ups: &Names,
+    object: u32,
+) -> Result<(), AllocError>
+    requires { length names.old ≡ length lists.old.items }
+    ensures size { OnOk result (length names.new ≡ length lists.new.items) }
+    ensures put { OnOk result ((k : List ℕ) → places_of names.new (map (λ v. v.items) lists.new.items) k
+        ≡ (if is_among ups.now k then once object (places_of names.old (map (λ v. v.items) lists.old.items) k)
+        else places_of names.old (map (λ v. v.items) lists.old.items) k)) }
+{
+    'ups: for place in 0..ups.len() {
+        put(alloc, names, lists, ups.name(place), object)?;
+    }
+    Ok(())
+}
+
+// The types that a type is, or is under; those of the type before, where it is the same.
+fn ups_of(
+    alloc: Global,
+    types: &Types,
+    ups: Names,
+    before: &[u8],
+    kind: &[u8],
+) -> Result<Names, AllocError>
+    requires { (k : List ℕ) → is_among ups k ≡ is_under types.now before.now k }
+    ensures { IfOk result (λ ups. (k : List ℕ) → is_among ups k ≡ is_under types.now kind.now k) }
+{
+    if kind == before {
+        return Ok(ups);
+    }
+    types.ups(alloc, kind)
+}
+
+// Puts each of these objects, whose places are counted on from `first`, into the lists of all types that it is of:
+// a walk up for each run of objects of one type.
+fn put_objects<'a>(
+    alloc: Global,
+    types: &Types,
+    names: &mut Names,
+    lists: &mut Vec<Vec<u32>>,
+    first: u32,
+    objects: &'a [TypedName],
+) -> Result<(), AllocError>
+    requires room { first + length objects.now < 2 ^ 32 }
+    requires size { length names.old ≡ length lists.old.items }
+    requires below { (k : List ℕ) → AreBelow first (places_of names.old (map (λ v. v.items) lists.old.items) k) }
+    ensures size { OnOk result (length names.new ≡ length lists.new.items) }
+    ensures put { OnOk result ((k : List ℕ) → places_of names.new (map (λ v. v.items) lists.new.items) k
+        ≡ places_of names.old (map (λ v. v.items) lists.old.items) k ++ places_from types.now k first (bindings_of objects.now)) }
+{
+    let mut before: &'a [u8] = OBJECT.as_slice();
+    let mut ups = types.ups(alloc, before)?;
     let mut place = first;
     'objects: for object in objects {
-        if types.is_under(object.kind.name.bytes(), kind) {
-            places.push(place)?;
-        }
+        let kind = object.kind.name.bytes();
+        ups = ups_of(alloc, types, ups, before, kind)?;
+        before = kind;
+        put_all(alloc, names, lists, &ups, place)?;
         place += 1;
     }
     Ok(())
-}
-
-// The objects of a type.
-fn places(alloc: Global, typed: &Typed, kind: &[u8]) -> Result<Vec<u32>, AllocError>
-    requires { length (objects_of typed.now.domain typed.now.problem) ≤ 10000 }
-    ensures { IfOk result (λ v. v.items ≡ members_of (context typed.now) kind.now) }
-{
-    let constants = typed.domain.constants.as_slice();
-    let mut places = Vec::new(alloc);
-    add_places(&typed.types, kind, 0, constants, &mut places)?;
-    let first = constants.len() as u32;
-    let objects = typed.problem.objects.as_slice();
-    add_places(&typed.types, kind, first, objects, &mut places)?;
-    Ok(places)
-}
-
-// Adds the objects of a type, where they are not there yet.
-fn add_kind(alloc: Global, typed: &Typed, table: &mut Table, kind: &[u8]) -> Result<(), AllocError>
-    requires few { length (objects_of typed.now.domain typed.now.problem) ≤ 10000 }
-    requires right { AreRight (context typed.now) table.old }
-    ensures right { OnOk result (AreRight (context typed.now) table.new) }
-    ensures known { OnOk result ((k : List ℕ) → is_among (bound_names table.new) k
-        ≡ (is_among (bound_names table.old) k || bytes_eq k kind.now)) }
-{
-    if table.contains(kind) {
-        return Ok(());
-    }
-    let places = places(alloc, typed, kind)?;
-    table.add(alloc, kind, places)
-}
-
-// Adds the objects of the types of these.
-fn add_kinds(
-    alloc: Global,
-    typed: &Typed,
-    table: &mut Table,
-    typed_names: &[TypedName],
-) -> Result<(), AllocError>
-    requires few { length (objects_of typed.now.domain typed.now.problem) ≤ 10000 }
-    requires right { AreRight (context typed.now) table.old }
-    ensures right { OnOk result (AreRight (context typed.now) table.new) }
-    ensures known { OnOk result ((k : List ℕ) → is_among (bound_names table.new) k
-        ≡ (is_among (bound_names table.old) k || list_any (λ t. bytes_eq k t.kind.name) typed_names.now)) }
-{
-    'names: for member in typed_names {
-        add_kind(alloc, typed, table, member.kind.name.bytes())?;
-    }
-    Ok(())
-}
-
-// The objects of all types that have some: those of the objects, and those above them.
-fn table(alloc: Global, typed: &Typed) -> Result<Table, AllocError>
-    requires { length (objects_of typed.now.domain typed.now.problem) ≤ 10000 }
-    ensures { IfOk result (λ t. (kind : List ℕ) → places_of t kind
-        ≡ members_of (context typed.now) kind) }
-{
-    let mut table = Table::new(alloc);
-    add_kind(alloc, typed, &mut table, OBJECT)?;
-    add_kinds(alloc, typed, &mut table, typed.domain.types.as_slice())?;
-    add_kinds(alloc, typed, &mut table, typed.domain.constants.as_slice())?;
-    add_kinds(alloc, typed, &mut table, typed.problem.objects.as_slice())?;
-    Ok(table)
 }
 
 impl<'a> Extents<'a> {
@@ -115,8 +168,18 @@ impl<'a> Extents<'a> {
         requires { length (objects_of typed.now.domain typed.now.problem) ≤ 10000 }
         ensures { IfOk result (λ m. m.typed.now ≡ typed.now) }
     {
-        let table = table(alloc, typed)?;
-        Ok(Extents { typed, table })
+        let mut names = Names::new(alloc);
+        let mut lists = Vec::new(alloc);
+        let constants = typed.domain.constants.as_slice();
+        put_objects(alloc, &typed.types, &mut names, &mut lists, 0, constants)?;
+        let first = constants.len() as u32;
+        let objects = typed.problem.objects.as_slice();
+        put_objects(alloc, &typed.types, &mut names, &mut lists, first, objects)?;
+        Ok(Extents {
+            typed,
+            names,
+            lists,
+        })
     }
 
     /// The objects of a type, in order.
@@ -124,7 +187,7 @@ impl<'a> Extents<'a> {
         ensures members { result.now ≡ members_of (context self.now.typed.now) kind.now }
         ensures few { length result.now ≤ 10000 }
     {
-        self.table.places(kind)
+        places(&self.names, &self.lists, kind)
     }
 
     /// The name of an object; where there is none, nothing.

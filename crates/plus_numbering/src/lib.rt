@@ -8,7 +8,6 @@ mod labels;
 pub mod numbering;
 mod numbers;
 mod starts;
-mod table;
 
 pub use faults::{Count, CountFault};
 pub use numbering::Numbering;

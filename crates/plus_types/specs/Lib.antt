@@ -3,3 +3,4 @@ pub mod Listed
 pub mod Unbuilt
 pub mod Faults
 pub mod Known
+pub mod Ranks

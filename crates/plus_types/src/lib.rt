@@ -8,6 +8,7 @@ pub mod faults;
 mod initial;
 pub mod kinds;
 pub mod known;
+mod loops;
 pub mod names;
 mod schemas;
 pub mod typed;

@@ -1,6 +1,6 @@
 //! A table of names, numbered in the order in which they were declared.
 
-ghost use Rattle.std.specs.Prelude.{◌≡◌, ◌==◌, ◌<◌, [], ◌∷◌, ◌++◌, not, length, position, IfOk, IfSome, if◌then◌else◌};
+ghost use Rattle.std.specs.Prelude.{◌≡◌, ◌==◌, ◌<◌, [], ◌∷◌, ◌++◌, not, length, position, get_or, IfOk, IfSome, if◌then◌else◌};
 ghost use Rattle.std.specs.List.{list_any};
 ghost use Rattle.std.specs.Str.{bytes_eq};
 
@@ -48,6 +48,14 @@ impl Names {
         ensures within { IfSome result (λ i. i < length self.now) }
     {
         self.table.get_index_of(name)
+    }
+
+    /// The name at a place.
+    pub fn name(&self, place: usize) -> &[u8]
+        requires { place < length self.now }
+        ensures { result.now ≡ get_or self.now place [] }
+    {
+        self.table.as_slice()[place].as_slice()
     }
 
     /// Whether a name is in the table.

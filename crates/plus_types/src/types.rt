@@ -1,13 +1,15 @@
 //! The types of a domain, and which of them is above which.
 
-ghost use Rattle.std.specs.Prelude.{◌≡◌, ℕ, List, ◌||◌, ◌&&◌, [], ◌∷◌, ◌++◌, IfOk, IfSome, OnOk};
+ghost use Rattle.std.specs.Prelude.{◌≡◌, ℕ, List, true, ◌||◌, ◌&&◌, [], ◌∷◌, ◌++◌, IfOk, IfSome, OnOk};
 ghost use Rattle.std.specs.List.{list_any};
 ghost use Rattle.std.specs.Str.{bytes_eq};
 ghost use Rattle.plus_types.specs.Types.{is_among, bindings_of, bound_names, bound_kinds, right_above, is_above};
 ghost use Rattle.plus_types.specs.Faults.{Walks, listed_faults, types_faults};
+ghost use Rattle.plus_types.specs.Ranks.{AreSuspects};
 
 use crate::faults::{File, TypeFault, Wrong};
 use crate::kinds::Kinds;
+use crate::loops::{finds_loop, suspects};
 use crate::names::Names;
 use plus_tree::TypedName;
 use std::alloc::{AllocError, Global};
@@ -62,6 +64,28 @@ impl Types {
         self.is_above(low, high)
     }
 
+    /// All types that a type is, or is under, without repeats.
+    pub fn ups(&self, alloc: Global, low: &[u8]) -> Result<Names, AllocError>
+        ensures { IfOk result (λ ups. (k : List ℕ) → is_among ups k ≡ is_under self.now low.now k) }
+    {
+        let mut ups = Names::new(alloc);
+        add_where(alloc, &mut ups, true, OBJECT)?;
+        add_where(alloc, &mut ups, true, low)?;
+        let mut at = low;
+        let mut left = self.listed.len() + 1;
+        'steps: while left > 0 {
+            left -= 1;
+            match self.listed.kind(at) {
+                None => return Ok(ups),
+                Some(kind) => {
+                    add_where(alloc, &mut ups, true, kind)?;
+                    at = kind;
+                }
+            }
+        }
+        Ok(ups)
+    }
+
     // Whether a type is above another: it is `object`, or is met on the way up.
     fn is_above(&self, low: &[u8], high: &[u8]) -> bool
         ensures { result ≡ is_above self.now high.now low.now }
@@ -88,7 +112,12 @@ impl Types {
 }
 
 // Adds a name where the test holds.
-fn add_where(alloc: Global, up: &mut Names, holds: bool, name: &[u8]) -> Result<(), AllocError>
+pub(crate) fn add_where(
+    alloc: Global,
+    up: &mut Names,
+    holds: bool,
+    name: &[u8],
+) -> Result<(), AllocError>
     ensures { OnOk result ((k : List ℕ) → is_among up.new k ≡ (is_among up.old k || (holds && bytes_eq k name.now))) }
 {
     if holds {
@@ -132,42 +161,27 @@ fn is_above_itself(alloc: Global, types: &[TypedName], name: &[u8]) -> Result<bo
     Ok(false)
 }
 
-// The table of types that are each listed once, and not `object`; nothing where they are not.
-fn plain_table(alloc: Global, types: &[TypedName]) -> Result<Option<Types>, AllocError>
-    ensures { IfOk result (λ o. IfSome o (λ t. t ≡ bindings_of types.now)) }
-{
-    let mut table = Kinds::new(alloc);
-    'types: for member in types {
-        let name = member.name.name.bytes();
-        if table.contains(name) {
-            return Ok(None);
-        }
-        if name == OBJECT.as_slice() {
-            return Ok(None);
-        }
-        table.bind(alloc, name, member.kind.name.bytes())?;
-    }
-    let above = kinds(alloc, types)?;
-    Ok(Some(Types {
-        listed: table,
-        above,
-    }))
-}
-
-// Whether a listed type is above itself: by the way up in a plain table, where there is one.
+// Whether a listed type is above itself: it is not where it is no suspect, and it is where a way up was
+// found. Where the searches were no help, which no list has shown yet, all levels up are gathered.
 fn loops(
     alloc: Global,
     types: &[TypedName],
-    plain: &Option<Types>,
+    suspects: &Option<Names>,
     name: &[u8],
 ) -> Result<bool, AllocError>
-    requires { IfSome plain.now (λ t. t ≡ bindings_of types.now) }
+    requires suspects { IfSome suspects.now (λ s. AreSuspects (bindings_of types.now) s) }
+    requires listed { is_among (bound_names (bindings_of types.now)) name.now ≡ true }
     ensures { IfOk result (λ r. r ≡ is_above (bindings_of types.now) name.now name.now) }
 {
-    match plain {
-        Some(table) => Ok(table.is_above(name, name)),
-        None => is_above_itself(alloc, types, name),
+    if let Some(names) = suspects {
+        if !names.contains(name) {
+            return Ok(false);
+        }
     }
+    if finds_loop(alloc, types, name)? {
+        return Ok(true);
+    }
+    is_above_itself(alloc, types, name)
 }
 
 // A listed type is listed once, and is not above itself.
@@ -175,11 +189,12 @@ fn loops(
 fn listed(
     alloc: Global,
     types: &[TypedName],
-    plain: &Option<Types>,
+    suspects: &Option<Names>,
     table: &mut Kinds,
     member: &TypedName,
 ) -> Result<(), TypeFault>
-    requires { IfSome plain.now (λ t. t ≡ bindings_of types.now) }
+    requires suspects { IfSome suspects.now (λ s. AreSuspects (bindings_of types.now) s) }
+    requires listed { is_among (bound_names (bindings_of types.now)) member.now.name.name ≡ true }
     ensures walks { Walks (listed_faults (bindings_of types.now) (bound_names table.old) member.now) result }
     ensures bound { IfOk result (λ _. table.new ≡ table.old ++ (member.now.name.name, member.now.kind.name) ∷ []) }
 {
@@ -191,7 +206,7 @@ fn listed(
             span: member.name.span,
         });
     }
-    if loops(alloc, types, plain, name)? {
+    if loops(alloc, types, suspects, name)? {
         return Err(TypeFault::At {
             wrong: Wrong::TypeLoop,
             file: File::Domain,
@@ -219,10 +234,10 @@ pub fn walk(alloc: Global, types: &[TypedName]) -> Result<Types, TypeFault>
     ensures walks { Walks (types_faults (bindings_of types.now) [] types.now) result }
     ensures table { IfOk result (λ t. t ≡ bindings_of types.now) }
 {
-    let plain = plain_table(alloc, types)?;
+    let suspects = suspects(alloc, types)?;
     let mut table = Kinds::new(alloc);
     'types: for member in types {
-        listed(alloc, types, &plain, &mut table, member)?;
+        listed(alloc, types, &suspects, &mut table, member)?;
     }
     let above = kinds(alloc, types)?;
     Ok(Types {

@@ -5,6 +5,7 @@ use Rattle.plus_types.specs.Faults.{listed_faults, types_faults}
 use Rattle.plus_types.proofs.WalkLemmas.{walk_err}
 use Rattle.plus_types.proofs.TypesLemmas.{take-past, drop-past}
 use Rattle.plus_types.proofs.SoundLemmas.{well_listed}
+use Rattle.plus_types.proofs.RankLemmas.{listed-here}
 use Rattle.plus_types.proofs.types.walk.Goals as goal
 
 pub returns-in_err-listed-clause-walks : goal.returns-in_err-listed-clause-walks
@@ -22,3 +23,6 @@ invariant_of-result c =
     let bs = bindings_of c.args.types.now in
     let done = c.types.invariant.walked ∙ ap (types_faults bs (bound_names c.types.table)) (drop-past c.args.types.now c.types.member-index c.types-test.false) in
     rw t (well_listed c.args.types.now c.in_ok-above.above done c.in_ok-above.ensures)
+
+pub listed-requires-clause-listed : goal.listed-requires-clause-listed
+listed-requires-clause-listed c = listed-here c.args.types.now c.types.member-index c.member-item.result c.types-test.true c.member-item.is
