@@ -18,7 +18,8 @@ use Rattle.plus_timeline.specs.declared.next.Next.TheVariants.{Round, Run, Entry
 use Rattle.plus_timeline.specs.Timeline.{TimelineView}
 use Rattle.plus_timeline.specs.Advance.{RoundFails, BreaksOff, Advances, FiresRound, ClosesEntry, BeginsEntry, IsThere}
 use Rattle.plus_timeline.specs.Act.{EffectsFail, StopsAct}
-use Rattle.plus_timeline.specs.Laws.{IsNextAct, ActFollows, ActBreaks, AddsPart, AddsChange, IsDone, Follows, AdvanceFollows, DoneIsWorked, breach_of, AdvanceBreaks, FinishBreaks}
+use Rattle.plus_timeline.specs.Laws.{IsNextAct, ActFollows, ActBreaks, AddsPart, AddsChange, IsDone, Follows, AdvanceFollows, DoneIsWorked, AdvanceBreaks, FinishBreaks}
+use Rattle.plus_timeline.specs.Tests.{breach_of}
 
 -- a part that may follow at a moment, or in a stretch
 by_running : (P : Problem) (L : Plan) (v : View) (o : Option (List ℕ)) (part : Part) → v.running ≡ o → NextBy P L v o part → MayFollow P L v part

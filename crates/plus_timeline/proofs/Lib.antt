@@ -7,3 +7,9 @@ pub mod Finished
 pub mod Acted
 pub mod Follows
 pub mod Serving
+pub mod Roots
+pub mod Rising
+pub mod Between
+pub mod Stays
+pub mod Left
+pub mod Rows

@@ -1,7 +1,7 @@
 -- What a caller that plays a plan may rely on: each accepted call adds one part that may come next, and
 -- each breach that is named stands. The plan L is the lines read so far, and `advance` is asked for the
 -- time of the next line.
-use Rattle.std.specs.Prelude.{◌≡◌, ℕ, Option, Some, None, IsSomeAnd, true, false}
+use Rattle.std.specs.Prelude.{◌≡◌, ℕ, Some, IsSomeAnd, true, false}
 use Rattle.plus_fraction.specs.Fraction.{Fraction}
 use Rattle.plus_model.specs.Terms.{Action, Problem}
 use Rattle.plus_model.specs.Plan.{Plan, ActLine, Instance}
@@ -11,13 +11,13 @@ use Rattle.plus_model.specs.Trajectory.{next_line, target, until, IsEndOrNone, N
 use Rattle.plus_model.specs.Breach as model
 use Rattle.plus_model.specs.Breach.{IsPresent, Stands}
 use Rattle.plus_state.specs.declared.outcome.Breach.{Breach}
-use Rattle.plus_state.specs.declared.outcome.Breach.TheVariants.{UnknownAction, WrongArguments, Precondition, TimeGoesBack, AfterEnd, Conflict, NoValue, Repeats, Unsettled, Coupled, NoFirstMoment, Goal}
 use Rattle.plus_timeline.specs.declared.next.Next.{Next}
 use Rattle.plus_timeline.specs.declared.next.Next.TheVariants.{Round, Run, Entry, There}
 use Rattle.plus_timeline.specs.Timeline.{TimelineView}
 use Rattle.plus_timeline.specs.Advance.{Advances, BreaksAdvance}
 use Rattle.plus_timeline.specs.Act.{DoesAct, BreaksAct}
 use Rattle.plus_timeline.specs.Finish.{GoalIs}
+use Rattle.plus_timeline.specs.Tests.{breach_of}
 
 -- the part may come next, and the history goes on with it
 pub record AddsPart (P : Problem) (L : Plan) (old new : TimelineView) (part : Part) : Type 0 where
@@ -53,21 +53,6 @@ abbrev pub DoneIsWorked : Type 0
 DoneIsWorked =
     (P : Problem) (L : Plan) (old new : TimelineView)
     → IsDone P L old new → IsEndOrNone (next_line L new.now) → IsWorked P L new.now
-
--- what the breach of the code means, where it is one of a history
-abbrev pub breach_of : {Q : Type 0} → (Q → Fraction) → ℕ → Breach Q → Option model.Breach
-breach_of value acted (UnknownAction line name) = Some (model.UnknownAction acted name)
-breach_of value acted (WrongArguments line name) = Some (model.WrongArguments acted name)
-breach_of value acted (Precondition line label) = Some (model.Precondition acted)
-breach_of value acted (TimeGoesBack line) = None
-breach_of value acted (AfterEnd line) = None
-breach_of value acted (Conflict f) = Some (model.Conflict f.0)
-breach_of value acted (NoValue f) = Some (model.NoValue f.0)
-breach_of value acted (Repeats e) = Some (model.Repeats e.0)
-breach_of value acted (Unsettled p) = Some (model.Unsettled p.0)
-breach_of value acted (Coupled p f) = Some (model.Coupled p.0 f.0)
-breach_of value acted (NoFirstMoment e t) = Some (model.NoFirstMoment e.0 (value t))
-breach_of value acted Goal = Some model.Goal
 
 -- a breach that such an `advance` names stands
 abbrev pub AdvanceBreaks : {Q : Type 0} → (Q → Fraction) → Type 0

@@ -1,4 +1,6 @@
 // What a caller that plays a plan may rely on, over the definitions alone.
+ghost use Rattle.plus_timeline.specs.Rows.{RampRow};
+ghost use Rattle.plus_timeline.specs.AskedLaws.{RootsAre, RisingAre, NothingChangesBetween, AskedStays, AdvanceFirst, LineBehind, SearchSteps};
 ghost use Rattle.plus_timeline.specs.Laws.{ActFollows, ActBreaks, AdvanceFollows, DoneIsWorked, AdvanceBreaks, FinishBreaks};
 
 use plus_number::exact::Exact;
@@ -31,4 +33,44 @@ pub fn act_follows<Q: Exact>()
 // A breach that such an `act` names stands in the history.
 pub fn act_breaks<Q: Exact>()
     ensures { ActBreaks Q.value Q.fits }
+{}
+
+// The roots of a condition are those in its list, and all lie above 0.
+pub fn roots_are()
+    ensures { RootsAre }
+{}
+
+// The roots below a bound, in order, each once.
+pub fn rising_are()
+    ensures { RisingAre }
+{}
+
+// With no root strictly between two moments no condition of an event or a process changes its truth there.
+pub fn nothing_changes_between<Q: Exact>()
+    ensures { NothingChangesBetween Q.fits }
+{}
+
+// What is asked at a history from which a part comes next stays the same whatever lines follow.
+pub fn asked_stays()
+    ensures { AskedStays }
+{}
+
+// What `advance` asks up to the time of the next line stands first in what is asked.
+pub fn advance_first()
+    ensures { AdvanceFirst }
+{}
+
+// Where nothing is due and time goes no further, the tests of the next line follow.
+pub fn line_behind()
+    ensures { LineBehind }
+{}
+
+// A search from root to root begins with all of them, and passes over none.
+pub fn search_steps()
+    ensures { SearchSteps }
+{}
+
+// A worked row: what is asked along a running set up to the first moment of an event.
+pub fn ramp_row()
+    ensures { RampRow }
 {}

@@ -16,8 +16,8 @@ use Rattle.plus_number.specs.declared.frac.Frac64.{Frac64}
 use Rattle.plus_number.specs.Frac.{fraction_of, IsFrac64}
 use Rattle.plus_state.specs.declared.term.Overflow.{Overflow}
 use Rattle.plus_state.specs.declared.outcome.Limit.TheVariants.{Happenings, Number, Nonlinear}
-use Rattle.plus_state.specs.Asked as asked
-use Rattle.plus_state.specs.Asked.{FirstUnfit}
+use Rattle.plus_state.specs.Asked.{NodeFits, FirstUnfit}
+use Rattle.plus_state.proofs.Testing.{none_fails}
 use Rattle.plus_state.specs.Node.{Node}
 use Rattle.plus_state.specs.View.{overflow_of}
 use Rattle.plus_plan.specs.declared.forms.Line.{Line}
@@ -28,8 +28,7 @@ use Rattle.plus_validator.specs.Refused.{IsFull, IsTimeUnfit, IsActUnfit, IsGoal
 -- ---- what excludes each limit
 
 none_unfit : (n : Node) → FirstUnfit IsFrac64 [] n → ⊥
-unfolding asked.FirstUnfit
-none_unfit n u = u
+none_unfit n u = none_fails (NodeFits IsFrac64) n u
 
 no_time_unfit : (P : Problem) (L : Plan) (v : View) (w : Overflow Frac64) → v.running ≡ None → IsTimeUnfit P L v w → ⊥
 no_time_unfit P L v w e u = none_unfit (overflow_of fraction_of w) (subst (λ (o : Option (List ℕ)). FirstUnfit IsFrac64 (time_left o v.time (until P L v)) (overflow_of fraction_of w)) e u)

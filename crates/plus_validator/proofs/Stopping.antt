@@ -24,7 +24,7 @@ use Rattle.plus_expansion.specs.Calls.{called_of}
 use Rattle.plus_tree.specs.declared.trees.Call.{Call}
 use Rattle.plus_timeline.specs.Act.{StopsAct, BreaksAct, LimitsAct, UnfitAct}
 use Rattle.plus_timeline.specs.Advance.{BreaksOff, BreaksAdvance, Reaches, LimitsAdvance}
-use Rattle.plus_timeline.specs.Laws.{breach_of}
+use Rattle.plus_timeline.specs.Tests.{breach_of}
 use Rattle.plus_timeline.specs.Stops.{BreachExactly, LimitExactly}
 use Rattle.plus_timeline.specs.declared.stop.Stop.{Stop}
 use Rattle.plus_timeline.specs.declared.stop.Stop.TheVariants as stops

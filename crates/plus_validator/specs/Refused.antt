@@ -32,7 +32,7 @@ use Rattle.plus_plan.specs.TimeValue.{value_of}
 use Rattle.plus_expansion.specs.Expansion.{expanded, labels_meant}
 use Rattle.plus_timeline.specs.Act.{act_steps}
 use Rattle.plus_timeline.specs.Advance.{time_left}
-use Rattle.plus_timeline.specs.Laws.{breach_of}
+use Rattle.plus_timeline.specs.Tests.{breach_of}
 use Rattle.plus_report.specs.declared.verdicts.Verdict.{Verdict}
 use Rattle.plus_report.specs.declared.verdicts.Verdict.TheVariants.{Valid, Invalid, Beyond, Other}
 use Rattle.plus_report.specs.declared.refusals.Early.{Early}
