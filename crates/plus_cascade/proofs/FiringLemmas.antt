@@ -13,16 +13,15 @@ use Rattle.plus_state.specs.declared.problem.Ground.{Ground}
 use Rattle.plus_state.specs.View.{event_of, effect_of, problem_of}
 use Rattle.plus_state.specs.Fits.{EventFits, StateFits}
 use Rattle.plus_state.specs.Node.{Node}
-use Rattle.plus_state.specs.Asked.{AllFit, FirstUnfit}
+use Rattle.plus_state.specs.Asked.{NodeFits, AllFit, FirstUnfit}
 use Rattle.plus_state.specs.Tests.{tests_of}
 use Rattle.plus_state.specs.Changes.{Changes, patched}
 use Rattle.plus_state.specs.Due.{Due, DuesFit, dues}
-use Rattle.plus_state.specs.Steps.{Step, AllPass, FirstStop, add_steps}
+use Rattle.plus_state.specs.Steps.{Step, Passes, AllPass, FirstStop, add_steps}
 use Rattle.plus_state.specs.declared.outcome.JointStop.{JointStop}
 use Rattle.plus_state.specs.declared.outcome.JointStop.TheVariants.{Conflict, NoValue, Number, Memory}
 use Rattle.plus_state.specs.Stops.{StopIs}
-use Rattle.plus_state.proofs.AskedLemmas.{fit_append, unfit_left, unfit_right, fit_none}
-use Rattle.plus_state.proofs.StepsLemmas.{pass_none, pass_append, stop_left, stop_right}
+use Rattle.plus_state.proofs.Testing.{pass_none, pass_append, fail_left, fail_right}
 use Rattle.plus_state.proofs.ApplyLemmas.{add_steps-append, dues-append}
 use Rattle.plus_state.proofs.PatchLemmas.{same_atoms, same_fluents}
 use Rattle.plus_cascade.specs.Steps.{condition_nodes}
@@ -62,7 +61,7 @@ module _ (fits : Fraction → Type 0) (found : List ℕ) (k : ℕ) (e : Event) (
   gathering_inside = All-head (EventFits (length s.atoms) (length s.fluents)) e rest h.inside
 
   pub gathering_err : (m : Node) → FirstUnfit fits (tests_of e.condition s) m → FirstUnfit fits (condition_nodes whole s) m
-  gathering_err m u = h.unfit m (unfit_left fits _ _ m u)
+  gathering_err m u = h.unfit m (fail_left (NodeFits fits) _ _ m u)
 
   pub gathering_next : (b : Bool) (new : List ℕ) → AllFit fits (tests_of e.condition s) → b ≡ holds e.condition s → new ≡ found ++ (if b then k ∷ [] else []) → Gathering fits new (k + 1) rest whole s
   gathering_next b new a d n =
@@ -71,13 +70,13 @@ module _ (fits : Fraction → Type 0) (found : List ℕ) (k : ℕ) (e : Event) (
       subst (λ (i : ℕ). Gathering fits new i rest whole s) one (record {
         inside = All-tail (EventFits (length s.atoms) (length s.fluents)) e rest h.inside;
         so_far = ap (λ (x : List ℕ). x ++ more) n ∙ choose found k b more ∙ ap (λ (c : Bool). found ++ (if c then k ∷ more else more)) d ∙ h.so_far;
-        fit = λ r. h.fit (fit_append fits _ _ a r);
-        unfit = λ m u. h.unfit m (unfit_right fits _ _ m a u);
+        fit = λ r. h.fit (pass_append (NodeFits fits) _ _ a r);
+        unfit = λ m u. h.unfit m (fail_right (NodeFits fits) _ _ m a u);
       })
 
 pub gathering_end : (fits : Fraction → Type 0) (found : List ℕ) (k : ℕ) (P : Problem) (s : State) → Gathering fits found k [] P.events s → AllFit fits (condition_nodes P.events s) × (found ≡ firing P s)
 unfolding firing
-gathering_end fits found k P s h = (h.fit (fit_none fits), sym (append-nil found) ∙ h.so_far)
+gathering_end fits found k P s h = (h.fit (pass_none (NodeFits fits)), sym (append-nil found) ∙ h.so_far)
 
 -- how far the writes of events are gathered
 pub record Joining (fits : Fraction → Type 0) (P : Problem) (due : List Due) (rest whole : List ℕ) (s : State) : Type 0 where
@@ -110,12 +109,12 @@ module _ (fits : Fraction → Type 0) (P : Problem) (due : List Due) (e : ℕ) (
     inside = All-tail (λ e. e < length P.events) e rest h.inside;
     so_far = ap (λ (x : List Due). x ++ dues (effects_of P rest) s) n ∙ append_assoc due (dues es s) (dues (effects_of P rest) s)
         ∙ ap (λ (x : List Due). due ++ x) (sym (ap (λ (x : List Effect). dues x s) here ∙ dues-append es (effects_of P rest) s)) ∙ h.so_far;
-    pass = λ r. h.pass (subst (AllPass fits) (sym steps_here) (pass_append fits _ _ a r));
-    stop = λ m u. h.stop m (subst (λ (ns : List Step). FirstStop fits ns m) (sym steps_here) (stop_right fits _ _ m a u));
+    pass = λ r. h.pass (subst (AllPass fits) (sym steps_here) (pass_append (Passes fits) _ _ a r));
+    stop = λ m u. h.stop m (subst (λ (ns : List Step). FirstStop fits ns m) (sym steps_here) (fail_right (Passes fits) _ _ m a u));
   }
 
   joining_stop : (m : Step) → FirstStop fits (add_steps es s) m → FirstStop fits (add_steps (effects_of P whole) s) m
-  joining_stop m u = h.stop m (subst (λ (ns : List Step). FirstStop fits ns m) (sym steps_here) (stop_left fits _ _ m u))
+  joining_stop m u = h.stop m (subst (λ (ns : List Step). FirstStop fits ns m) (sym steps_here) (fail_left (Passes fits) _ _ m u))
 
 pub below_all : {Q : Type 0} (v : Q → Fraction) (g : Ground Q) (es : List ℕ) → All (λ e. e < length g.events.items) es → All (λ e. e < length (problem_of v g).events) es
 below_all v g es h = subst (λ (n : ℕ). All (λ e. e < n) es) (sym (length-map g.events.items (event_of v))) h
@@ -135,7 +134,7 @@ joining_inside v fits g due e rest whole s h =
 
 pub joining_end : (fits : Fraction → Type 0) (P : Problem) (due : List Due) (whole : List ℕ) (s : State) → Joining fits P due [] whole s → AllPass fits (add_steps (effects_of P whole) s) × (due ≡ dues (effects_of P whole) s)
 unfolding effects_of
-joining_end fits P due whole s h = (h.pass (pass_none fits), sym (append-nil due) ∙ h.so_far)
+joining_end fits P due whole s h = (h.pass (pass_none (Passes fits)), sym (append-nil due) ∙ h.so_far)
 
 -- the state after changes is one for as many atoms and fluents
 pub after_fits : (atoms fluents : ℕ) (s t : State) (c : Changes) → StateFits atoms fluents s → t ≡ patched s c → StateFits atoms fluents t
