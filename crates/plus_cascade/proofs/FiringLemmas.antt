@@ -2,28 +2,28 @@
 use Rattle.std.proofs.Common.{◌≡◌, ℕ, ◌<◌, ◌+◌, zero, suc, Bool, true, false, List, [], ◌∷◌, ◌++◌, length, map, get_or, refl, ap, sym, subst, ◌∙◌, arith, append_assoc}
 use Rattle.std.proofs.lemmas.List.{append-nil, get_or-map, length-map}
 use Rattle.std.proofs.lemmas.List.Elements.{All-head, All-tail}
-use Rattle.std.specs.Prelude.{slice_get, if◌then◌else◌, Option, Result, Ok, Err, IfOk}
+use Rattle.std.specs.Prelude.{slice_get, if◌then◌else◌}
 use Rattle.std.specs.List.{All}
 use Rattle.plus_fraction.specs.Fraction.{Fraction}
 use Rattle.plus_model.specs.Terms.{Effect, Event, State, Problem}
 use Rattle.plus_model.specs.Value.{holds}
-use Rattle.plus_model.specs.Joint.{Change, new_atoms}
 use Rattle.plus_model.specs.Firing.{numbers_of, firing, effects_at, effects_of}
 use Rattle.plus_state.specs.declared.problem.Event as code
 use Rattle.plus_state.specs.declared.problem.Ground.{Ground}
 use Rattle.plus_state.specs.View.{event_of, effect_of, problem_of}
 use Rattle.plus_state.specs.Fits.{EventFits, StateFits}
 use Rattle.plus_state.specs.Node.{Node}
-use Rattle.plus_state.specs.Asked.{AllFit, FirstUnfit}
+use Rattle.plus_state.specs.Asked.{NodeFits, AllFit, FirstUnfit}
 use Rattle.plus_state.specs.Tests.{tests_of}
-use Rattle.plus_state.specs.Due.{Due, Update, dues, by_fluent, new_fluents, atom_changes, after_dues}
-use Rattle.plus_state.specs.Steps.{Step, AllPass, FirstStop, add_steps}
+use Rattle.plus_state.specs.Changes.{Changes, patched}
+use Rattle.plus_state.specs.Due.{Due, DuesFit, dues}
+use Rattle.plus_state.specs.Steps.{Step, Passes, AllPass, FirstStop, add_steps}
 use Rattle.plus_state.specs.declared.outcome.JointStop.{JointStop}
 use Rattle.plus_state.specs.declared.outcome.JointStop.TheVariants.{Conflict, NoValue, Number, Memory}
-use Rattle.plus_state.specs.Stops.{StopIs, DoesJointly}
-use Rattle.plus_state.proofs.AskedLemmas.{fit_append, unfit_left, unfit_right, fit_none}
-use Rattle.plus_state.proofs.StepsLemmas.{pass_none, pass_append, stop_left, stop_right}
+use Rattle.plus_state.specs.Stops.{StopIs}
+use Rattle.plus_state.proofs.Testing.{pass_none, pass_append, fail_left, fail_right}
 use Rattle.plus_state.proofs.ApplyLemmas.{add_steps-append, dues-append}
+use Rattle.plus_state.proofs.PatchLemmas.{same_atoms, same_fluents}
 use Rattle.plus_cascade.specs.Steps.{condition_nodes}
 
 -- ids fit in a state for as many atoms and fluents
@@ -61,7 +61,7 @@ module _ (fits : Fraction → Type 0) (found : List ℕ) (k : ℕ) (e : Event) (
   gathering_inside = All-head (EventFits (length s.atoms) (length s.fluents)) e rest h.inside
 
   pub gathering_err : (m : Node) → FirstUnfit fits (tests_of e.condition s) m → FirstUnfit fits (condition_nodes whole s) m
-  gathering_err m u = h.unfit m (unfit_left fits _ _ m u)
+  gathering_err m u = h.unfit m (fail_left (NodeFits fits) _ _ m u)
 
   pub gathering_next : (b : Bool) (new : List ℕ) → AllFit fits (tests_of e.condition s) → b ≡ holds e.condition s → new ≡ found ++ (if b then k ∷ [] else []) → Gathering fits new (k + 1) rest whole s
   gathering_next b new a d n =
@@ -70,26 +70,32 @@ module _ (fits : Fraction → Type 0) (found : List ℕ) (k : ℕ) (e : Event) (
       subst (λ (i : ℕ). Gathering fits new i rest whole s) one (record {
         inside = All-tail (EventFits (length s.atoms) (length s.fluents)) e rest h.inside;
         so_far = ap (λ (x : List ℕ). x ++ more) n ∙ choose found k b more ∙ ap (λ (c : Bool). found ++ (if c then k ∷ more else more)) d ∙ h.so_far;
-        fit = λ r. h.fit (fit_append fits _ _ a r);
-        unfit = λ m u. h.unfit m (unfit_right fits _ _ m a u);
+        fit = λ r. h.fit (pass_append (NodeFits fits) _ _ a r);
+        unfit = λ m u. h.unfit m (fail_right (NodeFits fits) _ _ m a u);
       })
 
 pub gathering_end : (fits : Fraction → Type 0) (found : List ℕ) (k : ℕ) (P : Problem) (s : State) → Gathering fits found k [] P.events s → AllFit fits (condition_nodes P.events s) × (found ≡ firing P s)
 unfolding firing
-gathering_end fits found k P s h = (h.fit (fit_none fits), sym (append-nil found) ∙ h.so_far)
+gathering_end fits found k P s h = (h.fit (pass_none (NodeFits fits)), sym (append-nil found) ∙ h.so_far)
 
--- how far the effects of events are added to a joint effect that was begun in a state
-pub record Joining (fits : Fraction → Type 0) (P : Problem) (start : State) (due : List Due) (rest whole : List ℕ) (s : State) : Type 0 where
-  pub same : start ≡ s
+-- how far the writes of events are gathered
+pub record Joining (fits : Fraction → Type 0) (P : Problem) (due : List Due) (rest whole : List ℕ) (s : State) : Type 0 where
+  pub fit : DuesFit (length s.atoms) (length s.fluents) due
   pub inside : All (λ e. e < length P.events) rest
   pub so_far : due ++ dues (effects_of P rest) s ≡ dues (effects_of P whole) s
   pub pass : AllPass fits (add_steps (effects_of P rest) s) → AllPass fits (add_steps (effects_of P whole) s)
   pub stop : (m : Step) → FirstStop fits (add_steps (effects_of P rest) s) m → FirstStop fits (add_steps (effects_of P whole) s) m
 
-pub joining_start : (fits : Fraction → Type 0) (P : Problem) (start : State) (due : List Due) (whole : List ℕ) (s : State) → start ≡ s → due ≡ [] → All (λ e. e < length P.events) whole → Joining fits P start due whole whole s
-joining_start fits P start due whole s e d h = record { same = e; inside = h; so_far = ap (λ (x : List Due). x ++ dues (effects_of P whole) s) d; pass = λ a. a; stop = λ m u. u }
+pub joining_start : (fits : Fraction → Type 0) (P : Problem) (due : List Due) (whole : List ℕ) (s : State) → due ≡ [] → All (λ e. e < length P.events) whole → Joining fits P due whole whole s
+joining_start fits P due whole s d h = record {
+  fit = subst (DuesFit (length s.atoms) (length s.fluents)) (sym d) tt;
+  inside = h;
+  so_far = ap (λ (x : List Due). x ++ dues (effects_of P whole) s) d;
+  pass = λ a. a;
+  stop = λ m u. u;
+}
 
-module _ (fits : Fraction → Type 0) (P : Problem) (start : State) (due : List Due) (e : ℕ) (rest whole : List ℕ) (s : State) (es : List Effect) (h : Joining fits P start due (e ∷ rest) whole s) (k : effects_at (slice_get P.events e) ≡ es) where
+module _ (fits : Fraction → Type 0) (P : Problem) (due : List Due) (e : ℕ) (rest whole : List ℕ) (s : State) (es : List Effect) (h : Joining fits P due (e ∷ rest) whole s) (k : effects_at (slice_get P.events e) ≡ es) where
   here : effects_of P (e ∷ rest) ≡ es ++ effects_of P rest
   unfolding effects_of
   here = ap (λ (x : List Effect). x ++ effects_of P rest) k
@@ -97,50 +103,40 @@ module _ (fits : Fraction → Type 0) (P : Problem) (start : State) (due : List 
   steps_here : add_steps (effects_of P (e ∷ rest)) s ≡ add_steps es s ++ add_steps (effects_of P rest) s
   steps_here = ap (λ (x : List Effect). add_steps x s) here ∙ add_steps-append es (effects_of P rest) s
 
-  pub joining_next : (begun : State) (new : List Due) → begun ≡ start → AllPass fits (add_steps es s) → new ≡ due ++ dues es s → Joining fits P begun new rest whole s
-  joining_next begun new b a n = record {
-    same = b ∙ h.same;
+  pub joining_next : (new : List Due) → DuesFit (length s.atoms) (length s.fluents) new → AllPass fits (add_steps es s) → new ≡ due ++ dues es s → Joining fits P new rest whole s
+  joining_next new b a n = record {
+    fit = b;
     inside = All-tail (λ e. e < length P.events) e rest h.inside;
     so_far = ap (λ (x : List Due). x ++ dues (effects_of P rest) s) n ∙ append_assoc due (dues es s) (dues (effects_of P rest) s)
         ∙ ap (λ (x : List Due). due ++ x) (sym (ap (λ (x : List Effect). dues x s) here ∙ dues-append es (effects_of P rest) s)) ∙ h.so_far;
-    pass = λ r. h.pass (subst (AllPass fits) (sym steps_here) (pass_append fits _ _ a r));
-    stop = λ m u. h.stop m (subst (λ (ns : List Step). FirstStop fits ns m) (sym steps_here) (stop_right fits _ _ m a u));
+    pass = λ r. h.pass (subst (AllPass fits) (sym steps_here) (pass_append (Passes fits) _ _ a r));
+    stop = λ m u. h.stop m (subst (λ (ns : List Step). FirstStop fits ns m) (sym steps_here) (fail_right (Passes fits) _ _ m a u));
   }
 
   joining_stop : (m : Step) → FirstStop fits (add_steps es s) m → FirstStop fits (add_steps (effects_of P whole) s) m
-  joining_stop m u = h.stop m (subst (λ (ns : List Step). FirstStop fits ns m) (sym steps_here) (stop_left fits _ _ m u))
+  joining_stop m u = h.stop m (subst (λ (ns : List Step). FirstStop fits ns m) (sym steps_here) (fail_left (Passes fits) _ _ m u))
 
 pub below_all : {Q : Type 0} (v : Q → Fraction) (g : Ground Q) (es : List ℕ) → All (λ e. e < length g.events.items) es → All (λ e. e < length (problem_of v g).events) es
 below_all v g es h = subst (λ (n : ℕ). All (λ e. e < n) es) (sym (length-map g.events.items (event_of v))) h
 
 -- the stop of the effects of one event
-pub joining_stops : {Q : Type 0} (v : Q → Fraction) (fits : Fraction → Type 0) (P : Problem) (start : State) (due : List Due) (e : ℕ) (rest whole : List ℕ) (s : State) (es : List Effect) → Joining fits P start due (e ∷ rest) whole s → effects_at (slice_get P.events e) ≡ es → (stop : JointStop Q) → StopIs v fits (add_steps es s) stop → StopIs v fits (add_steps (effects_of P whole) s) stop
-joining_stops v fits P start due e rest whole s es h k (Conflict f) u = joining_stop fits P start due e rest whole s es h k _ u
-joining_stops v fits P start due e rest whole s es h k (NoValue f) u = joining_stop fits P start due e rest whole s es h k _ u
-joining_stops v fits P start due e rest whole s es h k (Number o) u = joining_stop fits P start due e rest whole s es h k _ u
-joining_stops v fits P start due e rest whole s es h k Memory u = tt
+pub joining_stops : {Q : Type 0} (v : Q → Fraction) (fits : Fraction → Type 0) (P : Problem) (due : List Due) (e : ℕ) (rest whole : List ℕ) (s : State) (es : List Effect) → Joining fits P due (e ∷ rest) whole s → effects_at (slice_get P.events e) ≡ es → (stop : JointStop Q) → StopIs v fits (add_steps es s) stop → StopIs v fits (add_steps (effects_of P whole) s) stop
+joining_stops v fits P due e rest whole s es h k (Conflict f) u = joining_stop fits P due e rest whole s es h k _ u
+joining_stops v fits P due e rest whole s es h k (NoValue f) u = joining_stop fits P due e rest whole s es h k _ u
+joining_stops v fits P due e rest whole s es h k (Number o) u = joining_stop fits P due e rest whole s es h k _ u
+joining_stops v fits P due e rest whole s es h k Memory u = tt
 
 -- the next event is one of the list
-pub joining_inside : {Q : Type 0} (v : Q → Fraction) (fits : Fraction → Type 0) (g : Ground Q) (start : State) (due : List Due) (e : ℕ) (rest whole : List ℕ) (s : State) → Joining fits (problem_of v g) start due (e ∷ rest) whole s → e < length g.events.items
-joining_inside v fits g start due e rest whole s h =
+pub joining_inside : {Q : Type 0} (v : Q → Fraction) (fits : Fraction → Type 0) (g : Ground Q) (due : List Due) (e : ℕ) (rest whole : List ℕ) (s : State) → Joining fits (problem_of v g) due (e ∷ rest) whole s → e < length g.events.items
+joining_inside v fits g due e rest whole s h =
     let below : e < length (map (event_of v) g.events.items) = All-head (λ e. e < length (map (event_of v) g.events.items)) e rest h.inside in
     rw length-map at below
 
-pub joining_end : (fits : Fraction → Type 0) (P : Problem) (start : State) (due : List Due) (whole : List ℕ) (s : State) → Joining fits P start due [] whole s → AllPass fits (add_steps (effects_of P whole) s) × (due ≡ dues (effects_of P whole) s)
+pub joining_end : (fits : Fraction → Type 0) (P : Problem) (due : List Due) (whole : List ℕ) (s : State) → Joining fits P due [] whole s → AllPass fits (add_steps (effects_of P whole) s) × (due ≡ dues (effects_of P whole) s)
 unfolding effects_of
-joining_end fits P start due whole s h = (h.pass (pass_none fits), sym (append-nil due) ∙ h.so_far)
+joining_end fits P due whole s h = (h.pass (pass_none (Passes fits)), sym (append-nil due) ∙ h.so_far)
 
--- the state after a joint effect is one for as many atoms and fluents
-length-new_atoms : (a : ℕ) (cs : List Change) (bs : List Bool) → length (new_atoms a cs bs) ≡ length bs
-length-new_atoms a cs [] = refl
-length-new_atoms a cs (b ∷ bs) = ap suc (length-new_atoms (suc a) cs bs)
-
-length-new_fluents : (us : List (List Update)) (vs : List (Option Fraction)) → length (new_fluents us vs) ≡ length vs
-length-new_fluents [] vs = refl
-length-new_fluents (u ∷ us) [] = refl
-length-new_fluents (u ∷ us) (v ∷ vs) = ap suc (length-new_fluents us vs)
-
-pub together_fits : {Q : Type 0} (v : Q → Fraction) (fits : Fraction → Type 0) (steps : List Step) (ds : List Due) (atoms fluents : ℕ) (s : State) (r : Result State (JointStop Q)) → StateFits atoms fluents s → DoesJointly v fits steps (λ t. t ≡ after_dues ds s) r → IfOk r (λ t. StateFits atoms fluents t)
-together_fits v fits steps ds atoms fluents s (Err e) h d = tt
-together_fits v fits steps ds atoms fluents s (Ok t) h d =
-    subst (StateFits atoms fluents) (sym d.1) (record { atoms_fit = length-new_atoms 0 (atom_changes ds) s.atoms ∙ h.atoms_fit; fluents_fit = length-new_fluents (by_fluent 0 ds s.fluents) s.fluents ∙ h.fluents_fit })
+-- the state after changes is one for as many atoms and fluents
+pub after_fits : (atoms fluents : ℕ) (s t : State) (c : Changes) → StateFits atoms fluents s → t ≡ patched s c → StateFits atoms fluents t
+after_fits atoms fluents s t c h e =
+    subst (StateFits atoms fluents) (sym e) (record { atoms_fit = same_atoms s c ∙ h.atoms_fit; fluents_fit = same_fluents s c ∙ h.fluents_fit })

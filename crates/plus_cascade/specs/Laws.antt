@@ -1,10 +1,8 @@
 -- What the set of the events that have fired says of the cascades of the model.
 use Rattle.std.specs.Prelude.{◌≡◌, ℕ, Bool, false, List, [], ◌++◌, length, replicate}
-use Rattle.plus_fraction.specs.Fraction.{Fraction}
 use Rattle.plus_model.specs.Terms.{State, Problem}
 use Rattle.plus_model.specs.Firing as model
 use Rattle.plus_cascade.specs.Fired.{with_fired, IsSetOf}
-use Rattle.plus_cascade.specs.Steps.{RoundStep, AllPass, FirstStop}
 use Rattle.plus_cascade.specs.Rounds.{Fires}
 
 -- no event has fired at first
@@ -17,8 +15,3 @@ RoundsGoOn =
     (P : Problem) (fired : List Bool) (before : List ℕ) (s : State) (events : List ℕ) (after : State)
     → length fired ≡ length P.events → IsSetOf fired before → Fires P fired s events after
     → model.IsRound P before s events after × IsSetOf (with_fired fired events) (before ++ events)
-
--- one step is the first that stops, and none is where all pass
-pub record OneStep (fits : Fraction → Type 0) : Type 0 where
-  pub one : (ns : List RoundStep) (m k : RoundStep) → FirstStop fits ns m → FirstStop fits ns k → m ≡ k
-  pub none : (ns : List RoundStep) (m : RoundStep) → AllPass fits ns → FirstStop fits ns m → ⊥

@@ -10,9 +10,11 @@ use Rattle.plus_state.specs.declared.outcome.JointStop.TheVariants as joint_stop
 use Rattle.plus_state.specs.Node.{Node}
 use Rattle.plus_state.specs.View.{overflow_of}
 use Rattle.plus_state.specs.Asked.{FirstUnfit}
+use Rattle.plus_state.specs.Changes.{patched}
 use Rattle.plus_cascade.specs.declared.rounds.CascadeStop.{CascadeStop}
 use Rattle.plus_cascade.specs.declared.rounds.CascadeStop.TheVariants.{Repeats, Conflict, NoValue, Number, Memory}
 use Rattle.plus_cascade.specs.declared.rounds.FiredRound.{FiredRound}
+use Rattle.plus_cascade.specs.declared.rounds.DueRound.{DueRound}
 use Rattle.plus_cascade.specs.Fired.{event_numbers, first_repeated, with_fired}
 use Rattle.plus_cascade.specs.Steps.{RoundStep, asks, fails, repeats, AllPass, FirstStop, round_steps}
 
@@ -53,6 +55,16 @@ StopIs v fits ns Memory = Unit {0}
 abbrev pub Rounds : {Q : Type 0} → (Q → Fraction) → (Fraction → Type 0) → Problem → List Bool → State → Result (Option (FiredRound Q)) (CascadeStop Q) → Type 0
 Rounds v fits P fired s r =
     MatchResult r (λ o. AllPass fits (round_steps P fired s) × IsRound P fired s o)
+    (λ e. StopIs v fits (round_steps P fired s) e × NoRound P fired s e)
+
+-- the same of a round that is not made yet, whose changes lead to the state after it
+abbrev pub IsDueRound : {Q : Type 0} → Problem → List Bool → State → Option (DueRound Q) → Type 0
+IsDueRound P fired s None = firing P s ≡ []
+IsDueRound P fired s (Some r) = Fires P fired s (event_numbers r.events.items) (patched s r.changes)
+
+abbrev pub RoundChanges : {Q : Type 0} → (Q → Fraction) → (Fraction → Type 0) → Problem → List Bool → State → Result (Option (DueRound Q)) (CascadeStop Q) → Type 0
+RoundChanges v fits P fired s r =
+    MatchResult r (λ o. AllPass fits (round_steps P fired s) × IsDueRound P fired s o)
     (λ e. StopIs v fits (round_steps P fired s) e × NoRound P fired s e)
 
 -- the set afterwards: the events of the round have joined it, and after a refusal it is the same

@@ -1,13 +1,14 @@
 -- What a round asks, in the order of evaluation (this project's profile): the conditions of all events in ground order.
 -- Where no event holds, the cascade is over. Else an event that holds and has fired stops the round, and then come the
 -- steps of the joint effect of all events that hold, in ground order.
-use Rattle.std.specs.Prelude.{◌≡◌, ◌⊎◌, ℕ, Bool, List, [], ◌∷◌, ◌++◌, map, Option, Some, None}
+use Rattle.std.specs.Prelude.{ℕ, Bool, List, [], ◌∷◌, ◌++◌, map, Option, Some, None}
 use Rattle.plus_fraction.specs.Fraction.{Fraction}
 use Rattle.plus_model.specs.Terms.{Event, State, Problem}
 use Rattle.plus_model.specs.Joint.{Fault}
 use Rattle.plus_model.specs.Firing.{firing, effects_of}
 use Rattle.plus_state.specs.Node.{Node}
-use Rattle.plus_state.specs.Asked.{result_of}
+use Rattle.plus_state.specs.Tested as tested
+use Rattle.plus_state.specs.Asked.{NodeFits}
 use Rattle.plus_state.specs.Tests.{tests_of}
 use Rattle.plus_state.specs.Steps as joint
 use Rattle.plus_state.specs.Steps.{Step, joint_steps}
@@ -20,19 +21,18 @@ pub data RoundStep : Type 0 where
   fails : Fault → RoundStep
   repeats : ℕ → RoundStep
 
+unfoldable pub Passes : (Fraction → Type 0) → RoundStep → Type 0
+Passes fits (asks n) = NodeFits fits n
+Passes fits (fails f) = ⊥
+Passes fits (repeats e) = ⊥
+
 -- no step stops
-unfoldable pub AllPass : (Fraction → Type 0) → List RoundStep → Type 0
-AllPass fits [] = Unit {0}
-AllPass fits (asks n ∷ ns) = fits (result_of n.sign n.left n.right) × AllPass fits ns
-AllPass fits (fails f ∷ ns) = ⊥
-AllPass fits (repeats e ∷ ns) = ⊥
+abbrev pub AllPass : (Fraction → Type 0) → List RoundStep → Type 0
+AllPass fits ns = tested.AllPass (Passes fits) ns
 
 -- the first step that stops
-unfoldable pub FirstStop : (Fraction → Type 0) → List RoundStep → RoundStep → Type 0
-FirstStop fits [] m = ⊥
-FirstStop fits (asks n ∷ ns) m = ((fits (result_of n.sign n.left n.right) → ⊥) × (m ≡ asks n)) ⊎ (fits (result_of n.sign n.left n.right) × FirstStop fits ns m)
-FirstStop fits (fails f ∷ ns) m = m ≡ fails f
-FirstStop fits (repeats e ∷ ns) m = m ≡ repeats e
+abbrev pub FirstStop : (Fraction → Type 0) → List RoundStep → RoundStep → Type 0
+FirstStop fits ns m = tested.FirstFailing (Passes fits) ns m
 
 -- a step of a joint effect
 abbrev pub of_step : Step → RoundStep

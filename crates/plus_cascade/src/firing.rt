@@ -1,17 +1,19 @@
-// The events that hold, and what they do together.
+//! The events that hold, and what they change together.
 ghost use Rattle.std.specs.Prelude.{◌≡◌, ◌<◌, [], ◌∷◌, ◌++◌, length, map, All, IfOk, OnErr, MatchResult, if◌then◌else◌};
 ghost use Rattle.plus_model.specs.Firing.{firing as firing_of, effects_of};
 ghost use Rattle.plus_state.specs.View.{problem_of};
 ghost use Rattle.plus_state.specs.Fits.{ProblemFits, StateFits};
+ghost use Rattle.plus_state.specs.Changes.{RisesIn};
 ghost use Rattle.plus_state.specs.Asked.{AllFit};
-ghost use Rattle.plus_state.specs.Applies.{Applies};
+ghost use Rattle.plus_state.specs.Applies.{ChangesJointly};
 ghost use Rattle.plus_cascade.specs.Fired.{event_numbers};
 ghost use Rattle.plus_cascade.specs.Steps.{condition_nodes};
 ghost use Rattle.plus_cascade.specs.Rounds.{ConditionStops};
 
 use crate::rounds::CascadeStop;
 use plus_number::exact::Exact;
-use plus_state::joint_effect::Joint;
+use plus_state::changes::Changes;
+use plus_state::joint_effect::{add_dues, changes_by};
 use plus_state::outcome::JointStop;
 use plus_state::problem::Ground;
 use plus_state::states::State;
@@ -55,29 +57,25 @@ pub fn firing<Q: Exact>(
     Ok(events)
 }
 
-// The state after all effects of these events at once.
-pub fn fired_together<Q: Exact>(
+// What all effects of these events change at once.
+pub fn changed_together<Q: Exact>(
     alloc: Global,
     ground: &Ground<Q>,
     events: &[EventId],
     state: &State<Q>,
-) -> Result<State<Q>, JointStop<Q>>
+) -> Result<Changes<Q>, JointStop<Q>>
     requires fits { ProblemFits (problem_of Q.value ground.now) }
     requires state { StateFits (length (ground.now.atoms.items)) (length (ground.now.fluents.items)) state.now }
     requires events { All (λ e. e < length (ground.now.events.items)) (event_numbers events.now) }
-    ensures told { Applies Q.value Q.fits (effects_of (problem_of Q.value ground.now) (event_numbers events.now)) state.now result }
-    ensures fits { IfOk result (λ after. StateFits (length (ground.now.atoms.items)) (length (ground.now.fluents.items)) after) }
+    ensures rises { IfOk result (RisesIn state.now) }
+    ensures told { ChangesJointly Q.value Q.fits (effects_of (problem_of Q.value ground.now) (event_numbers events.now)) state.now result }
 {
-    match Joint::begin(alloc, state) {
-        Err(_) => Err(JointStop::Memory),
-        Ok(mut joint) => {
-            'each: for event in events {
-                match joint.add(state, &ground.events[event.0 as usize].effects) {
-                    Err(stop) => return Err(stop),
-                    Ok(()) => {}
-                }
-            }
-            joint.end(state)
+    let mut due = Vec::new(alloc);
+    'each: for event in events {
+        match add_dues(&mut due, state, &ground.events[event.0 as usize].effects) {
+            Err(stop) => return Err(stop),
+            Ok(()) => {}
         }
     }
+    changes_by(alloc, state, &due)
 }

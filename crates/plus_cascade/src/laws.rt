@@ -1,5 +1,7 @@
 // Laws over the definitions alone.
-ghost use Rattle.plus_cascade.specs.Laws.{EmptyAtFirst, RoundsGoOn, OneStep};
+ghost use Rattle.plus_cascade.specs.Laws.{EmptyAtFirst, RoundsGoOn};
+ghost use Rattle.plus_state.specs.Tested.{OneTest};
+ghost use Rattle.plus_cascade.specs.Steps.{Passes};
 
 use plus_number::exact::Exact;
 
@@ -16,5 +18,5 @@ pub fn rounds_go_on()
 
 /// One step at most is the first that stops, and where all pass there is none.
 pub fn one_step<Q: Exact>()
-    ensures { OneStep Q.fits }
+    ensures { OneTest (Passes Q.fits) }
 {}

@@ -1,8 +1,8 @@
 //! Events of a ground PDDL+ problem that fire at one moment: rounds of a cascade.
 //!
 //! A round evaluates the condition of each event once, and then the effects of those that hold, once
-//! each. Besides, it copies the state once, and looks at each event that holds once in the set of those
-//! that have fired. `begin` and `copy` take time by the number of events.
+//! each, and looks at each event that holds once in the set of those that have fired. `round` copies the
+//! state besides, and `round_changes` gives what would change. `begin` and `copy` take time by the number of events.
 #![tactic(auto)]
 
 pub mod cascade;
@@ -13,4 +13,4 @@ pub mod rounds;
 mod tests;
 
 pub use cascade::{Cascade, begin};
-pub use rounds::{CascadeStop, FiredRound, round};
+pub use rounds::{CascadeStop, DueRound, FiredRound, round, round_changes};

@@ -1,12 +1,14 @@
-// One round of a cascade.
+//! One round of a cascade.
 ghost use Rattle.std.specs.Prelude.{◌≡◌, length, IfOk, IfSome};
 ghost use Rattle.plus_state.specs.View.{problem_of};
 ghost use Rattle.plus_state.specs.Fits.{ProblemFits, StateFits};
-ghost use Rattle.plus_cascade.specs.Rounds.{Rounds, of_joint, set_after};
+ghost use Rattle.plus_state.specs.Changes.{RisesIn};
+ghost use Rattle.plus_cascade.specs.Rounds.{Rounds, RoundChanges, of_joint, set_after};
 
 use crate::cascade::Cascade;
-use crate::firing::{fired_together, firing};
+use crate::firing::{changed_together, firing};
 use plus_number::exact::Exact;
+use plus_state::changes::Changes;
 use plus_state::outcome::JointStop;
 use plus_state::problem::Ground;
 use plus_state::states::State;
@@ -41,6 +43,13 @@ pub struct FiredRound<Q: Exact> {
     pub after: State<Q>,
 }
 
+/// A round that is not made yet: the events that fire together, in ground order, and what they change.
+#[derive(Drop)]
+pub struct DueRound<Q: Exact> {
+    pub events: Vec<EventId>,
+    pub changes: Changes<Q>,
+}
+
 fn joint_stop<Q: Exact>(stop: JointStop<Q>) -> CascadeStop<Q>
     ensures { result ≡ of_joint stop }
 {
@@ -49,6 +58,35 @@ fn joint_stop<Q: Exact>(stop: JointStop<Q>) -> CascadeStop<Q>
         JointStop::NoValue(fluent) => CascadeStop::NoValue(fluent),
         JointStop::Number(overflow) => CascadeStop::Number(overflow),
         JointStop::Memory => CascadeStop::Memory,
+    }
+}
+
+/// The round that is due: all events that hold in the state fire together, as one joint effect. None
+/// exactly where no event holds. The refusal is the first step that stops: the conditions of all events
+/// in ground order, then whether one that holds has fired, then the joint effect. Neither the state nor
+/// the set is changed.
+pub fn round_changes<Q: Exact>(
+    alloc: Global,
+    cascade: &Cascade,
+    ground: &Ground<Q>,
+    state: &State<Q>,
+) -> Result<Option<DueRound<Q>>, CascadeStop<Q>>
+    requires fits { ProblemFits (problem_of Q.value ground.now) }
+    requires state { StateFits (length (ground.now.atoms.items)) (length (ground.now.fluents.items)) state.now }
+    requires events { length cascade.now ≡ length (ground.now.events.items) }
+    ensures told { RoundChanges Q.value Q.fits (problem_of Q.value ground.now) cascade.now state.now result }
+    ensures rises { IfOk result (λ o. IfSome o (λ r. RisesIn state.now r.changes)) }
+{
+    let events = firing(alloc, ground, state)?;
+    if events.is_empty() {
+        return Ok(None);
+    }
+    match cascade.first_fired(&events) {
+        Some(event) => Err(CascadeStop::Repeats(event)),
+        None => match changed_together(alloc, ground, &events, state) {
+            Err(stop) => Err(joint_stop(stop)),
+            Ok(changes) => Ok(Some(DueRound { events, changes })),
+        },
     }
 }
 
@@ -69,17 +107,17 @@ pub fn round<Q: Exact>(
     ensures size { length cascade.new ≡ length cascade.old }
     ensures fits { IfOk result (λ o. IfSome o (λ r. StateFits (length (ground.now.atoms.items)) (length (ground.now.fluents.items)) r.after)) }
 {
-    let events = firing(alloc, ground, state)?;
-    if events.is_empty() {
-        return Ok(None);
-    }
-    match cascade.first_fired(&events) {
-        Some(event) => Err(CascadeStop::Repeats(event)),
-        None => match fired_together(alloc, ground, &events, state) {
-            Err(stop) => Err(joint_stop(stop)),
-            Ok(after) => {
-                cascade.add(&events);
-                Ok(Some(FiredRound { events, after }))
+    match round_changes(alloc, cascade, ground, state)? {
+        None => Ok(None),
+        Some(due) => match state.copy(alloc) {
+            Err(_) => Err(CascadeStop::Memory),
+            Ok(mut after) => {
+                after.patch(&due.changes);
+                cascade.add(&due.events);
+                Ok(Some(FiredRound {
+                    events: due.events,
+                    after,
+                }))
             }
         },
     }

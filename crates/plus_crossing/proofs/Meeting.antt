@@ -11,7 +11,10 @@ use Rattle.plus_fraction.proofs.Compared.{compared-less, compared-equal, compare
 use Rattle.plus_fraction.proofs.Compared.{less-compared, greater-compared}
 use Rattle.plus_model.proofs.Along.{mul_cancel}
 use Rattle.plus_crossing.specs.Roots.{IsRoot, opposite, meets_later, meeting_asks, root_asks}
-use Rattle.plus_crossing.specs.Asked.{Ask, AllPass, FirstFailing}
+use Rattle.plus_crossing.specs.Asked.{Ask, Passes, AllPass, FirstFailing}
+use Rattle.plus_state.specs.Tested as tested
+use Rattle.plus_state.specs.Asked.{NodeFits}
+use Rattle.plus_state.proofs.Testing.{pass_none}
 use Rattle.std.specs.Prelude.{if◌then◌else◌}
 
 abbrev ratio : Fraction → Fraction → Fraction → Fraction → Fraction
@@ -123,12 +126,12 @@ unfolding root_asks
 later_fail fits v m w n t e h = subst (λ b. FirstFailing fits (if b then meeting_asks v m w n else []) t) e h
 
 pub never_asks : (fits : Fraction → Type 0) (v m w n : Fraction) → false ≡ meets_later v m w n → AllPass fits (root_asks v m w n)
-unfolding root_asks AllPass
-never_asks fits v m w n e = subst (λ b. AllPass fits (if b then meeting_asks v m w n else [])) e tt
+unfolding root_asks
+never_asks fits v m w n e = subst (λ b. AllPass fits (if b then meeting_asks v m w n else [])) e (pass_none (Passes fits))
 
 pub ruleset answers = (later_pass, later_fail, never_asks, no_root)
 
 pub meeting_pass : (fits : Fraction → Type 0) (v m w n a b r : Fraction) → a ≡ w -ℚ v → fits a → b ≡ m -ℚ n → fits b → r ≡ a /ℚ b → fits r → meets_later v m w n ≡ true → AllPass fits (meeting_asks v m w n) × IsRoot v m w n r
-unfolding AllPass
+unfolding tested.AllPass Passes NodeFits
 meeting_pass fits v m w n a b r e x f y g z h =
     ((subst fits e x, (subst fits f y, (subst fits (g ∙ ap (λ k. k /ℚ b) e ∙ ap (λ k. (w -ℚ v) /ℚ k) f) z, tt))), root_is_by v m w n r a b g e f h)

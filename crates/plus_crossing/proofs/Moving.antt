@@ -12,15 +12,16 @@ use Rattle.plus_model.specs.Running.{moved_values, moved}
 use Rattle.plus_model.proofs.Along.{from_zero}
 use Rattle.plus_state.specs.declared.term.Sign.TheVariants.{Plus, Times}
 use Rattle.plus_state.specs.Node.{Node}
-use Rattle.plus_state.specs.Asked.{node, result_of, AllFit, FirstUnfit}
+use Rattle.plus_state.specs.Asked.{node, result_of, NodeFits, AllFit, FirstUnfit}
 use Rattle.plus_state.specs.Fits.{StateFits}
-use Rattle.plus_state.proofs.AskedLemmas.{fit_append, unfit_left, unfit_right, fit_none}
+use Rattle.plus_state.specs.Tested as tested
+use Rattle.plus_state.proofs.Testing.{pass_none, pass_append, fail_left, fail_right}
 use Rattle.plus_crossing.specs.Moves.{moved_value, fluent_nodes, moved_nodes}
 
 -- ---- one value
 pub still_nodes : (fits : Fraction → Type 0) (v r x : Fraction) → true ≡ is_zero r → AllFit fits (fluent_nodes (Some v) r x)
 unfolding fluent_nodes
-still_nodes fits v r x e = subst (λ (b : Bool). AllFit fits (if b then [] else node Times r x ∷ node Plus v (r *ℚ x) ∷ [])) e (fit_none fits)
+still_nodes fits v r x e = subst (λ (b : Bool). AllFit fits (if b then [] else node Times r x ∷ node Plus v (r *ℚ x) ∷ [])) e (pass_none (NodeFits fits))
 
 pub still_value : (v r x : Fraction) → true ≡ is_zero r → Some v ≡ moved_value (Some v) r x
 still_value v r x e =
@@ -31,7 +32,7 @@ unfolding fluent_nodes
 moving_nodes v r x e = ap (λ (b : Bool). if b then [] else node Times r x ∷ node Plus v (r *ℚ x) ∷ []) e
 
 pub moving_fit : (fits : Fraction → Type 0) (v r x g t : Fraction) → false ≡ is_zero r → g ≡ r *ℚ x → fits g → t ≡ v +ℚ g → fits t → AllFit fits (fluent_nodes (Some v) r x)
-unfolding AllFit
+unfolding tested.AllPass NodeFits
 moving_fit fits v r x g t e d p k q =
     subst (AllFit fits) (moving_nodes v r x e) (subst fits d p, (subst fits (k ∙ ap (λ (z : Fraction). v +ℚ z) d) q, tt))
 
@@ -39,16 +40,16 @@ pub moving_value : (v r x g t : Fraction) → g ≡ r *ℚ x → t ≡ v +ℚ g 
 moving_value v r x g t d k = ap Some (k ∙ ap (λ (z : Fraction). v +ℚ z) d)
 
 pub gain_unfit : (fits : Fraction → Type 0) (v r x : Fraction) (m : Node) → false ≡ is_zero r → (fits (r *ℚ x) → ⊥) → m ≡ node Times r x → FirstUnfit fits (fluent_nodes (Some v) r x) m
-unfolding FirstUnfit
+unfolding tested.FirstFailing NodeFits
 gain_unfit fits v r x m e h k = subst (λ (ns : List Node). FirstUnfit fits ns m) (moving_nodes v r x e) (inl (h, k))
 
 pub then_unfit : (fits : Fraction → Type 0) (v r x g : Fraction) (m : Node) → false ≡ is_zero r → g ≡ r *ℚ x → fits g → (fits (v +ℚ g) → ⊥) → m ≡ node Plus v g → FirstUnfit fits (fluent_nodes (Some v) r x) m
-unfolding FirstUnfit
+unfolding tested.FirstFailing NodeFits
 then_unfit fits v r x g m e d p h k =
     subst (λ (ns : List Node). FirstUnfit fits ns m) (moving_nodes v r x e)
     (inr (subst fits d p, inl (subst (λ (z : Fraction). fits (v +ℚ z) → ⊥) d h, k ∙ ap (node Plus v) d)))
 
-pub ruleset moving = (fit_none, still_nodes, still_value, moving_fit, moving_value, gain_unfit, then_unfit)
+pub ruleset moving = (pass_none, still_nodes, still_value, moving_fit, moving_value, gain_unfit, then_unfit)
 
 -- ---- one fluent
 pub set_fit : (fits : Fraction → Type 0) (s : State) (f : ℕ) (v : Option Fraction) (r x : Fraction) → v ≡ fluent_of s f → AllFit fits (fluent_nodes v r x) → AllFit fits (fluent_nodes (fluent_of s f) r x)
@@ -100,8 +101,8 @@ module _ (fits : Fraction → Type 0) (k : ℕ) (r : Fraction) (rates : List Fra
         size = ap (λ (s : State). length s.fluents) is ∙ sym (ap length put) ∙ length-set (done ++ v ∷ left) k w ∙ size;
         now_is = is;
         so_far = append_assoc done (w ∷ []) (moved_values left rates x) ∙ so_far;
-        fit = λ q. fit (fit_append fits _ _ b q);
-        unfit = λ m q. unfit m (unfit_right fits _ _ m b q);
+        fit = λ q. fit (pass_append (NodeFits fits) _ _ b q);
+        unfit = λ m q. unfit m (fail_right (NodeFits fits) _ _ m b q);
       }
 
   pub moves_next : (now new : State) (rate : Fraction) → Moves fits k (r ∷ rates) x now whole old → rate ≡ r → AllFit fits (fluent_nodes (fluent_of now k) rate x) → new ≡ record now { fluents = set now.fluents k (moved_value (fluent_of now k) rate x) } → Moves fits (k + 1) rates x new whole old
@@ -113,15 +114,15 @@ module _ (fits : Fraction → Type 0) (k : ℕ) (r : Fraction) (rates : List Fra
   here_unfit : (done left : List (Option Fraction)) (m : Node) → length done ≡ k → length (r ∷ rates) ≡ length left → FirstUnfit fits (fluent_nodes (unwrap_or (slice_get (done ++ left) k) None) r x) m → FirstUnfit fits (moved_nodes left (r ∷ rates) x) m
   here_unfit done [] m count same u = absurd (omega arith)
   here_unfit done (v ∷ left) m count same u =
-      unfit_left fits _ _ m (subst (λ (y : Option Fraction). FirstUnfit fits (fluent_nodes y r x) m) (at_seam done v left k count) u)
+      fail_left (NodeFits fits) _ _ m (subst (λ (y : Option Fraction). FirstUnfit fits (fluent_nodes y r x) m) (at_seam done v left k count) u)
 
   pub moves_err : (now : State) (m : Node) (rate : Fraction) → Moves fits k (r ∷ rates) x now whole old → rate ≡ r → FirstUnfit fits (fluent_nodes (fluent_of now k) rate x) m → FirstUnfit fits (moved_nodes old.fluents whole x) m
   moves_err now m rate h d u =
       h.unfit m (here_unfit h.done h.left m h.count h.same (subst (λ (s : State). FirstUnfit fits (fluent_nodes (fluent_of s k) r x) m) h.now_is (subst (λ (q : Fraction). FirstUnfit fits (fluent_nodes (fluent_of now k) q x) m) d u)))
 
 none_left : (fits : Fraction → Type 0) (left : List (Option Fraction)) (x : Fraction) → AllFit fits (moved_nodes left [] x)
-none_left fits [] x = fit_none fits
-none_left fits (v ∷ left) x = fit_none fits
+none_left fits [] x = pass_none (NodeFits fits)
+none_left fits (v ∷ left) x = pass_none (NodeFits fits)
 
 none_moved : (left : List (Option Fraction)) (x : Fraction) → moved_values left [] x ≡ left
 none_moved [] x = refl

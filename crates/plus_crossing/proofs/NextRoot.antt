@@ -10,11 +10,11 @@ use Rattle.plus_fraction.proofs.Compared.{less-compared}
 use Rattle.plus_model.specs.Terms.{Below}
 use Rattle.plus_model.specs.Value.{passes}
 use Rattle.plus_model.specs.Piece.{Piece, Missing, Crooked, Straight}
-use Rattle.plus_crossing.specs.Asked.{Ask, AllPass, FirstFailing}
+use Rattle.plus_crossing.specs.Asked.{Ask, Passes, AllPass, FirstFailing}
 use Rattle.plus_crossing.specs.Pieces.{if_straight}
 use Rattle.plus_crossing.specs.Roots.{IsRoot, root_asks}
 use Rattle.plus_crossing.specs.Next.{root_on, cross_sides, RootSides, RootOpen, Nowhere, IsLeast, IsNext, is_below, lesser}
-use Rattle.plus_crossing.proofs.Joins.{all_append, first_left, first_right, none_asks}
+use Rattle.plus_state.proofs.Testing.{pass_none, pass_append, fail_left, fail_right}
 use Rattle.plus_crossing.proofs.Meeting.{one_root}
 
 below_is : (x y : Fraction) → is_below x y ≡ true → x <ℚ y
@@ -31,30 +31,30 @@ is_below-lt x y h = ap (passes Below) (less-compared x y h)
 -- ---- one comparison
 pub cross_fail : (fits : Fraction → Type 0) (p q : Piece) (xs ys : List Ask) (t : Ask) → FirstFailing fits xs t → FirstFailing fits (cross_sides p xs q ys) t
 unfolding cross_sides
-cross_fail fits p q xs ys t h = first_left fits xs _ t h
+cross_fail fits p q xs ys t h = fail_left (Passes fits) xs _ t h
 
 pub cross_missing : (fits : Fraction → Type 0) (p q : Piece) (xs ys : List Ask) → AllPass fits xs → Missing ≡ p → AllPass fits (cross_sides p xs q ys)
 unfolding cross_sides
-cross_missing fits p q xs ys h e = all_append fits xs _ h (subst (λ p. AllPass fits (if_straight p (ys ++ root_on p q))) e (none_asks fits))
+cross_missing fits p q xs ys h e = pass_append (Passes fits) xs _ h (subst (λ p. AllPass fits (if_straight p (ys ++ root_on p q))) e (pass_none (Passes fits)))
 
 pub cross_right_fail : (fits : Fraction → Type 0) (p q : Piece) (xs ys : List Ask) (v m : Fraction) (t : Ask) → AllPass fits xs → Straight v m ≡ p → FirstFailing fits ys t → FirstFailing fits (cross_sides p xs q ys) t
 unfolding cross_sides
-cross_right_fail fits p q xs ys v m t h e k = first_right fits xs _ t h (subst (λ p. FirstFailing fits (if_straight p (ys ++ root_on p q)) t) e (first_left fits ys _ t k))
+cross_right_fail fits p q xs ys v m t h e k = fail_right (Passes fits) xs _ t h (subst (λ p. FirstFailing fits (if_straight p (ys ++ root_on p q)) t) e (fail_left (Passes fits) ys _ t k))
 
 pub cross_right_missing : (fits : Fraction → Type 0) (p q : Piece) (xs ys : List Ask) (v m : Fraction) → AllPass fits xs → Straight v m ≡ p → AllPass fits ys → Missing ≡ q → AllPass fits (cross_sides p xs q ys)
 unfolding cross_sides
-cross_right_missing fits p q xs ys v m h e k f = all_append fits xs _ h
-    (subst (λ p. AllPass fits (if_straight p (ys ++ root_on p q))) e (all_append fits ys _ k (subst (λ q. AllPass fits (root_on (Straight v m) q)) f (none_asks fits))))
+cross_right_missing fits p q xs ys v m h e k f = pass_append (Passes fits) xs _ h
+    (subst (λ p. AllPass fits (if_straight p (ys ++ root_on p q))) e (pass_append (Passes fits) ys _ k (subst (λ q. AllPass fits (root_on (Straight v m) q)) f (pass_none (Passes fits)))))
 
 pub cross_pass : (fits : Fraction → Type 0) (p q : Piece) (xs ys : List Ask) (v m w n : Fraction) → AllPass fits (root_asks v m w n) → AllPass fits xs → Straight v m ≡ p → AllPass fits ys → Straight w n ≡ q → AllPass fits (cross_sides p xs q ys)
 unfolding cross_sides
-cross_pass fits p q xs ys v m w n g h e k f = all_append fits xs _ h
-    (subst (λ p. AllPass fits (if_straight p (ys ++ root_on p q))) e (all_append fits ys _ k (subst (λ q. AllPass fits (root_on (Straight v m) q)) f g)))
+cross_pass fits p q xs ys v m w n g h e k f = pass_append (Passes fits) xs _ h
+    (subst (λ p. AllPass fits (if_straight p (ys ++ root_on p q))) e (pass_append (Passes fits) ys _ k (subst (λ q. AllPass fits (root_on (Straight v m) q)) f g)))
 
 pub cross_root_fail : (fits : Fraction → Type 0) (p q : Piece) (xs ys : List Ask) (v m w n : Fraction) (t : Ask) → FirstFailing fits (root_asks v m w n) t → AllPass fits xs → Straight v m ≡ p → AllPass fits ys → Straight w n ≡ q → FirstFailing fits (cross_sides p xs q ys) t
 unfolding cross_sides
-cross_root_fail fits p q xs ys v m w n t g h e k f = first_right fits xs _ t h
-    (subst (λ p. FirstFailing fits (if_straight p (ys ++ root_on p q)) t) e (first_right fits ys _ t k (subst (λ q. FirstFailing fits (root_on (Straight v m) q) t) f g)))
+cross_root_fail fits p q xs ys v m w n t g h e k f = fail_right (Passes fits) xs _ t h
+    (subst (λ p. FirstFailing fits (if_straight p (ys ++ root_on p q)) t) e (fail_right (Passes fits) ys _ t k (subst (λ q. FirstFailing fits (root_on (Straight v m) q) t) f g)))
 
 pub none_left : (p q : Piece) (a u : Fraction) → Missing ≡ p → IsNext (RootSides p q) a u None
 unfolding IsNext RootSides

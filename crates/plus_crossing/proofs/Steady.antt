@@ -9,7 +9,7 @@ use Rattle.plus_model.specs.Piece.{Piece, Missing, Crooked, Straight, piece, on_
 use Rattle.plus_model.specs.Live.{live, live_both, live_either}
 use Rattle.plus_state.specs.declared.term.Sign.{Sign}
 use Rattle.plus_state.specs.declared.term.Sign.TheVariants.{Plus, Minus, Times, Divide}
-use Rattle.plus_crossing.specs.Asked.{Ask, AllPass}
+use Rattle.plus_crossing.specs.Asked.{Ask, Passes, AllPass}
 use Rattle.plus_crossing.specs.Pieces.{op_asks, op_piece, asks_both, piece_asks}
 use Rattle.plus_crossing.specs.Roots.{IsRoot, meets_later, meeting_asks, root_asks}
 use Rattle.plus_crossing.specs.Laws.{PiecesTell, AnySize, OneTruthUntilRoot, OneTruthUntilNext}
@@ -19,23 +19,16 @@ use Rattle.plus_model.proofs.Search.{OneTruth, live_truth}
 use Rattle.plus_state.specs.Fits.{comparisons}
 use Rattle.plus_state.specs.Tests.{verdict, decided}
 use Rattle.plus_crossing.specs.Conds.{asks_open, asks_sides, live_asks}
-use Rattle.plus_crossing.proofs.Joins.{all_append, none_asks, numbered_pass, numbered_back}
+use Rattle.plus_state.specs.Tested as tested
+use Rattle.plus_state.specs.Asked.{NodeFits}
+use Rattle.plus_crossing.proofs.Joins.{numbered_pass, numbered_back}
+use Rattle.plus_state.proofs.Testing.{pass_none, pass_append, pass_left, pass_right}
 use Rattle.plus_crossing.specs.Next.{cross_sides, cross_asks, RootSides, RootOpen, LiveRoot, Nowhere, IsNext}
 
 abbrev pub IsLine : Piece → Type 0
 IsLine Missing = Unit {0}
 IsLine Crooked = ⊥
 IsLine (Straight v m) = Unit {0}
-
-pub all_left : (fits : Fraction → Type 0) (xs ys : List Ask) → AllPass fits (xs ++ ys) → AllPass fits xs
-unfolding AllPass
-all_left fits [] ys h = tt
-all_left fits (x ∷ xs) ys h = (h.0, all_left fits xs ys h.1)
-
-pub all_right : (fits : Fraction → Type 0) (xs ys : List Ask) → AllPass fits (xs ++ ys) → AllPass fits ys
-unfolding AllPass
-all_right fits [] ys h = h
-all_right fits (x ∷ xs) ys h = all_right fits xs ys h.1
 
 product_line : (x y z : Fraction) (b c : Bool) → (b || c) ≡ true → IsLine (if b then Straight x y else if c then Straight x z else Crooked)
 product_line x y z true c e = tt
@@ -48,7 +41,7 @@ quotient_line x y true false e = tt
 quotient_line x y false c e = cc
 
 op_line : (fits : Fraction → Type 0) (op : Sign) (v m w n : Fraction) → AllPass fits (op_asks op v m w n) → IsLine (op_piece op v m w n)
-unfolding op_asks op_piece AllPass
+unfolding op_asks op_piece tested.AllPass Passes
 op_line fits Plus v m w n h = tt
 op_line fits Minus v m w n h = tt
 op_line fits Times v m w n h = product_line (v *ℚ w) (v *ℚ n) (m *ℚ w) (is_zero m) (is_zero n) h.0
@@ -57,10 +50,10 @@ op_line fits Divide v m w n h = quotient_line (v /ℚ w) (m /ℚ w) (is_zero n) 
 both_line : (fits : Fraction → Type 0) (op : Sign) (p q : Piece) (xs ys : List Ask) → (AllPass fits xs → IsLine p) → (AllPass fits ys → IsLine q) → AllPass fits (asks_both op p xs q ys) → IsLine (on_pieces (op_piece op) p q)
 unfolding asks_both
 both_line fits op Missing q xs ys f g h = tt
-both_line fits op Crooked q xs ys f g h = f (all_left fits xs _ h)
+both_line fits op Crooked q xs ys f g h = f (pass_left (Passes fits) xs _ h)
 both_line fits op (Straight v m) Missing xs ys f g h = tt
-both_line fits op (Straight v m) Crooked xs ys f g h = g (all_left fits ys _ (all_right fits xs _ h))
-both_line fits op (Straight v m) (Straight w n) xs ys f g h = op_line fits op v m w n (all_right fits ys _ (all_right fits xs _ h))
+both_line fits op (Straight v m) Crooked xs ys f g h = g (pass_left (Passes fits) ys _ (pass_right (Passes fits) xs _ h))
+both_line fits op (Straight v m) (Straight w n) xs ys f g h = op_line fits op v m w n (pass_right (Passes fits) ys _ (pass_right (Passes fits) xs _ h))
 
 fluent_line : (o : Option Fraction) (m : Fraction) → IsLine (straight_fluent o m)
 fluent_line None m = tt
@@ -78,9 +71,9 @@ is_line fits (Quotient a b) s rs h = both_line fits Divide (piece a s rs) (piece
 sides_free : (fits : Fraction → Type 0) (p q : Piece) (xs ys : List Ask) (a b : Fraction) → ((x : Fraction) → a <ℚ x → whole (pos 0) <ℚ x) → (AllPass fits xs → IsLine p) → (AllPass fits ys → IsLine q) → AllPass fits (cross_sides p xs q ys) → ((x : Fraction) → a <ℚ x → x <ℚ b → RootSides p q x → ⊥) → NoRootSides p q a b
 unfolding cross_sides RootSides
 sides_free fits Missing q xs ys a b up f g h k = tt
-sides_free fits Crooked q xs ys a b up f g h k = f (all_left fits xs _ h)
+sides_free fits Crooked q xs ys a b up f g h k = f (pass_left (Passes fits) xs _ h)
 sides_free fits (Straight v m) Missing xs ys a b up f g h k = tt
-sides_free fits (Straight v m) Crooked xs ys a b up f g h k = g (all_left fits ys _ (all_right fits xs _ h))
+sides_free fits (Straight v m) Crooked xs ys a b up f g h k = g (pass_left (Passes fits) ys _ (pass_right (Passes fits) xs _ h))
 sides_free fits (Straight v m) (Straight w n) xs ys a b up f g h k = λ r i j d e. k r i j (record { apart = d; above = up r i; meet = e })
 
 decided_free : (l : Condition) (s : State) (rs : List Fraction) (a b : Fraction) (t : Bool) → verdict l ≡ Some t → NoRoot l s rs a b
@@ -116,7 +109,7 @@ either_way : (fits : Fraction → Type 0) (o : Option Bool) (xs ys : List Ask) (
 unfolding asks_open RootOpen
 either_way fits (Some t) xs ys P Q a b A B G decided join f g h k = decided t refl
 either_way fits None xs ys P Q a b A B G decided join f g h k =
-    join (f (all_left fits xs ys h) (λ x i j p. k x i j (inl p))) (g (all_right fits xs ys h) (λ x i j q. k x i j (inr q)))
+    join (f (pass_left (Passes fits) xs ys h) (λ x i j p. k x i j (inl p))) (g (pass_right (Passes fits) xs ys h) (λ x i j q. k x i j (inr q)))
 
 -- the hypothesis of the constancy law
 pub no_root_live : (fits : Fraction → Type 0) (k : ℕ) (c : Condition) (s : State) (rs : List Fraction) (a b : Fraction) → ((x : Fraction) → a <ℚ x → whole (pos 0) <ℚ x) → AllPass fits (cross_asks k c s rs) → ((x : Fraction) → a <ℚ x → x <ℚ b → LiveRoot c s rs x → ⊥) → NoRoot (live c s) s rs a b
@@ -135,7 +128,7 @@ no_root_live fits n (Compare t l r positive) s rs a b up h k =
 
 -- ---- numbers of any size: only the linearity tests matter, and a root asks none
 meeting_passes : (b : Bool) (v m w n : Fraction) → AllPass AnySize (if b then meeting_asks v m w n else [])
-unfolding AllPass
+unfolding tested.AllPass Passes NodeFits
 meeting_passes true v m w n = (tt, (tt, (tt, tt)))
 meeting_passes false v m w n = tt
 
@@ -147,15 +140,15 @@ cross_side : (p q : Piece) (xs ys : List Ask) → AllPass AnySize (asks_sides p 
 unfolding asks_sides cross_sides
 cross_side Missing q xs ys h = h
 cross_side Crooked q xs ys h = h
-cross_side (Straight v m) Missing xs ys h = all_append AnySize xs _ (all_left AnySize xs ys h) (all_append AnySize ys [] (all_right AnySize xs ys h) (none_asks AnySize))
-cross_side (Straight v m) Crooked xs ys h = all_append AnySize xs _ (all_left AnySize xs ys h) (all_append AnySize ys [] (all_right AnySize xs ys h) (none_asks AnySize))
+cross_side (Straight v m) Missing xs ys h = pass_append (Passes AnySize) xs _ (pass_left (Passes AnySize) xs ys h) (pass_append (Passes AnySize) ys [] (pass_right (Passes AnySize) xs ys h) (pass_none (Passes AnySize)))
+cross_side (Straight v m) Crooked xs ys h = pass_append (Passes AnySize) xs _ (pass_left (Passes AnySize) xs ys h) (pass_append (Passes AnySize) ys [] (pass_right (Passes AnySize) xs ys h) (pass_none (Passes AnySize)))
 cross_side (Straight v m) (Straight w n) xs ys h =
-    all_append AnySize xs _ (all_left AnySize xs ys h) (all_append AnySize ys _ (all_right AnySize xs ys h) (root_passes v m w n))
+    pass_append (Passes AnySize) xs _ (pass_left (Passes AnySize) xs ys h) (pass_append (Passes AnySize) ys _ (pass_right (Passes AnySize) xs ys h) (root_passes v m w n))
 
 cross_open : (o : Option Bool) (xs ys us vs : List Ask) → (AllPass AnySize xs → AllPass AnySize us) → (AllPass AnySize ys → AllPass AnySize vs) → AllPass AnySize (asks_open o xs ys) → AllPass AnySize (asks_open o us vs)
 unfolding asks_open
 cross_open (Some t) xs ys us vs f g h = h
-cross_open None xs ys us vs f g h = all_append AnySize us vs (f (all_left AnySize xs ys h)) (g (all_right AnySize xs ys h))
+cross_open None xs ys us vs f g h = pass_append (Passes AnySize) us vs (f (pass_left (Passes AnySize) xs ys h)) (g (pass_right (Passes AnySize) xs ys h))
 
 cross_linear : (k : ℕ) (c : Condition) (s : State) (rs : List Fraction) → AllPass AnySize (live_asks k c s rs) → AllPass AnySize (cross_asks k c s rs)
 cross_linear k Always s rs h = h

@@ -12,18 +12,19 @@ use Rattle.plus_model.proofs.Alive.{live_holds}
 use Rattle.plus_model.proofs.Truth.{after_tells}
 use Rattle.plus_state.specs.Fits.{comparisons}
 use Rattle.plus_state.specs.Tests.{verdict, decided}
-use Rattle.plus_crossing.specs.Asked.{Ask, AllPass}
+use Rattle.plus_crossing.specs.Asked.{Ask, Passes, AllPass}
 use Rattle.plus_crossing.specs.Pieces.{piece_asks}
 use Rattle.plus_crossing.specs.Conds.{asks_open, asks_sides, live_asks}
 use Rattle.plus_crossing.proofs.Joins.{numbered_back}
-use Rattle.plus_crossing.proofs.Steady.{IsLine, all_left, all_right, is_line}
+use Rattle.plus_state.proofs.Testing.{pass_left, pass_right}
+use Rattle.plus_crossing.proofs.Steady.{IsLine, is_line}
 
 straight_sides : (fits : Fraction → Type 0) (p q : Piece) (xs ys : List Ask) → (AllPass fits xs → IsLine p) → (AllPass fits ys → IsLine q) → AllPass fits (asks_sides p xs ys) → StraightSides p q
 unfolding asks_sides
 straight_sides fits Missing q xs ys f g h = tt
-straight_sides fits Crooked q xs ys f g h = f (all_left fits xs _ h)
+straight_sides fits Crooked q xs ys f g h = f (pass_left (Passes fits) xs _ h)
 straight_sides fits (Straight v m) Missing xs ys f g h = tt
-straight_sides fits (Straight v m) Crooked xs ys f g h = g (all_right fits xs _ h)
+straight_sides fits (Straight v m) Crooked xs ys f g h = g (pass_right (Passes fits) xs _ h)
 straight_sides fits (Straight v m) (Straight w n) xs ys f g h = tt
 
 verdict_straight : (l : Condition) (s : State) (rs : List Fraction) (t : Bool) → verdict l ≡ Some t → IsStraight l s rs
@@ -56,7 +57,7 @@ straight_atom false s rs = tt
 either_way : (fits : Fraction → Type 0) (o : Option Bool) (xs ys : List Ask) (A B G : Type 0) → ((t : Bool) → o ≡ Some t → G) → (A → B → G) → (AllPass fits xs → A) → (AllPass fits ys → B) → AllPass fits (asks_open o xs ys) → G
 unfolding asks_open
 either_way fits (Some t) xs ys A B G known join f g h = known t refl
-either_way fits None xs ys A B G known join f g h = join (f (all_left fits xs ys h)) (g (all_right fits xs ys h))
+either_way fits None xs ys A B G known join f g h = join (f (pass_left (Passes fits) xs ys h)) (g (pass_right (Passes fits) xs ys h))
 
 pub straight_live : (fits : Fraction → Type 0) (k : ℕ) (c : Condition) (s : State) (rs : List Fraction) → AllPass fits (live_asks k c s rs) → IsStraight (live c s) s rs
 unfolding decided

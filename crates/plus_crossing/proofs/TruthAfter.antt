@@ -10,12 +10,12 @@ use Rattle.plus_model.specs.Running.{moved, JustAfter}
 use Rattle.plus_model.specs.Piece.{Piece, Missing, Crooked, Straight, piece, then_slopes, after_sides, after, StraightSides, IsStraight}
 use Rattle.plus_model.proofs.Motion.{between_both}
 use Rattle.plus_model.proofs.Truth.{TruthAfter as Soon, after_is}
-use Rattle.plus_crossing.specs.Asked.{Ask, AllPass, FirstFailing}
+use Rattle.plus_crossing.specs.Asked.{Ask, Passes, AllPass, FirstFailing}
 use Rattle.plus_crossing.specs.Pieces.{if_straight}
 use Rattle.plus_state.specs.Tests.{decided, pair, unit, join}
 use Rattle.plus_crossing.specs.Conds.{asks_sides, TruthAfter}
 use Rattle.plus_crossing.proofs.Deciding.{decided_along}
-use Rattle.plus_crossing.proofs.Joins.{all_append, first_left, first_right, none_asks}
+use Rattle.plus_state.proofs.Testing.{pass_none, pass_append, fail_left, fail_right}
 
 -- ---- a comparison
 soon : (s : State) (rs : List Fraction) (c : Condition) (b z : Bool) → z ≡ b → Soon s rs c b → TruthAfter s rs c z
@@ -38,19 +38,19 @@ truth_lines s rs t l r positive z v m w n e f d = truth_by s rs t l r positive z
 
 pub sides_fail : (fits : Fraction → Type 0) (p : Piece) (xs ys : List Ask) (t : Ask) → FirstFailing fits xs t → FirstFailing fits (asks_sides p xs ys) t
 unfolding asks_sides
-sides_fail fits p xs ys t h = first_left fits xs _ t h
+sides_fail fits p xs ys t h = fail_left (Passes fits) xs _ t h
 
 pub sides_missing : (fits : Fraction → Type 0) (p : Piece) (xs ys : List Ask) → AllPass fits xs → Missing ≡ p → AllPass fits (asks_sides p xs ys)
 unfolding asks_sides
-sides_missing fits p xs ys h e = all_append fits xs _ h (subst (λ p. AllPass fits (if_straight p ys)) e (none_asks fits))
+sides_missing fits p xs ys h e = pass_append (Passes fits) xs _ h (subst (λ p. AllPass fits (if_straight p ys)) e (pass_none (Passes fits)))
 
 pub sides_right_fail : (fits : Fraction → Type 0) (p : Piece) (xs ys : List Ask) (v m : Fraction) (t : Ask) → AllPass fits xs → Straight v m ≡ p → FirstFailing fits ys t → FirstFailing fits (asks_sides p xs ys) t
 unfolding asks_sides
-sides_right_fail fits p xs ys v m t h e k = first_right fits xs _ t h (subst (λ p. FirstFailing fits (if_straight p ys) t) e k)
+sides_right_fail fits p xs ys v m t h e k = fail_right (Passes fits) xs _ t h (subst (λ p. FirstFailing fits (if_straight p ys) t) e k)
 
 pub sides_pass : (fits : Fraction → Type 0) (p : Piece) (xs ys : List Ask) (v m : Fraction) → AllPass fits xs → Straight v m ≡ p → AllPass fits ys → AllPass fits (asks_sides p xs ys)
 unfolding asks_sides
-sides_pass fits p xs ys v m h e k = all_append fits xs _ h (subst (λ p. AllPass fits (if_straight p ys)) e k)
+sides_pass fits p xs ys v m h e k = pass_append (Passes fits) xs _ h (subst (λ p. AllPass fits (if_straight p ys)) e k)
 
 pub ruleset compares = (truth_left_missing, truth_right_missing, truth_lines, sides_fail, sides_missing, sides_right_fail, sides_pass)
 

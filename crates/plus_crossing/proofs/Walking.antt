@@ -7,10 +7,11 @@ use Rattle.plus_model.specs.Value.{signed, atom_of}
 use Rattle.plus_state.specs.Fits.{Fits, comparisons}
 use Rattle.plus_state.specs.Tests.{decided, pair, unit, joined, join, join_decided}
 use Rattle.plus_state.proofs.TestsLemmas.{decided_pair, decided_atom, decided_compare, decided_unit, fits_head, fits_tail, fits_all, fits_any, undecided_all, undecided_any}
-use Rattle.plus_crossing.specs.Asked.{Ask, AllPass, FirstFailing, number, numbered}
+use Rattle.plus_crossing.specs.Asked.{Ask, Passes, AllPass, FirstFailing, number, numbered}
 use Rattle.plus_crossing.specs.Conds.{if_open, asks_open, live_tests, TruthAfter}
 use Rattle.plus_crossing.specs.Next.{RootSides, RootOpen, Nowhere, LiveRoot, IsNext, lesser}
-use Rattle.plus_crossing.proofs.Joins.{all_append, first_left, first_right, none_asks, numbered_pass, numbered_first}
+use Rattle.plus_crossing.proofs.Joins.{numbered_pass, numbered_first}
+use Rattle.plus_state.proofs.Testing.{pass_none, pass_append, fail_left, fail_right}
 use Rattle.plus_crossing.proofs.TruthAfter.{truth_decided, truth_pair, truth_unit}
 use Rattle.plus_crossing.proofs.NextRoot.{SoFar, so_far_start, so_far_next, so_far_end, next_none}
 
@@ -157,18 +158,18 @@ module _ (on : Expression → Expression → List Ask) (s : State) where
           undecided = tail_open all c (joined all rest) h.undecided;
           counted = add_assoc k (comparisons c) (comparisons (joined all rest)) ∙ numbers;
           few = h.few;
-          pass = λ r. h.pass (subst (AllPass fits) (sym asked_here) (all_append fits _ _ a r));
-          stop = λ m u. h.stop m (subst (λ (ts : List Ask). FirstFailing fits ts m) (sym asked_here) (first_right fits _ _ m a u));
+          pass = λ r. h.pass (subst (AllPass fits) (sym asked_here) (pass_append (Passes fits) _ _ a r));
+          stop = λ m u. h.stop m (subst (λ (ts : List Ask). FirstFailing fits ts m) (sym asked_here) (fail_right (Passes fits) _ _ m a u));
         })
 
     pub walking_stop : (m : Ask) → FirstFailing fits (live_tests on k c s) m → FirstFailing fits (live_tests on from (joined all whole) s) m
-    walking_stop m u = h.stop m (subst (λ (ts : List Ask). FirstFailing fits ts m) (sym asked_here) (first_left fits _ _ m u))
+    walking_stop m u = h.stop m (subst (λ (ts : List Ask). FirstFailing fits ts m) (sym asked_here) (fail_left (Passes fits) _ _ m u))
 
   pub walking_end : (fits : Fraction → Type 0) (all : Bool) (from k : ℕ) (whole : List Condition) → Walking fits all from k [] whole → AllPass fits (live_tests on from (joined all whole) s)
-  walking_end fits all from k whole h = h.pass (subst (AllPass fits) (sym (tests_unit all k)) (none_asks fits))
+  walking_end fits all from k whole h = h.pass (subst (AllPass fits) (sym (tests_unit all k)) (pass_none (Passes fits)))
 
   pub decided_pass : (fits : Fraction → Type 0) (k : ℕ) (c : Condition) (b : Bool) → Some b ≡ decided c s → AllPass fits (live_tests on k c s)
-  decided_pass fits k c b e = subst (AllPass fits) (sym (decided_none k c b e)) (none_asks fits)
+  decided_pass fits k c b e = subst (AllPass fits) (sym (decided_none k c b e)) (pass_none (Passes fits))
 
 -- ---- truths just after
 pub record Truths (rs : List Fraction) (all truth : Bool) (rest whole : List Condition) (s : State) : Type 0 where
@@ -282,6 +283,6 @@ at_comparison fits k ts m h =
     let one : suc k ≡ k + 1 = omega arith in
     subst (λ (i : ℕ). FirstFailing fits (numbered (suc k) ts) (number i m)) one (numbered_first fits (suc k) ts m h)
 
-pub ruleset afters = (none_asks, truth_decided, truth_atom, decided_pass, numbered_pass, at_comparison)
+pub ruleset afters = (pass_none, truth_decided, truth_atom, decided_pass, numbered_pass, at_comparison)
 
-pub ruleset nexts = (none_asks, next_nowhere, next_decided, decided_pass, numbered_pass, at_comparison)
+pub ruleset nexts = (pass_none, next_nowhere, next_decided, decided_pass, numbered_pass, at_comparison)

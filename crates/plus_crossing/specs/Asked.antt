@@ -1,10 +1,11 @@
 -- The tests that an evaluation along rates asks, in order, and the first that fails.
-use Rattle.std.specs.Prelude.{◌≡◌, ◌⊎◌, ℕ, Bool, true, false, List, [], ◌∷◌, map, Result, MatchResult}
+use Rattle.std.specs.Prelude.{◌≡◌, ℕ, Bool, true, false, List, map, Result, MatchResult}
 use Rattle.plus_fraction.specs.Fraction.{Fraction}
 use Rattle.plus_state.specs.declared.term.Sign.{Sign}
 use Rattle.plus_state.specs.declared.term.Overflow.{Overflow}
 use Rattle.plus_state.specs.Node.{Node}
-use Rattle.plus_state.specs.Asked.{result_of, node}
+use Rattle.plus_state.specs.Tested as tested
+use Rattle.plus_state.specs.Asked.{result_of, node, NodeFits}
 use Rattle.plus_state.specs.View.{overflow_of}
 use Rattle.plus_crossing.specs.declared.node.PieceStop.{PieceStop}
 use Rattle.plus_crossing.specs.declared.node.PieceStop.TheVariants.{Number, Nonlinear}
@@ -17,19 +18,17 @@ pub data Ask : Type 0 where
   asks : Node → Ask
   straight : ℕ → Bool → Ask
 
-abbrev pub Passes : (Fraction → Type 0) → Ask → Type 0
-Passes fits (asks n) = fits (result_of n.sign n.left n.right)
+unfoldable pub Passes : (Fraction → Type 0) → Ask → Type 0
+Passes fits (asks n) = NodeFits fits n
 Passes fits (straight k b) = b ≡ true
 
 -- no test fails
-unfoldable pub AllPass : (Fraction → Type 0) → List Ask → Type 0
-AllPass fits [] = Unit {0}
-AllPass fits (t ∷ ts) = Passes fits t × AllPass fits ts
+abbrev pub AllPass : (Fraction → Type 0) → List Ask → Type 0
+AllPass fits ts = tested.AllPass (Passes fits) ts
 
 -- the first test that fails
-unfoldable pub FirstFailing : (Fraction → Type 0) → List Ask → Ask → Type 0
-FirstFailing fits [] m = ⊥
-FirstFailing fits (t ∷ ts) m = ((Passes fits t → ⊥) × (m ≡ t)) ⊎ (Passes fits t × FirstFailing fits ts m)
+abbrev pub FirstFailing : (Fraction → Type 0) → List Ask → Ask → Type 0
+FirstFailing fits ts m = tested.FirstFailing (Passes fits) ts m
 
 -- the test that a stop names
 abbrev pub stop_of : {Q : Type 0} → (Q → Fraction) → PieceStop Q → Ask

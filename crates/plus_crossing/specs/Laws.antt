@@ -1,11 +1,11 @@
--- What a piece tells of the value, the constancy law, and that the first test that fails is one.
+-- What a piece tells of the value, and the constancy law.
 use Rattle.std.specs.Prelude.{◌≡◌, List, Option, Some, None, unwrap_or, pos}
 use Rattle.plus_fraction.specs.Fraction.{Fraction, whole, ◌+ℚ◌, ◌*ℚ◌, ◌<ℚ◌, ◌≤ℚ◌}
 use Rattle.plus_model.specs.Terms.{Expression, Condition, State}
 use Rattle.plus_model.specs.Value.{value, holds}
 use Rattle.plus_model.specs.Running.{moved}
 use Rattle.plus_model.specs.Piece.{Missing, Straight, piece}
-use Rattle.plus_crossing.specs.Asked.{Ask, AllPass, FirstFailing}
+use Rattle.plus_crossing.specs.Asked.{AllPass}
 use Rattle.plus_crossing.specs.Conds.{live_asks}
 use Rattle.plus_crossing.specs.Next.{cross_asks, LiveRoot, IsNext}
 
@@ -37,8 +37,3 @@ OneTruthUntilNext fits =
     (c : Condition) (s : State) (rs : List Fraction) (a u : Fraction) (next : Option Fraction)
     → whole (pos 0) ≤ℚ a → AllPass fits (cross_asks 0 c s rs) → IsNext (LiveRoot c s rs) a u next
     → (x y : Fraction) → a <ℚ x → x <ℚ unwrap_or next u → a <ℚ y → y <ℚ unwrap_or next u → holds c (moved s rs x) ≡ holds c (moved s rs y)
-
--- one test is the first that fails, and none is where all pass
-pub record OneTest (fits : Fraction → Type 0) : Type 0 where
-  pub one : (ts : List Ask) (m k : Ask) → FirstFailing fits ts m → FirstFailing fits ts k → m ≡ k
-  pub none : (ts : List Ask) (m : Ask) → AllPass fits ts → FirstFailing fits ts m → ⊥

@@ -1,5 +1,7 @@
 // Laws over the definitions alone.
-ghost use Rattle.plus_crossing.specs.Laws.{PiecesTell, OneTruthUntilRoot, OneTruthUntilNext, OneTest};
+ghost use Rattle.plus_crossing.specs.Laws.{PiecesTell, OneTruthUntilRoot, OneTruthUntilNext};
+ghost use Rattle.plus_state.specs.Tested.{OneTest};
+ghost use Rattle.plus_crossing.specs.Asked.{Passes};
 
 use plus_number::exact::Exact;
 
@@ -24,5 +26,5 @@ pub fn one_truth_until_next<Q: Exact>()
 
 /// One test at most is the first that fails, and where all pass there is none.
 pub fn one_test<Q: Exact>()
-    ensures { OneTest Q.fits }
+    ensures { OneTest (Passes Q.fits) }
 {}

@@ -23,7 +23,7 @@ pub struct Linear<Q> {
     pub slope: Q,
 }
 
-#[tactic(auto, using(crate::proofs::Ops::ops), unfolding(crate::specs::Asked::AllPass, crate::specs::Asked::FirstFailing, crate::specs::Pieces::op_asks, crate::specs::Pieces::op_piece))]
+#[tactic(auto, using(crate::proofs::Ops::ops), unfolding(plus_state::specs::Tested::AllPass, plus_state::specs::Tested::FirstFailing, plus_state::specs::Asked::NodeFits, crate::specs::Asked::Passes, crate::specs::Pieces::op_asks, crate::specs::Pieces::op_piece))]
 fn sum<Q: Exact>(x: Linear<Q>, y: Linear<Q>) -> Result<Option<Linear<Q>>, PieceStop<Q>>
     ensures { Worked Q.value Q.fits
         (op_piece Sign.Plus (Q.value x.value) (Q.value x.slope) (Q.value y.value) (Q.value y.slope))
@@ -35,7 +35,7 @@ fn sum<Q: Exact>(x: Linear<Q>, y: Linear<Q>) -> Result<Option<Linear<Q>>, PieceS
     Ok(Some(Linear { value, slope }))
 }
 
-#[tactic(auto, using(crate::proofs::Ops::ops), unfolding(crate::specs::Asked::AllPass, crate::specs::Asked::FirstFailing, crate::specs::Pieces::op_asks, crate::specs::Pieces::op_piece))]
+#[tactic(auto, using(crate::proofs::Ops::ops), unfolding(plus_state::specs::Tested::AllPass, plus_state::specs::Tested::FirstFailing, plus_state::specs::Asked::NodeFits, crate::specs::Asked::Passes, crate::specs::Pieces::op_asks, crate::specs::Pieces::op_piece))]
 fn difference<Q: Exact>(x: Linear<Q>, y: Linear<Q>) -> Result<Option<Linear<Q>>, PieceStop<Q>>
     ensures { Worked Q.value Q.fits
         (op_piece Sign.Minus (Q.value x.value) (Q.value x.slope) (Q.value y.value) (Q.value y.slope))
@@ -47,7 +47,7 @@ fn difference<Q: Exact>(x: Linear<Q>, y: Linear<Q>) -> Result<Option<Linear<Q>>,
     Ok(Some(Linear { value, slope }))
 }
 
-#[tactic(auto, using(crate::proofs::Ops::ops), unfolding(crate::specs::Asked::AllPass, crate::specs::Asked::FirstFailing, crate::specs::Pieces::op_asks, crate::specs::Pieces::op_piece))]
+#[tactic(auto, using(crate::proofs::Ops::ops), unfolding(plus_state::specs::Tested::AllPass, plus_state::specs::Tested::FirstFailing, plus_state::specs::Asked::NodeFits, crate::specs::Asked::Passes, crate::specs::Pieces::op_asks, crate::specs::Pieces::op_piece))]
 fn product<Q: Exact>(x: Linear<Q>, y: Linear<Q>) -> Result<Option<Linear<Q>>, PieceStop<Q>>
     ensures { Worked Q.value Q.fits
         (op_piece Sign.Times (Q.value x.value) (Q.value x.slope) (Q.value y.value) (Q.value y.slope))
@@ -73,7 +73,7 @@ fn product<Q: Exact>(x: Linear<Q>, y: Linear<Q>) -> Result<Option<Linear<Q>>, Pi
     Err(PieceStop::Nonlinear)
 }
 
-#[tactic(auto, using(crate::proofs::Ops::ops), unfolding(crate::specs::Asked::AllPass, crate::specs::Asked::FirstFailing, crate::specs::Pieces::op_asks, crate::specs::Pieces::op_piece))]
+#[tactic(auto, using(crate::proofs::Ops::ops), unfolding(plus_state::specs::Tested::AllPass, plus_state::specs::Tested::FirstFailing, plus_state::specs::Asked::NodeFits, crate::specs::Asked::Passes, crate::specs::Pieces::op_asks, crate::specs::Pieces::op_piece))]
 fn quotient<Q: Exact>(x: Linear<Q>, y: Linear<Q>) -> Result<Option<Linear<Q>>, PieceStop<Q>>
     ensures { Worked Q.value Q.fits
         (op_piece Sign.Divide (Q.value x.value) (Q.value x.slope) (Q.value y.value) (Q.value y.slope))

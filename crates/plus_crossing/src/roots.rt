@@ -19,7 +19,7 @@ fn meets_later<Q: Exact>(x: Linear<Q>, y: Linear<Q>) -> bool
 }
 
 // The root of two lines that meet above 0.
-#[tactic(auto, using(crate::proofs::Meeting::meeting), unfolding(crate::specs::Asked::AllPass, crate::specs::Asked::FirstFailing))]
+#[tactic(auto, using(crate::proofs::Meeting::meeting), unfolding(plus_state::specs::Tested::AllPass, plus_state::specs::Tested::FirstFailing, plus_state::specs::Asked::NodeFits, crate::specs::Asked::Passes))]
 fn meeting<Q: Exact>(x: Linear<Q>, y: Linear<Q>) -> Result<Q, PieceStop<Q>>
     requires { meets_later_in (Q.value x.value) (Q.value x.slope) (Q.value y.value) (Q.value y.slope) ≡ true }
     ensures { MeetingAnswers Q.value Q.fits (Q.value x.value) (Q.value x.slope) (Q.value y.value) (Q.value y.slope) result }
@@ -31,7 +31,7 @@ fn meeting<Q: Exact>(x: Linear<Q>, y: Linear<Q>) -> Result<Q, PieceStop<Q>>
 }
 
 // The root of two lines above 0, or the first node that does not fit.
-#[tactic(auto, using(crate::proofs::Meeting::answers), unfolding(crate::specs::Asked::AllPass))]
+#[tactic(auto, using(crate::proofs::Meeting::answers), unfolding(plus_state::specs::Tested::AllPass))]
 pub fn root<Q: Exact>(x: Linear<Q>, y: Linear<Q>) -> Result<Option<Q>, PieceStop<Q>>
     ensures { RootAnswers Q.value Q.fits (Q.value x.value) (Q.value x.slope) (Q.value y.value) (Q.value y.slope) result }
 {

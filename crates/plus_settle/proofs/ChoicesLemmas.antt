@@ -13,16 +13,15 @@ use Rattle.plus_model.specs.Running.{JustAfter, GoesOn, holding}
 use Rattle.plus_model.proofs.Decide.{rising-numbers, place_of, in_numbers}
 use Rattle.plus_state.specs.Fits.{ProcessFits}
 use Rattle.plus_state.specs.Node.{Node}
-use Rattle.plus_state.specs.Asked.{AllFit, FirstUnfit}
+use Rattle.plus_state.specs.Asked.{AllFit, FirstUnfit, NodeFits}
 use Rattle.plus_state.specs.Tests.{tests_of}
-use Rattle.plus_state.proofs.AskedLemmas.{fit_append, unfit_left, unfit_right, fit_none}
 use Rattle.plus_settle.specs.declared.stops.GoStop.{GoStop}
 use Rattle.plus_settle.specs.declared.stops.GoStop.TheVariants as go
-use Rattle.plus_settle.specs.Steps.{SettleStep, AllPass, FirstStop}
+use Rattle.plus_settle.specs.Steps.{SettleStep, AllPass, FirstStop, Passes}
 use Rattle.plus_settle.specs.Members.{AreMembers, soon}
 use Rattle.plus_settle.specs.Confirms.{soon_steps, GoStops}
 use Rattle.plus_settle.specs.Settles.{condition_nodes, chosen_steps, running_soon, ChosenStops, of_go}
-use Rattle.plus_settle.proofs.StepsLemmas.{pass_none, pass_append, stop_left, stop_right}
+use Rattle.plus_state.proofs.Testing.{pass_none, pass_append, pass_one, fail_left, fail_right, fail_one, fail_here, carry_pass, carry_fail}
 
 choose : (found : List ℕ) (k : ℕ) (b : Bool) (more : List ℕ) → (found ++ (if b then k ∷ [] else [])) ++ more ≡ found ++ (if b then k ∷ more else more)
 choose found k true more = append_assoc found (k ∷ []) more
@@ -43,7 +42,7 @@ module _ (fits : Fraction → Type 0) (found : List ℕ) (k : ℕ) (p : Process)
   gathering_inside = All-head (ProcessFits (length s.atoms) (length s.fluents)) p rest h.inside
 
   pub gathering_err : (m : Node) → FirstUnfit fits (tests_of p.condition s) m → FirstUnfit fits (condition_nodes whole s) m
-  gathering_err m u = h.unfit m (unfit_left fits _ _ m u)
+  gathering_err m u = h.unfit m (fail_left (NodeFits fits) _ _ m u)
 
   pub gathering_next : (b : Bool) (new : List ℕ) → AllFit fits (tests_of p.condition s) → b ≡ holds p.condition s → new ≡ found ++ (if b then k ∷ [] else []) → Gathering fits new (k + 1) rest whole s
   gathering_next b new a d n =
@@ -52,12 +51,12 @@ module _ (fits : Fraction → Type 0) (found : List ℕ) (k : ℕ) (p : Process)
       subst (λ (i : ℕ). Gathering fits new i rest whole s) one (record {
         inside = All-tail (ProcessFits (length s.atoms) (length s.fluents)) p rest h.inside;
         so_far = ap (λ (x : List ℕ). x ++ more) n ∙ choose found k b more ∙ ap (λ (c : Bool). found ++ (if c then k ∷ more else more)) d ∙ h.so_far;
-        fit = λ r. h.fit (fit_append fits _ _ a r);
-        unfit = λ m u. h.unfit m (unfit_right fits _ _ m a u);
+        fit = λ r. h.fit (pass_append (NodeFits fits) _ _ a r);
+        unfit = λ m u. h.unfit m (fail_right (NodeFits fits) _ _ m a u);
       })
 
 pub gathering_end : (fits : Fraction → Type 0) (found : List ℕ) (k : ℕ) (P : Problem) (s : State) → Gathering fits found k [] P.processes s → AllFit fits (condition_nodes P.processes s) × (found ≡ holding P s)
-gathering_end fits found k P s h = (h.fit (fit_none fits), sym (append-nil found) ∙ h.so_far)
+gathering_end fits found k P s h = (h.fit (pass_none (NodeFits fits)), sym (append-nil found) ∙ h.so_far)
 
 -- ---- which hold just after
 pub record Choosing (fits : Fraction → Type 0) (P : Problem) (found : List ℕ) (k : ℕ) (rest : List Process) (s : State) (rs : List Fraction) : Type 0 where
@@ -82,8 +81,8 @@ module _ (fits : Fraction → Type 0) (P : Problem) (found : List ℕ) (k : ℕ)
   choosing_inside = All-head (ProcessFits (length s.atoms) (length s.fluents)) p rest h.inside
 
   pub choosing_stops : {Q : Type 0} (v : Q → Fraction) (e : GoStop Q) → GoStops v fits (soon_steps k p s rs) e → ChosenStops v fits (chosen_steps 0 P.processes s rs) (of_go e)
-  choosing_stops v (go.Number o) u = h.stop _ (stop_left fits _ _ _ u)
-  choosing_stops v (go.Nonlinear q c) u = h.stop _ (stop_left fits _ _ _ u)
+  choosing_stops v (go.Number o) u = h.stop _ (fail_left (Passes fits) _ _ _ u)
+  choosing_stops v (go.Nonlinear q c) u = h.stop _ (fail_left (Passes fits) _ _ _ u)
 
   same_process : (j : ℕ) (q : Process) → j ≡ k → slice_get P.processes k ≡ Some p → slice_get P.processes j ≡ Some q → p ≡ q
   same_process j q d e f = let g : slice_get P.processes j ≡ slice_get P.processes k = ap (slice_get P.processes) d in cc
@@ -95,8 +94,8 @@ module _ (fits : Fraction → Type 0) (P : Problem) (found : List ℕ) (k : ℕ)
       subst (λ (i : ℕ). Choosing fits P new i rest s rs) one (record {
         inside = All-tail (ProcessFits (length s.atoms) (length s.fluents)) p rest h.inside;
         so_far = ap (λ (x : List ℕ). x ++ more) n ∙ choose found k b more ∙ ap (λ (c : Bool). found ++ (if c then k ∷ more else more)) d ∙ h.so_far;
-        pass = λ r. h.pass (pass_append fits _ _ a r);
-        stop = λ m u. h.stop m (stop_right fits _ _ m a u);
+        pass = λ r. h.pass (pass_append (Passes fits) _ _ a r);
+        stop = λ m u. h.stop m (fail_right (Passes fits) _ _ m a u);
         tells = λ j q l f. elim (cases_lt j k) [
           | inl b ↦ h.tells j q b f
           | inr b ↦ subst (λ (x : Process). (soon x s rs ≡ true) ↔ JustAfter s rs x.condition) (same_process j q (omega arith) e f) t
@@ -131,7 +130,7 @@ goes_on_soon P s rs t = record {
 
 pub choosing_end : (fits : Fraction → Type 0) (P : Problem) (found : List ℕ) (k : ℕ) (s : State) (rs : List Fraction) → Choosing fits P found k [] s rs → length P.processes ≤ k → AllPass fits (chosen_steps 0 P.processes s rs) × (found ≡ running_soon P s rs) × GoesOn P s rs (running_soon P s rs)
 choosing_end fits P found k s rs h l = (
-  h.pass (pass_none fits),
+  h.pass (pass_none (Passes fits)),
   sym (append-nil found) ∙ h.so_far,
   goes_on_soon P s rs (λ j p e. h.tells j p (let b = past P.processes j p e in omega arith) e),
 )

@@ -17,10 +17,11 @@ use Rattle.plus_crossing.specs.Conds.{live_asks}
 use Rattle.plus_crossing.proofs.Straight.{soon_tells}
 use Rattle.plus_settle.specs.declared.stops.GoStop.{GoStop}
 use Rattle.plus_settle.specs.declared.stops.GoStop.TheVariants.{Number, Nonlinear}
-use Rattle.plus_settle.specs.Steps.{SettleStep, AllPass, FirstStop, of_ask}
+use Rattle.plus_settle.specs.Steps.{SettleStep, AllPass, FirstStop, of_ask, Passes}
 use Rattle.plus_settle.specs.Members.{AreMembers, soon}
 use Rattle.plus_settle.specs.Confirms.{soon_steps, differ, confirm_steps, go_steps, first_other, GoStops}
-use Rattle.plus_settle.proofs.StepsLemmas.{pass_none, pass_append, stop_left, stop_right, pass_owned, stop_owned}
+use Rattle.plus_state.proofs.Testing.{pass_none, pass_append, pass_one, fail_left, fail_right, fail_one, fail_here, carry_pass, carry_fail}
+use Rattle.plus_settle.proofs.StepsLemmas.{pass_owned, stop_owned}
 use Rattle.plus_settle.proofs.MembersLemmas.{all_in, past_end}
 
 -- ---- one process
@@ -59,7 +60,7 @@ module _ (fits : Fraction → Type 0) (P : Problem) (members : List ℕ) (k : �
   confirming_inside = All-head (ProcessFits (length s.atoms) (length s.fluents)) p rest h.inside
 
   confirming_stop : (m : SettleStep) → FirstStop fits (soon_steps k p s rs) m → FirstStop fits (go_steps P members s rs) m
-  confirming_stop m u = h.stop m (stop_left fits _ _ m u)
+  confirming_stop m u = h.stop m (fail_left (Passes fits) _ _ m u)
 
   pub confirming_stops : {Q : Type 0} (v : Q → Fraction) (e : GoStop Q) → GoStops v fits (soon_steps k p s rs) e → GoStops v fits (go_steps P members s rs) e
   confirming_stops v (Number o) u = confirming_stop _ u
@@ -97,8 +98,8 @@ module _ (fits : Fraction → Type 0) (P : Problem) (members : List ℕ) (k : �
       subst (λ (i : ℕ). Confirming fits P members i rest s rs) one (record {
         inside = All-tail (ProcessFits (length s.atoms) (length s.fluents)) p rest h.inside;
         so_far = ap (λ (c : Bool). if c then Some k else first_other members (suc k) rest s rs) (sym d) ∙ h.so_far;
-        pass = λ b. h.pass (subst (AllPass fits) (chosen false d) (pass_append fits _ _ a b));
-        stop = λ m u. h.stop m (subst (λ (ns : List SettleStep). FirstStop fits ns m) (chosen false d) (stop_right fits _ _ m a u));
+        pass = λ b. h.pass (subst (AllPass fits) (chosen false d) (pass_append (Passes fits) _ _ a b));
+        stop = λ m u. h.stop m (subst (λ (ns : List SettleStep). FirstStop fits ns m) (chosen false d) (fail_right (Passes fits) _ _ m a u));
         agree = λ j l. elim (up_to j l) [
           | inl b ↦ h.agree j b
           | inr q ↦ subst (λ (i : ℕ). (is_in members i ≡ true) ↔ RunsAfter P s rs i) (sym q) ((λ m. r.0 (w ∙ m)), (λ x. sym w ∙ r.1 x))
@@ -108,7 +109,7 @@ module _ (fits : Fraction → Type 0) (P : Problem) (members : List ℕ) (k : �
   pub confirming_found : AllPass fits (soon_steps k p s rs) → ((soon p s rs ≡ true) ↔ JustAfter s rs p.condition) → slice_get P.processes k ≡ Some p → differ (soon p s rs) (is_in members k) ≡ true → AllPass fits (go_steps P members s rs) × (Some k ≡ first_other members 0 P.processes s rs) × IsFirst (Differs P s members rs) k
   confirming_found a t e d =
       let r = runs_here e t in (
-        h.pass (subst (AllPass fits) (chosen true d) (pass_append fits _ _ a (pass_none fits))),
+        h.pass (subst (AllPass fits) (chosen true d) (pass_append (Passes fits) _ _ a (pass_none (Passes fits)))),
         ap (λ (c : Bool). if c then Some k else first_other members (suc k) rest s rs) (sym d) ∙ h.so_far,
         record {
           has = λ x. unlike _ _ d (both_true _ _ (λ y. x.1 (r.0 y)) (λ y. r.1 (x.0 y)));
@@ -118,7 +119,7 @@ module _ (fits : Fraction → Type 0) (P : Problem) (members : List ℕ) (k : �
 
 pub confirming_end : (fits : Fraction → Type 0) (P : Problem) (members : List ℕ) (k : ℕ) (s : State) (rs : List Fraction) → Confirming fits P members k [] s rs → length P.processes ≤ k → AreMembers (length P.processes) members → AllPass fits (go_steps P members s rs) × (None ≡ first_other members 0 P.processes s rs) × GoesOn P s rs members
 confirming_end fits P members k s rs h l a = (
-  h.pass (pass_none fits),
+  h.pass (pass_none (Passes fits)),
   h.so_far,
   record {
     rising = a.rising;

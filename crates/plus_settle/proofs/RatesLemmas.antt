@@ -15,21 +15,22 @@ use Rattle.plus_state.specs.declared.problem.Ground.{Ground}
 use Rattle.plus_state.specs.View.{process_of, problem_of}
 use Rattle.plus_state.specs.Fits.{RateFits}
 use Rattle.plus_state.specs.Node.{Node}
-use Rattle.plus_state.specs.Asked.{result_of, node, nodes, AllFit, FirstUnfit}
+use Rattle.plus_state.specs.Asked.{result_of, node, nodes, AllFit, FirstUnfit, NodeFits}
 use Rattle.plus_settle.specs.declared.stops.RateStop.{RateStop}
 use Rattle.plus_settle.specs.declared.stops.RateStop.TheVariants.{NoValue, Number, Memory}
-use Rattle.plus_settle.specs.Steps.{SettleStep, asks, no_value, AllPass, FirstStop}
+use Rattle.plus_settle.specs.Steps.{SettleStep, asks, no_value, AllPass, FirstStop, Passes}
 use Rattle.plus_settle.specs.Rates.{sign_of, need, sum_steps, rate_steps, after_sums, add_rates_steps, sum_rates_steps, rates_steps, RateStops, NoRates}
-use Rattle.plus_settle.proofs.StepsLemmas.{pass_none, pass_append, stop_left, stop_right, pass_nodes, stop_nodes}
+use Rattle.plus_state.proofs.Testing.{pass_none, pass_append, pass_one, fail_left, fail_right, fail_one, fail_here, carry_pass, carry_fail}
+use Rattle.plus_settle.proofs.StepsLemmas.{nodes_carry}
 
 -- ---- one node
 pub one_passes : (fits : Fraction → Type 0) (n : Node) (z : Fraction) → z ≡ result_of n.sign n.left n.right → fits z → AllPass fits (asks n ∷ [])
-unfolding AllPass
-one_passes fits n z e h = (subst fits e h, tt)
+unfolding Passes NodeFits
+one_passes fits n z e h = pass_one (Passes fits) (asks n) (subst fits e h)
 
 pub one_stops : (fits : Fraction → Type 0) (n m : Node) → (fits (result_of n.sign n.left n.right) → ⊥) → m ≡ n → FirstStop fits (asks n ∷ []) (asks m)
-unfolding FirstStop
-one_stops fits n m h e = inl (h, ap asks e)
+unfolding Passes NodeFits
+one_stops fits n m h e = fail_one (Passes fits) (asks n) (asks m) h (ap asks e)
 
 pub ruleset summing = (one_passes, one_stops)
 
@@ -49,20 +50,20 @@ rated_is f false x w z sums h e = ap Ok (add_at_is f (neg_ℚ x) sums h ∙ ap (
 module _ (fits : Fraction → Type 0) (r : Rate) (s : State) (sums : List Fraction) where
   pub rate_unfit : (m : Node) → FirstUnfit fits (nodes r.amount s) m → FirstStop fits (rate_steps r s sums) (asks m)
   unfolding rate_steps
-  rate_unfit m h = stop_left fits _ _ _ (stop_nodes fits _ m h)
+  rate_unfit m h = fail_left (Passes fits) _ _ _ (carry_fail (nodes_carry fits) _ m h)
 
   pub rate_no_amount : AllFit fits (nodes r.amount s) → None ≡ value r.amount s → FirstStop fits (rate_steps r s sums) (no_value r.fluent)
-  unfolding rate_steps FirstStop
+  unfolding rate_steps Passes
   rate_no_amount a e =
-      stop_right fits _ _ _ (pass_nodes fits _ a)
-      (subst (λ (o : Option Fraction). FirstStop fits (need r.fluent o ++ (need r.fluent (fluent_of s r.fluent) ++ sum_steps r.up (rate_of sums r.fluent) o)) (no_value r.fluent)) e (inl (λ z. z, refl)))
+      fail_right (Passes fits) _ _ _ (carry_pass (nodes_carry fits) _ a)
+      (subst (λ (o : Option Fraction). FirstStop fits (need r.fluent o ++ (need r.fluent (fluent_of s r.fluent) ++ sum_steps r.up (rate_of sums r.fluent) o)) (no_value r.fluent)) e (fail_here (Passes fits) _ _ (λ z. z)))
 
   pub rate_no_fluent : (x : Fraction) → AllFit fits (nodes r.amount s) → Some x ≡ value r.amount s → None ≡ fluent_of s r.fluent → FirstStop fits (rate_steps r s sums) (no_value r.fluent)
-  unfolding rate_steps FirstStop
+  unfolding rate_steps Passes
   rate_no_fluent x a e d =
-      stop_right fits _ _ _ (pass_nodes fits _ a)
+      fail_right (Passes fits) _ _ _ (carry_pass (nodes_carry fits) _ a)
       (subst (λ (o : Option Fraction). FirstStop fits (need r.fluent o ++ (need r.fluent (fluent_of s r.fluent) ++ sum_steps r.up (rate_of sums r.fluent) o)) (no_value r.fluent)) e
-      (subst (λ (o : Option Fraction). FirstStop fits (need r.fluent o ++ sum_steps r.up (rate_of sums r.fluent) (Some x)) (no_value r.fluent)) d (inl (λ z. z, refl))))
+      (subst (λ (o : Option Fraction). FirstStop fits (need r.fluent o ++ sum_steps r.up (rate_of sums r.fluent) (Some x)) (no_value r.fluent)) d (fail_here (Passes fits) _ _ (λ z. z))))
 
   summed : (x w : Fraction) → Some x ≡ value r.amount s → Some w ≡ fluent_of s r.fluent → map asks (nodes r.amount s) ++ asks (node (sign_of r.up) (rate_of sums r.fluent) x) ∷ [] ≡ rate_steps r s sums
   unfolding rate_steps
@@ -71,12 +72,12 @@ module _ (fits : Fraction → Type 0) (r : Rate) (s : State) (sums : List Fracti
   pub rate_sum_unfit : (x w y : Fraction) (m : SettleStep) → AllFit fits (nodes r.amount s) → Some x ≡ value r.amount s → Some w ≡ fluent_of s r.fluent → y ≡ rate_of sums r.fluent → FirstStop fits (asks (node (sign_of r.up) y x) ∷ []) m → FirstStop fits (rate_steps r s sums) m
   rate_sum_unfit x w y m a e d k h =
       subst (λ (ns : List SettleStep). FirstStop fits ns m) (summed x w e d)
-      (stop_right fits _ _ m (pass_nodes fits _ a) (subst (λ (z : Fraction). FirstStop fits (asks (node (sign_of r.up) z x) ∷ []) m) k h))
+      (fail_right (Passes fits) _ _ m (carry_pass (nodes_carry fits) _ a) (subst (λ (z : Fraction). FirstStop fits (asks (node (sign_of r.up) z x) ∷ []) m) k h))
 
   pub rate_pass : (x w y : Fraction) → AllFit fits (nodes r.amount s) → Some x ≡ value r.amount s → Some w ≡ fluent_of s r.fluent → y ≡ rate_of sums r.fluent → AllPass fits (asks (node (sign_of r.up) y x) ∷ []) → AllPass fits (rate_steps r s sums)
   rate_pass x w y a e d k h =
       subst (AllPass fits) (summed x w e d)
-      (pass_append fits _ _ (pass_nodes fits _ a) (subst (λ (z : Fraction). AllPass fits (asks (node (sign_of r.up) z x) ∷ [])) k h))
+      (pass_append (Passes fits) _ _ (carry_pass (nodes_carry fits) _ a) (subst (λ (z : Fraction). AllPass fits (asks (node (sign_of r.up) z x) ∷ [])) k h))
 
 pub rated_no_amount : (f : ℕ) (up : Bool) (o w : Option Fraction) (sums : List Fraction) → None ≡ o → rated f up o w sums ≡ Err f
 rated_no_amount f up o w sums e = sym (ap (λ (p : Option Fraction). rated f up p w sums) e)
@@ -114,17 +115,17 @@ module _ (fits : Fraction → Type 0) (r : Rate) (rest whole : List Rate) (s : S
     inside = All-tail (RateFits (length s.fluents)) r rest h.inside;
     size = n ∙ h.size;
     so_far = sym (ap (λ (o : Result (List Fraction) ℕ). then_rates o (add_rates rest s)) e) ∙ h.so_far;
-    pass = λ b. h.pass (pass_append fits _ _ a (subst (λ (o : Result (List Fraction) ℕ). AllPass fits (after_sums o (add_rates_steps rest s))) (sym e) b));
-    stop = λ m u. h.stop m (stop_right fits _ _ m a (subst (λ (o : Result (List Fraction) ℕ). FirstStop fits (after_sums o (add_rates_steps rest s)) m) (sym e) u));
+    pass = λ b. h.pass (pass_append (Passes fits) _ _ a (subst (λ (o : Result (List Fraction) ℕ). AllPass fits (after_sums o (add_rates_steps rest s))) (sym e) b));
+    stop = λ m u. h.stop m (fail_right (Passes fits) _ _ m a (subst (λ (o : Result (List Fraction) ℕ). FirstStop fits (after_sums o (add_rates_steps rest s)) m) (sym e) u));
   }
 
   pub adding_stop : {Q : Type 0} (v : Q → Fraction) (e : RateStop Q) → RateStops v fits (rate_steps r s now) e → NoRates (rated r.fluent r.up (value r.amount s) (fluent_of s r.fluent) now) e → RateStops v fits (add_rates_steps whole s old) e × NoRates (add_rates whole s old) e
-  adding_stop v (NoValue f) k n = (h.stop _ (stop_left fits _ _ _ k), sym h.so_far ∙ ap (λ (o : Result (List Fraction) ℕ). then_rates o (add_rates rest s)) n)
-  adding_stop v (Number o) k n = (h.stop _ (stop_left fits _ _ _ k), tt)
+  adding_stop v (NoValue f) k n = (h.stop _ (fail_left (Passes fits) _ _ _ k), sym h.so_far ∙ ap (λ (o : Result (List Fraction) ℕ). then_rates o (add_rates rest s)) n)
+  adding_stop v (Number o) k n = (h.stop _ (fail_left (Passes fits) _ _ _ k), tt)
   adding_stop v Memory k n = (tt, tt)
 
 pub adding_end : (fits : Fraction → Type 0) (whole : List Rate) (s : State) (now old : List Fraction) → Adding fits [] whole s now old → AllPass fits (add_rates_steps whole s old) × (add_rates whole s old ≡ Ok now)
-adding_end fits whole s now old h = (h.pass (pass_none fits), sym h.so_far)
+adding_end fits whole s now old h = (h.pass (pass_none (Passes fits)), sym h.so_far)
 
 -- ---- the rates of members
 pub record Summing (fits : Fraction → Type 0) (P : Problem) (rest whole : List ℕ) (s : State) (now : List Fraction) : Type 0 where
@@ -152,12 +153,12 @@ module _ (fits : Fraction → Type 0) (P : Problem) (p : ℕ) (rest whole : List
     inside = All-tail (λ p. p < length P.processes) p rest h.inside;
     size = n ∙ h.size;
     so_far = sym (ap (λ (o : Result (List Fraction) ℕ). then_rates o (sum_rates P rest s)) e) ∙ here;
-    pass = λ b. h.pass (subst (AllPass fits) steps_here (pass_append fits _ _ a (subst (λ (o : Result (List Fraction) ℕ). AllPass fits (after_sums o (sum_rates_steps P rest s))) (sym e) b)));
-    stop = λ m u. h.stop m (subst (λ (ns : List SettleStep). FirstStop fits ns m) steps_here (stop_right fits _ _ m a (subst (λ (o : Result (List Fraction) ℕ). FirstStop fits (after_sums o (sum_rates_steps P rest s)) m) (sym e) u)));
+    pass = λ b. h.pass (subst (AllPass fits) steps_here (pass_append (Passes fits) _ _ a (subst (λ (o : Result (List Fraction) ℕ). AllPass fits (after_sums o (sum_rates_steps P rest s))) (sym e) b)));
+    stop = λ m u. h.stop m (subst (λ (ns : List SettleStep). FirstStop fits ns m) steps_here (fail_right (Passes fits) _ _ m a (subst (λ (o : Result (List Fraction) ℕ). FirstStop fits (after_sums o (sum_rates_steps P rest s)) m) (sym e) u)));
   }
 
   early : (m : SettleStep) → FirstStop fits (add_rates_steps rs s now) m → FirstStop fits (rates_steps P s whole) m
-  early m u = h.stop m (subst (λ (ns : List SettleStep). FirstStop fits ns m) steps_here (stop_left fits _ _ m u))
+  early m u = h.stop m (subst (λ (ns : List SettleStep). FirstStop fits ns m) steps_here (fail_left (Passes fits) _ _ m u))
 
   pub summing_stop : {Q : Type 0} (v : Q → Fraction) (e : RateStop Q) → RateStops v fits (add_rates_steps rs s now) e → NoRates (add_rates rs s now) e → RateStops v fits (rates_steps P s whole) e × NoRates (rates P s whole) e
   summing_stop v (NoValue f) u n = (early _ u, sym here ∙ ap (λ (o : Result (List Fraction) ℕ). then_rates o (sum_rates P rest s)) n)
@@ -170,4 +171,4 @@ summing_inside v fits g p rest whole s now h =
     rw length-map at below
 
 pub summing_end : (fits : Fraction → Type 0) (P : Problem) (whole : List ℕ) (s : State) (now : List Fraction) → Summing fits P [] whole s now → AllPass fits (rates_steps P s whole) × (rates P s whole ≡ Ok now)
-summing_end fits P whole s now h = (h.pass (pass_none fits), sym h.so_far)
+summing_end fits P whole s now h = (h.pass (pass_none (Passes fits)), sym h.so_far)

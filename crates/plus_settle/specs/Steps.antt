@@ -1,8 +1,9 @@
 -- Steps of the evaluation by which a state is settled.
-use Rattle.std.specs.Prelude.{◌≡◌, ◌⊎◌, ℕ, Bool, true, List, [], ◌∷◌, map}
+use Rattle.std.specs.Prelude.{◌≡◌, ℕ, Bool, true, List, map}
 use Rattle.plus_fraction.specs.Fraction.{Fraction}
 use Rattle.plus_state.specs.Node.{Node}
-use Rattle.plus_state.specs.Asked.{result_of}
+use Rattle.plus_state.specs.Tested as tested
+use Rattle.plus_state.specs.Asked.{NodeFits}
 use Rattle.plus_crossing.specs.Asked as crossing
 use Rattle.plus_crossing.specs.Asked.{Ask}
 
@@ -16,22 +17,20 @@ pub data SettleStep : Type 0 where
   unsettled : ℕ → SettleStep
   coupled : ℕ → ℕ → SettleStep
 
-abbrev pub Passes : (Fraction → Type 0) → SettleStep → Type 0
-Passes fits (asks n) = fits (result_of n.sign n.left n.right)
+unfoldable pub Passes : (Fraction → Type 0) → SettleStep → Type 0
+Passes fits (asks n) = NodeFits fits n
 Passes fits (straight p k b) = b ≡ true
 Passes fits (no_value f) = ⊥
 Passes fits (unsettled p) = ⊥
 Passes fits (coupled p f) = ⊥
 
 -- no step stops
-unfoldable pub AllPass : (Fraction → Type 0) → List SettleStep → Type 0
-AllPass fits [] = Unit {0}
-AllPass fits (n ∷ ns) = Passes fits n × AllPass fits ns
+abbrev pub AllPass : (Fraction → Type 0) → List SettleStep → Type 0
+AllPass fits ns = tested.AllPass (Passes fits) ns
 
 -- the first step that stops
-unfoldable pub FirstStop : (Fraction → Type 0) → List SettleStep → SettleStep → Type 0
-FirstStop fits [] m = ⊥
-FirstStop fits (n ∷ ns) m = ((Passes fits n → ⊥) × (m ≡ n)) ⊎ (Passes fits n × FirstStop fits ns m)
+abbrev pub FirstStop : (Fraction → Type 0) → List SettleStep → SettleStep → Type 0
+FirstStop fits ns m = tested.FirstFailing (Passes fits) ns m
 
 -- a test of a condition of this process
 abbrev pub of_ask : ℕ → Ask → SettleStep

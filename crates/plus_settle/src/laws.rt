@@ -1,5 +1,7 @@
 // Laws over the definitions alone.
-ghost use Rattle.plus_settle.specs.Laws.{OneRunningSet, OneStep};
+ghost use Rattle.plus_settle.specs.Laws.{OneRunningSet};
+ghost use Rattle.plus_state.specs.Tested.{OneTest};
+ghost use Rattle.plus_settle.specs.Steps.{Passes};
 
 use plus_number::exact::Exact;
 
@@ -10,5 +12,5 @@ pub fn one_running_set()
 
 /// One step at most is the first that stops, and where all pass there is none.
 pub fn one_step<Q: Exact>()
-    ensures { OneStep Q.fits }
+    ensures { OneTest (Passes Q.fits) }
 {}

@@ -9,12 +9,12 @@ use Rattle.plus_model.specs.Value.{value, holds}
 use Rattle.plus_state.specs.declared.term.AssignOp.{AssignOp}
 use Rattle.plus_state.specs.Fits.{WriteFits, AllEffectsFit}
 use Rattle.plus_state.specs.Due.{Due, DuesFit, due_update, due_write, due_effect, dues}
-use Rattle.plus_state.specs.Steps.{Step, AllPass, FirstStop, effect_steps, add_steps}
+use Rattle.plus_state.specs.Steps.{Step, Passes, AllPass, FirstStop, effect_steps, add_steps}
 use Rattle.plus_state.specs.declared.due.WriteStop.{WriteStop}
 use Rattle.plus_state.specs.declared.due.WriteStop.TheVariants.{NoValue, Number}
 use Rattle.plus_state.specs.declared.outcome.JointStop.{JointStop}
 use Rattle.plus_state.specs.Stops.{write_stop_of, joint_stop_of, StopIs}
-use Rattle.plus_state.proofs.StepsLemmas.{pass_none, pass_append, stop_left, stop_right}
+use Rattle.plus_state.proofs.Testing.{pass_none, pass_append, fail_left, fail_right}
 
 pub dues_fit_append : (atoms fluents : ℕ) (ds es : List Due) → DuesFit atoms fluents ds → DuesFit atoms fluents es → DuesFit atoms fluents (ds ++ es)
 dues_fit_append atoms fluents [] es h k = k
@@ -62,15 +62,15 @@ adding_next fits now e rest old whole s ds new h a k n =
       effects = h.effects.1;
       due = dues_fit_append _ _ now (due_effect e s) h.due (due_effect_fits _ _ e s h.effects.0.1);
       so_far = append_assoc now (due_effect e s) (dues rest s) ∙ h.so_far;
-      pass = λ r. h.pass (pass_append fits _ _ a r);
-      stop = λ m u. h.stop m (stop_right fits _ _ m a u);
+      pass = λ r. h.pass (pass_append (Passes fits) _ _ a r);
+      stop = λ m u. h.stop m (fail_right (Passes fits) _ _ m a u);
     })
 
 pub adding_stop : (fits : Fraction → Type 0) (now : List Due) (e : Effect) (rest : List Effect) (old : List Due) (whole : List Effect) (s : State) (m : Step) → Adding fits now (e ∷ rest) old whole s → FirstStop fits (effect_steps e s) m → FirstStop fits (add_steps whole s) m
-adding_stop fits now e rest old whole s m h u = h.stop m (stop_left fits _ _ m u)
+adding_stop fits now e rest old whole s m h u = h.stop m (fail_left (Passes fits) _ _ m u)
 
 pub adding_end : (fits : Fraction → Type 0) (now old : List Due) (whole : List Effect) (s : State) → Adding fits now [] old whole s → AllPass fits (add_steps whole s) × (now ≡ old ++ dues whole s)
-adding_end fits now old whole s h = (h.pass (pass_none fits), sym (append-nil now) ∙ h.so_far)
+adding_end fits now old whole s h = (h.pass (pass_none (Passes fits)), sym (append-nil now) ∙ h.so_far)
 
 -- the stop of one effect
 pub stop_is : {Q : Type 0} (v : Q → Fraction) (fits : Fraction → Type 0) (ns : List Step) (stop : WriteStop Q) (joint : JointStop Q) → joint ≡ joint_stop_of stop → FirstStop fits ns (write_stop_of v stop) → StopIs v fits ns joint

@@ -7,10 +7,10 @@ use Rattle.plus_model.specs.Joint.{joint}
 use Rattle.plus_state.specs.declared.outcome.JointStop.{JointStop}
 use Rattle.plus_state.specs.declared.outcome.JointStop.TheVariants.{Conflict, NoValue, Number, Memory}
 use Rattle.plus_state.specs.Due.{Due, due_effect, dues, after_dues}
-use Rattle.plus_state.specs.Steps.{AllPass, effect_steps, add_steps, end_steps, joint_steps}
+use Rattle.plus_state.specs.Steps.{Passes, AllPass, effect_steps, add_steps, end_steps, joint_steps}
 use Rattle.plus_state.specs.Stops.{StopIs}
 use Rattle.plus_state.specs.Applies.{NoJoint}
-use Rattle.plus_state.proofs.StepsLemmas.{pass_append, stop_left, stop_right}
+use Rattle.plus_state.proofs.Testing.{pass_append, fail_left, fail_right}
 use Rattle.plus_state.proofs.JointLemmas.{joint_passes, joint_stops}
 
 module _ {Q : Type 0} (v : Q → Fraction) (fits : Fraction → Type 0) (es : List Effect) (s : State) where
@@ -22,16 +22,16 @@ module _ {Q : Type 0} (v : Q → Fraction) (fits : Fraction → Type 0) (es : Li
 
   stop_adding : (e : JointStop Q) → StopIs v fits (add_steps es s) e → StopIs v fits (joint_steps es s) e
   unfolding joint_steps
-  stop_adding (Conflict f) h = stop_left fits _ _ _ h
-  stop_adding (NoValue f) h = stop_left fits _ _ _ h
-  stop_adding (Number o) h = stop_left fits _ _ _ h
+  stop_adding (Conflict f) h = fail_left (Passes fits) _ _ _ h
+  stop_adding (NoValue f) h = fail_left (Passes fits) _ _ _ h
+  stop_adding (Number o) h = fail_left (Passes fits) _ _ _ h
   stop_adding Memory h = tt
 
   stop_ending : (e : JointStop Q) → AllPass fits (add_steps es s) → StopIs v fits (end_steps (dues es s) s) e → StopIs v fits (joint_steps es s) e
   unfolding joint_steps
-  stop_ending (Conflict f) a h = stop_right fits _ _ _ a h
-  stop_ending (NoValue f) a h = stop_right fits _ _ _ a h
-  stop_ending (Number o) a h = stop_right fits _ _ _ a h
+  stop_ending (Conflict f) a h = fail_right (Passes fits) _ _ _ a h
+  stop_ending (NoValue f) a h = fail_right (Passes fits) _ _ _ a h
+  stop_ending (Number o) a h = fail_right (Passes fits) _ _ _ a h
   stop_ending Memory a h = tt
 
   pub add_stops : (e : JointStop Q) → StopIs v fits (add_steps es s) e → StopIs v fits (joint_steps es s) e × NoJoint es s e
@@ -44,7 +44,7 @@ module _ {Q : Type 0} (v : Q → Fraction) (fits : Fraction → Type 0) (es : Li
   pub ends : (ds : List Due) (t : State) → AllPass fits (add_steps es s) → ds ≡ dues es s → AllPass fits (end_steps ds s) → t ≡ after_dues ds s → AllPass fits (joint_steps es s) × (joint es s ≡ Ok t)
   unfolding joint_steps
   ends ds t a k h e =
-      let p : AllPass fits (joint_steps es s) = pass_append fits _ _ a (subst (λ (x : List Due). AllPass fits (end_steps x s)) k h) in
+      let p : AllPass fits (joint_steps es s) = pass_append (Passes fits) _ _ a (subst (λ (x : List Due). AllPass fits (end_steps x s)) k h) in
       (p, joint_passes fits es s p ∙ ap Ok (sym (e ∙ ap (λ (x : List Due). after_dues x s) k)))
 
 -- more effects

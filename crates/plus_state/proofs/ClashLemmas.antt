@@ -7,8 +7,8 @@ use Rattle.std.specs.Prelude.{Option, Some, None, nat_eq, if◌then◌else◌}
 use Rattle.plus_fraction.specs.Fraction.{Fraction}
 use Rattle.plus_model.specs.Joint.{Conflict}
 use Rattle.plus_state.specs.Due.{Update, Due, puts, updates, updates_on, by_fluent, is_move, all_moves, clash}
-use Rattle.plus_state.specs.Steps.{fault, AllPass, FirstStop, clash_steps}
-use Rattle.plus_state.proofs.StepsLemmas.{pass_none}
+use Rattle.plus_state.specs.Steps.{fault, Passes, AllPass, FirstStop, clash_steps}
+use Rattle.plus_state.proofs.Testing.{pass_none, fail_here}
 use Rattle.plus_state.specs.Writes.{on, From, Ordered, sets, clashes, clash_after}
 use Rattle.plus_state.proofs.SortLemmas.{on_cases, on_here, on_below, over_from}
 
@@ -134,12 +134,12 @@ module _ (fits : Fraction → Type 0) (ps : List (ℕ × Update)) where
   clear_step k rest e = ap (λ (b : Bool). (if b then fault (Conflict k) ∷ [] else []) ++ clash_steps (suc k) rest) (sym e)
 
   pub pass_by : (k : ℕ) (vs : List (Option Fraction)) → ((g : ℕ) → Clear g ps) → AllPass fits (clash_steps k (lists k ps vs))
-  pass_by k [] h = pass_none fits
+  pass_by k [] h = pass_none (Passes fits)
   pass_by k (v ∷ vs) h = subst (AllPass fits) (clear_step k (lists (suc k) ps vs) (h k)) (pass_by (suc k) vs h)
 
   stop_here : (k : ℕ) (rest : List (List Update)) → clash (on k ps) ≡ true → FirstStop fits (clash_steps k (on k ps ∷ rest)) (fault (Conflict k))
-  unfolding FirstStop
-  stop_here k rest e = subst (λ (b : Bool). FirstStop fits ((if b then fault (Conflict k) ∷ [] else []) ++ clash_steps (suc k) rest) (fault (Conflict k))) (sym e) refl
+  unfolding Passes
+  stop_here k rest e = subst (λ (b : Bool). FirstStop fits ((if b then fault (Conflict k) ∷ [] else []) ++ clash_steps (suc k) rest) (fault (Conflict k))) (sym e) (fail_here (Passes fits) _ _ (λ h. h))
 
   pub stop_by : (k : ℕ) (f : ℕ) (vs : List (Option Fraction)) → FirstClash f ps → k ≤ f → f < k + length vs → FirstStop fits (clash_steps k (lists k ps vs)) (fault (Conflict f))
   stop_by k f [] h l m = absurd (omega (arith, l, m))

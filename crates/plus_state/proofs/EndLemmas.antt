@@ -6,13 +6,14 @@ use Rattle.plus_model.specs.Joint.{Conflict, new_atoms}
 use Rattle.plus_state.specs.Node.{Node}
 use Rattle.plus_state.specs.Asked.{AllFit, FirstUnfit}
 use Rattle.plus_state.specs.Due.{Update, Due, by_fluent, atom_changes}
-use Rattle.plus_state.specs.Steps.{asks, fault, AllPass, FirstStop, clash_steps, fluents_nodes, end_steps}
-use Rattle.plus_state.proofs.StepsLemmas.{pass_append, stop_left, stop_right, pass_nodes, stop_nodes}
+use Rattle.plus_state.specs.Steps.{asks, fault, Passes, AllPass, FirstStop, clash_steps, fluents_nodes, end_steps}
+use Rattle.plus_state.proofs.Testing.{pass_append, fail_left, fail_right, carry_pass, carry_fail}
+use Rattle.plus_state.proofs.StepsLemmas.{nodes_carry}
 
 module _ (fits : Fraction → Type 0) (ds : List Due) (s now : State) (all : List (List Update)) where
   pub end_clash : (f : ℕ) → all ≡ by_fluent 0 ds s.fluents → FirstStop fits (clash_steps 0 all) (fault (Conflict f)) → FirstStop fits (end_steps ds s) (fault (Conflict f))
   unfolding end_steps
-  end_clash f e h = stop_left fits _ _ _ (subst (λ us. FirstStop fits (clash_steps 0 us) (fault (Conflict f))) e h)
+  end_clash f e h = fail_left (Passes fits) _ _ _ (subst (λ us. FirstStop fits (clash_steps 0 us) (fault (Conflict f))) e h)
 
   -- the state whose atoms are done
   abbrev half : State
@@ -21,9 +22,9 @@ module _ (fits : Fraction → Type 0) (ds : List Due) (s now : State) (all : Lis
   pub end_unfit : (m : Node) → all ≡ by_fluent 0 ds s.fluents → now ≡ half → AllPass fits (clash_steps 0 all) → FirstUnfit fits (fluents_nodes all now.fluents) m → FirstStop fits (end_steps ds s) (asks m)
   unfolding end_steps
   end_unfit m e k a h =
-      stop_right fits _ _ _ (subst (λ us. AllPass fits (clash_steps 0 us)) e a) (stop_nodes fits _ m (subst (λ us. FirstUnfit fits (fluents_nodes us s.fluents) m) e (subst (λ (t : State). FirstUnfit fits (fluents_nodes all t.fluents) m) k h)))
+      fail_right (Passes fits) _ _ _ (subst (λ us. AllPass fits (clash_steps 0 us)) e a) (carry_fail (nodes_carry fits) _ m (subst (λ us. FirstUnfit fits (fluents_nodes us s.fluents) m) e (subst (λ (t : State). FirstUnfit fits (fluents_nodes all t.fluents) m) k h)))
 
   pub end_pass : all ≡ by_fluent 0 ds s.fluents → now ≡ half → AllPass fits (clash_steps 0 all) → AllFit fits (fluents_nodes all now.fluents) → AllPass fits (end_steps ds s)
   unfolding end_steps
   end_pass e k a h =
-      pass_append fits _ _ (subst (λ us. AllPass fits (clash_steps 0 us)) e a) (pass_nodes fits _ (subst (λ us. AllFit fits (fluents_nodes us s.fluents)) e (subst (λ (t : State). AllFit fits (fluents_nodes all t.fluents)) k h)))
+      pass_append (Passes fits) _ _ (subst (λ us. AllPass fits (clash_steps 0 us)) e a) (carry_pass (nodes_carry fits) _ (subst (λ us. AllFit fits (fluents_nodes us s.fluents)) e (subst (λ (t : State). AllFit fits (fluents_nodes all t.fluents)) k h)))

@@ -1,6 +1,6 @@
 -- What the steps of a joint effect say of the model's joint effect: where all pass, it is the state after the writes that
 -- are due; where the first step that stops is a fault, it is that fault.
-use Rattle.std.proofs.Common.{◌≡◌, ◌⊎◌, ℕ, suc, Bool, true, false, not, ◌&&◌, ◌||◌, List, [], ◌∷◌, ◌++◌, length, map, refl, ap, ap₂, sym, subst, ◌∙◌, inl, inr, arith, append_assoc, length-append}
+use Rattle.std.proofs.Common.{◌≡◌, ℕ, suc, Bool, true, false, not, ◌&&◌, ◌||◌, List, [], ◌∷◌, ◌++◌, length, map, refl, ap, ap₂, sym, subst, ◌∙◌, inl, inr, arith, append_assoc, length-append}
 use Rattle.std.proofs.lemmas.List.{map-append, append-nil}
 use Rattle.std.proofs.lemmas.Bool.{eqb-true}
 use Rattle.std.specs.Prelude.{Option, Some, None, Result, Ok, Err, option_map, nat_eq, slice_get, unwrap_or, if◌then◌else◌}
@@ -17,62 +17,38 @@ use Rattle.plus_state.specs.Node.{Node}
 use Rattle.plus_state.specs.Asked.{nodes}
 use Rattle.plus_state.specs.Tests.{tests_of}
 use Rattle.plus_state.specs.Due.{Update, Due, puts, updates, due_update, due_write, due_effect, dues, updated, all_updated, updates_on, by_fluent, new_fluents, is_move, all_moves, clash, atom_change, atom_changes, after_dues}
-use Rattle.plus_state.specs.Steps.{Step, asks, fault, AllPass, FirstStop, need, need_divisor, amount_steps, write_steps, guarded, effect_steps, add_steps, clash_steps, fluents_nodes, end_steps, joint_steps}
-
--- steps in two parts
-stop_split : (fits : Fraction → Type 0) (xs ys : List Step) (m : Step) → FirstStop fits (xs ++ ys) m → FirstStop fits xs m ⊎ (AllPass fits xs × FirstStop fits ys m)
-unfolding FirstStop AllPass
-stop_split fits [] ys m h = inr (tt, h)
-stop_split fits (asks n ∷ xs) ys m h =
-    elim h [ inl a ↦ inl (inl a) | inr r ↦ elim (stop_split fits xs ys m r.1) [ inl p ↦ inl (inr (r.0, p)) | inr q ↦ inr ((r.0, q.0), q.1) ] ]
-stop_split fits (fault f ∷ xs) ys m h = inl h
-
-pass_left : (fits : Fraction → Type 0) (xs ys : List Step) → AllPass fits (xs ++ ys) → AllPass fits xs
-unfolding AllPass
-pass_left fits [] ys h = tt
-pass_left fits (asks n ∷ xs) ys h = (h.0, pass_left fits xs ys h.1)
-pass_left fits (fault f ∷ xs) ys h = absurd h
-
-pass_right : (fits : Fraction → Type 0) (xs ys : List Step) → AllPass fits (xs ++ ys) → AllPass fits ys
-unfolding AllPass
-pass_right fits [] ys h = h
-pass_right fits (asks n ∷ xs) ys h = pass_right fits xs ys h.1
-pass_right fits (fault f ∷ xs) ys h = absurd h
+use Rattle.plus_state.specs.Tested as tested
+use Rattle.plus_state.proofs.Testing.{pass_left, pass_right, fail_split, none_fails, fails_here, chosen_pass, chosen_fail, carry_from}
+use Rattle.plus_state.proofs.StepsLemmas.{nodes_carry}
+use Rattle.plus_state.specs.Steps.{Step, asks, fault, Passes, AllPass, FirstStop, need, need_divisor, amount_steps, write_steps, guarded, effect_steps, add_steps, clash_steps, fluents_nodes, end_steps, joint_steps}
 
 -- nodes are no faults
-fault_behind : (fits : Fraction → Type 0) (ns : List Node) (ys : List Step) (k : Fault) → FirstStop fits (map asks ns ++ ys) (fault k) → FirstStop fits ys (fault k)
-unfolding FirstStop
-fault_behind fits [] ys k h = h
-fault_behind fits (n ∷ ns) ys k h = elim h [ inl a ↦ (let e : fault k ≡ asks n = a.1 in cc) | inr r ↦ fault_behind fits ns ys k r.1 ]
-
 no_fault : (fits : Fraction → Type 0) (ns : List Node) (k : Fault) → FirstStop fits (map asks ns) (fault k) → ⊥
-unfolding FirstStop
-no_fault fits [] k h = h
-no_fault fits (n ∷ ns) k h = elim h [ inl a ↦ (let e : fault k ≡ asks n = a.1 in cc) | inr r ↦ no_fault fits ns k r.1 ]
+no_fault fits ns k h = let q = carry_from (nodes_carry fits) ns (fault k) h in let e : fault k ≡ asks q.0 = q.1.1 in cc
+
+fault_behind : (fits : Fraction → Type 0) (ns : List Node) (ys : List Step) (k : Fault) → FirstStop fits (map asks ns ++ ys) (fault k) → FirstStop fits ys (fault k)
+fault_behind fits ns ys k h = elim (fail_split (Passes fits) (map asks ns) ys (fault k) h) [ inl a ↦ absurd (no_fault fits ns k a) | inr b ↦ b.1 ]
 
 same_fault : (k j : Fault) → fault k ≡ fault j → k ≡ j
 same_fault k j e = cc
 
 -- a value that is needed and is not there
 need_some : (fits : Fraction → Type 0) (f : ℕ) (o : Option Fraction) → AllPass fits (need f o) → (x : Fraction) × (o ≡ Some x)
-unfolding need AllPass
-need_some fits f None h = absurd h
+unfolding need tested.AllPass Passes
+need_some fits f None h = absurd h.0
 need_some fits f (Some x) h = (x, refl)
 
 need_fault : (fits : Fraction → Type 0) (f : ℕ) (o : Option Fraction) (k : Fault) → FirstStop fits (need f o) (fault k) → (o ≡ None) × (k ≡ NoValue f)
-unfolding need FirstStop
-need_fault fits f None k h = (refl, same_fault k (NoValue f) h)
-need_fault fits f (Some x) k h = absurd h
+unfolding need Passes
+need_fault fits f None k h = (refl, same_fault k (NoValue f) (fails_here (Passes fits) _ _ [] (λ z. z) h))
+need_fault fits f (Some x) k h = absurd (none_fails (Passes fits) _ h)
 
 chosen_fault : (fits : Fraction → Type 0) (f k : Fault) (b : Bool) → FirstStop fits (if b then fault f ∷ [] else []) (fault k) → (b ≡ true) × (k ≡ f)
-unfolding FirstStop
-chosen_fault fits f k true h = (refl, same_fault k f h)
-chosen_fault fits f k false h = absurd h
+chosen_fault fits f k b h = let c = chosen_fail (Passes fits) (fault f) (fault k) b h in (c.0, same_fault k f c.1)
 
-chosen_pass : (fits : Fraction → Type 0) (f : Fault) (b : Bool) → AllPass fits (if b then fault f ∷ [] else []) → b ≡ false
-unfolding AllPass
-chosen_pass fits f true h = absurd h
-chosen_pass fits f false h = refl
+not_chosen : (fits : Fraction → Type 0) (f : Fault) (b : Bool) → AllPass fits (if b then fault f ∷ [] else []) → b ≡ false
+unfolding Passes
+not_chosen fits f b h = chosen_pass (Passes fits) (fault f) b (λ z. z) h
 
 -- the change that an update makes of a present value
 abbrev pub change_of_update : ℕ → AssignOp → Fraction → Option Fraction → Change
@@ -143,11 +119,11 @@ module _ (fits : Fraction → Type 0) (f : ℕ) (ns : List Node) where
 
   given_stop : (o v : Option Fraction) (rest : List Step) (g : Fraction → Fraction → Result Change Fault) (k : Fault) → ((x w : Fraction) → o ≡ Some x → v ≡ Some w → FirstStop fits rest (fault k) → g x w ≡ Err k) → FirstStop fits ((map asks ns ++ need f o) ++ (need f v ++ rest)) (fault k) → given f o (λ x. given f v (λ w. g x w)) ≡ Err k
   given_stop o v rest g k r h =
-      elim (stop_split fits (map asks ns ++ need f o) (need f v ++ rest) (fault k) h) [
+      elim (fail_split (Passes fits) (map asks ns ++ need f o) (need f v ++ rest) (fault k) h) [
         | inl a ↦ (let n = need_fault fits f o k (fault_behind fits ns (need f o) k a) in
             ap (λ (y : Option Fraction). given f y (λ x. given f v (λ w. g x w))) n.0 ∙ ap Err (sym n.1))
-        | inr b ↦ (let x = need_some fits f o (pass_right fits (map asks ns) (need f o) b.0) in
-            elim (stop_split fits (need f v) rest (fault k) b.1) [
+        | inr b ↦ (let x = need_some fits f o (pass_right (Passes fits) (map asks ns) (need f o) b.0) in
+            elim (fail_split (Passes fits) (need f v) rest (fault k) b.1) [
               | inl a ↦ (let n = need_fault fits f v k a in
                   ap₂ (λ (y z : Option Fraction). given f y (λ x. given f z (λ w. g x w))) x.1 n.0 ∙ ap Err (sym n.1))
               | inr c ↦ (let w = need_some fits f v c.0 in
@@ -156,7 +132,7 @@ module _ (fits : Fraction → Type 0) (f : ℕ) (ns : List Node) where
       ]
 
   moving_stop : (o v : Option Fraction) (g : Fraction → Fraction → Change) (k : Fault) → FirstStop fits ((map asks ns ++ need f o) ++ need f v) (fault k) → given f o (λ x. given f v (λ w. Ok (g x w))) ≡ Err k
-  unfolding FirstStop
+  unfolding tested.FirstFailing
   moving_stop o v g k h =
       given_stop o v [] (λ x w. Ok (g x w)) k (λ x w e d r. absurd r) (subst (λ (ys : List Step). FirstStop fits ((map asks ns ++ need f o) ++ ys) (fault k)) (sym (append-nil (need f v))) h)
 
@@ -169,7 +145,7 @@ module _ (fits : Fraction → Type 0) (f : ℕ) (ns : List Node) where
 
 module _ (fits : Fraction → Type 0) (s : State) where
   write_stop : (w : model.Write) (k : Fault) → FirstStop fits (write_steps w s) (fault k) → change_of w s ≡ Err k
-  unfolding FirstStop amount_steps
+  unfolding tested.FirstFailing amount_steps
   write_stop (model.Add a) k h = absurd h
   write_stop (model.Delete a) k h = absurd h
   write_stop (model.Assign f e) k h = assign_stop fits f (nodes e s) (value e s) k h
@@ -180,21 +156,21 @@ module _ (fits : Fraction → Type 0) (s : State) where
 
   amount_some : (f : ℕ) (e : Expression) → AllPass fits (amount_steps f e s) → (x : Fraction) × (value e s ≡ Some x)
   unfolding amount_steps
-  amount_some f e h = need_some fits f (value e s) (pass_right fits (map asks (nodes e s)) (need f (value e s)) h)
+  amount_some f e h = need_some fits f (value e s) (pass_right (Passes fits) (map asks (nodes e s)) (need f (value e s)) h)
 
   moving_done : (f : ℕ) (e : Expression) (op : AssignOp) (g : Fraction → Fraction → Change) → ((x w : Fraction) → g x w ≡ change_of_update f op x (Some w)) → ((x w : Fraction) → UpdateReady op x (Some w)) → AllPass fits (amount_steps f e s ++ need f (fluent_of s f)) → Done (given f (value e s) (λ x. given f (fluent_of s f) (λ w. Ok (g x w)))) (due_update f op (value e s)) s
   moving_done f e op g is ready h =
-      let x = amount_some f e (pass_left fits (amount_steps f e s) (need f (fluent_of s f)) h) in
-      let w = need_some fits f (fluent_of s f) (pass_right fits (amount_steps f e s) (need f (fluent_of s f)) h) in
+      let x = amount_some f e (pass_left (Passes fits) (amount_steps f e s) (need f (fluent_of s f)) h) in
+      let w = need_some fits f (fluent_of s f) (pass_right (Passes fits) (amount_steps f e s) (need f (fluent_of s f)) h) in
       given_done s f op (value e s) (λ x w. Ok (g x w)) x.0 w.0 x.1 w.1 (ap Ok (is x.0 w.0)) (ready x.0 w.0)
 
   dividing_done : (f : ℕ) (e : Expression) → AllPass fits (amount_steps f e s ++ (need f (fluent_of s f) ++ need_divisor f (value e s))) → Done (change_of (model.ScaleDown f e) s) (due_update f ScaleDown (value e s)) s
   unfolding need_divisor
   dividing_done f e h =
-      let x = amount_some f e (pass_left fits (amount_steps f e s) _ h) in
-      let rest = pass_right fits (amount_steps f e s) _ h in
-      let w = need_some fits f (fluent_of s f) (pass_left fits (need f (fluent_of s f)) _ rest) in
-      let z = chosen_pass fits (NoValue f) (is_zero x.0) (subst (λ (y : Option Fraction). AllPass fits (need_divisor f y)) x.1 (pass_right fits (need f (fluent_of s f)) _ rest)) in
+      let x = amount_some f e (pass_left (Passes fits) (amount_steps f e s) _ h) in
+      let rest = pass_right (Passes fits) (amount_steps f e s) _ h in
+      let w = need_some fits f (fluent_of s f) (pass_left (Passes fits) (need f (fluent_of s f)) _ rest) in
+      let z = not_chosen fits (NoValue f) (is_zero x.0) (subst (λ (y : Option Fraction). AllPass fits (need_divisor f y)) x.1 (pass_right (Passes fits) (need f (fluent_of s f)) _ rest)) in
       given_done s f ScaleDown (value e s) (λ x w. if is_zero x then Err (NoValue f) else Ok (Becomes f (w /ℚ x))) x.0 w.0 x.1 w.1 (ap (λ (b : Bool). if b then Err (NoValue f) else Ok (Becomes f (w.0 /ℚ x.0))) z) z
 
   write_done : (w : model.Write) → AllPass fits (write_steps w s) → Done (change_of w s) (due_write w s) s
@@ -227,13 +203,13 @@ module _ (fits : Fraction → Type 0) (s : State) where
       (ap (λ (c : Result Change Fault). before c r) d.is ∙ before_front d.change r ∙ ap (λ cs. in_front cs r) (sym d.due), d.ready)
 
   choice_stop : (b : Bool) (w : model.Write) (r : Result (List Change) Fault) (k : Fault) → FirstStop fits (guarded b (write_steps w s)) (fault k) → (if b then before (change_of w s) r else r) ≡ Err k
-  unfolding FirstStop
+  unfolding tested.FirstFailing
   choice_stop false w r k h = absurd h
   choice_stop true w r k h = ap (λ (c : Result Change Fault). before c r) (write_stop fits s w k h)
 
   effect_done : (e : Effect) (es : List Effect) → AllPass fits (effect_steps e s) → (changes_of (e ∷ es) s ≡ in_front (map (change_of_due s) (due_effect e s)) (changes_of es s)) × DuesReady s (due_effect e s)
   unfolding effect_steps
-  effect_done e es h = choice_done (holds e.guard s) e.write (changes_of es s) (pass_right fits (map asks (tests_of e.guard s)) _ h)
+  effect_done e es h = choice_done (holds e.guard s) e.write (changes_of es s) (pass_right (Passes fits) (map asks (tests_of e.guard s)) _ h)
 
   effect_stop : (e : Effect) (es : List Effect) (k : Fault) → FirstStop fits (effect_steps e s) (fault k) → changes_of (e ∷ es) s ≡ Err k
   unfolding effect_steps
@@ -243,15 +219,15 @@ module _ (fits : Fraction → Type 0) (s : State) where
   pub adds_pass : (es : List Effect) → AllPass fits (add_steps es s) → (changes_of es s ≡ Ok (map (change_of_due s) (dues es s))) × DuesReady s (dues es s)
   adds_pass [] h = (refl, tt)
   adds_pass (e ∷ es) h =
-      let d = effect_done e es (pass_left fits (effect_steps e s) _ h) in
-      let r = adds_pass es (pass_right fits (effect_steps e s) _ h) in
+      let d = effect_done e es (pass_left (Passes fits) (effect_steps e s) _ h) in
+      let r = adds_pass es (pass_right (Passes fits) (effect_steps e s) _ h) in
       (d.0 ∙ ap (in_front (map (change_of_due s) (due_effect e s))) r.0 ∙ ap Ok (sym (map-append (change_of_due s) (due_effect e s) (dues es s))), ready_append s (due_effect e s) (dues es s) d.1 r.1)
 
   pub adds_stop : (es : List Effect) (k : Fault) → FirstStop fits (add_steps es s) (fault k) → changes_of es s ≡ Err k
-  unfolding FirstStop
+  unfolding tested.FirstFailing
   adds_stop [] k h = absurd h
   adds_stop (e ∷ es) k h =
-      elim (stop_split fits (effect_steps e s) (add_steps es s) (fault k) h) [
+      elim (fail_split (Passes fits) (effect_steps e s) (add_steps es s) (fault k) h) [
         | inl a ↦ effect_stop e es k a
         | inr b ↦ (effect_done e es b.0).0 ∙ ap (in_front (map (change_of_due s) (due_effect e s))) (adds_stop es k b.1)
       ]
@@ -525,21 +501,21 @@ module _ (fits : Fraction → Type 0) (s : State) (ds : List Due) (ready : DuesR
   fluents_pass k [] a h = refl
   fluents_pass k (v ∷ vs) a h =
       let here = if clash (updates_on k ds) then fault (Conflict k) ∷ [] else [] in
-      ap₂ value_before (place_value k v a.0 (chosen_pass fits (Conflict k) (clash (updates_on k ds)) (pass_left fits here _ h))) (fluents_pass (suc k) vs a.1 (pass_right fits here _ h))
+      ap₂ value_before (place_value k v a.0 (not_chosen fits (Conflict k) (clash (updates_on k ds)) (pass_left (Passes fits) here _ h))) (fluents_pass (suc k) vs a.1 (pass_right (Passes fits) here _ h))
 
   place_clash : (k : ℕ) (v : Option Fraction) → clash (updates_on k ds) ≡ true → new_value k (written k (map (change_of_due s) ds)) v ≡ Err (Conflict k)
   place_clash k v c = ap (λ (w : Written). new_value k w v) (written_same s k ds ∙ clash_written (updates_on k ds) (fluent_of s k) c)
 
   fluents_stop : (k : ℕ) (vs : List (Option Fraction)) (why : Fault) → AreFrom s k vs → FirstStop fits (clash_steps k (by_fluent k ds vs)) (fault why) → new_values k (map (change_of_due s) ds) vs ≡ Err why
-  unfolding FirstStop
+  unfolding tested.FirstFailing
   fluents_stop k [] why a h = absurd h
   fluents_stop k (v ∷ vs) why a h =
       let here = if clash (updates_on k ds) then fault (Conflict k) ∷ [] else [] in
       let rest = new_values (suc k) (map (change_of_due s) ds) vs in
-      elim (stop_split fits here (clash_steps (suc k) (by_fluent (suc k) ds vs)) (fault why) h) [
+      elim (fail_split (Passes fits) here (clash_steps (suc k) (by_fluent (suc k) ds vs)) (fault why) h) [
         | inl p ↦ (let c = chosen_fault fits (Conflict k) why (clash (updates_on k ds)) p in
             ap (λ (r : Result (Option Fraction) Fault). value_before r rest) (place_clash k v c.0) ∙ ap Err (sym c.1))
-        | inr q ↦ ap₂ value_before (place_value k v a.0 (chosen_pass fits (Conflict k) (clash (updates_on k ds)) q.0)) (fluents_stop (suc k) vs why a.1 q.1)
+        | inr q ↦ ap₂ value_before (place_value k v a.0 (not_chosen fits (Conflict k) (clash (updates_on k ds)) q.0)) (fluents_stop (suc k) vs why a.1 q.1)
       ]
 
 -- the joint effect, by its steps
@@ -547,17 +523,17 @@ module _ (fits : Fraction → Type 0) (es : List Effect) (s : State) where
   pub joint_passes : AllPass fits (joint_steps es s) → joint es s ≡ Ok (after_dues (dues es s) s)
   unfolding joint joint_steps end_steps
   joint_passes h =
-      let a = adds_pass fits s es (pass_left fits (add_steps es s) _ h) in
-      let clashes = pass_left fits (clash_steps 0 (by_fluent 0 (dues es s) s.fluents)) _ (pass_right fits (add_steps es s) _ h) in
+      let a = adds_pass fits s es (pass_left (Passes fits) (add_steps es s) _ h) in
+      let clashes = pass_left (Passes fits) (clash_steps 0 (by_fluent 0 (dues es s) s.fluents)) _ (pass_right (Passes fits) (add_steps es s) _ h) in
       ap (λ (r : Result (List Change) Fault). changed r s) a.0 ∙ ap₂ with_atoms (atoms_same 0 s (dues es s) s.atoms) (fluents_pass fits s (dues es s) a.1 0 s.fluents (are_from s [] s.fluents 0 refl refl) clashes)
 
   pub joint_stops : (why : Fault) → FirstStop fits (joint_steps es s) (fault why) → joint es s ≡ Err why
   unfolding joint joint_steps end_steps
   joint_stops why h =
-      elim (stop_split fits (add_steps es s) _ (fault why) h) [
+      elim (fail_split (Passes fits) (add_steps es s) _ (fault why) h) [
         | inl p ↦ ap (λ (r : Result (List Change) Fault). changed r s) (adds_stop fits s es why p)
         | inr q ↦ (let a = adds_pass fits s es q.0 in
-            elim (stop_split fits (clash_steps 0 (by_fluent 0 (dues es s) s.fluents)) _ (fault why) q.1) [
+            elim (fail_split (Passes fits) (clash_steps 0 (by_fluent 0 (dues es s) s.fluents)) _ (fault why) q.1) [
               | inl c ↦ ap (λ (r : Result (List Change) Fault). changed r s) a.0 ∙ ap (with_atoms (new_atoms 0 (map (change_of_due s) (dues es s)) s.atoms)) (fluents_stop fits s (dues es s) a.1 0 s.fluents why (are_from s [] s.fluents 0 refl refl) c)
               | inr n ↦ absurd (no_fault fits (fluents_nodes (by_fluent 0 (dues es s) s.fluents) s.fluents) why n.1)
             ])

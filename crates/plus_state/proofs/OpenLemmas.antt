@@ -7,11 +7,11 @@ use Rattle.plus_fraction.specs.Fraction.{Fraction}
 use Rattle.plus_model.specs.Terms.{State}
 use Rattle.plus_model.specs.Value.{fluent_of}
 use Rattle.plus_state.specs.Node.{Node}
-use Rattle.plus_state.specs.Asked.{AllFit, FirstUnfit}
+use Rattle.plus_state.specs.Asked.{NodeFits, AllFit, FirstUnfit}
 use Rattle.plus_state.specs.Stops.{as_list}
 use Rattle.plus_state.specs.Due.{Update, updated}
 use Rattle.plus_state.specs.Steps.{updated_nodes}
-use Rattle.plus_state.proofs.AskedLemmas.{fit_append, unfit_left, unfit_right, fit_none}
+use Rattle.plus_state.proofs.Testing.{pass_none, pass_append, fail_left, fail_right}
 use Rattle.plus_state.specs.Changes.{patched_list, AreIn, Over, Rises}
 use Rattle.plus_state.proofs.PatchLemmas.{length-patched}
 use Rattle.plus_state.specs.Writes.{on, From, Ordered, Sorts, value_at, after, walk, shut, at_open}
@@ -156,7 +156,7 @@ module _ (fits : Fraction → Type 0) (cs : List (ℕ × Option Fraction)) (o : 
   valuing_at h e = e ∙ at_is cs o p rest s.fluents h.opening h.left.0
 
   pub valuing_err : (m : Node) → Valuing fits cs o (p ∷ rest) whole s.fluents → x ≡ at_open o p.0 (fluent_of s p.0) → FirstUnfit fits (updated_nodes p.1.op p.1.amount x) m → FirstUnfit fits (walk whole s.fluents) m
-  valuing_err m h e u = h.unfit m (unfit_left fits _ _ m (subst (λ (v : Option Fraction). FirstUnfit fits (updated_nodes p.1.op p.1.amount v) m) (valuing_at h e) u))
+  valuing_err m h e u = h.unfit m (fail_left (NodeFits fits) _ _ m (subst (λ (v : Option Fraction). FirstUnfit fits (updated_nodes p.1.op p.1.amount v) m) (valuing_at h e) u))
 
   pub valuing_next : (new : List (ℕ × Option Fraction)) (o' : Option (ℕ × Option Fraction)) (w : Option Fraction) → Valuing fits cs o (p ∷ rest) whole s.fluents → x ≡ at_open o p.0 (fluent_of s p.0) → AllFit fits (updated_nodes p.1.op p.1.amount x) → w ≡ updated p.1.op p.1.amount x → new ≡ cs ++ shut o p.0 → o' ≡ Some (p.0, w) → Valuing fits new o' rest whole s.fluents
   valuing_next new o' w h e a k n g =
@@ -168,13 +168,13 @@ module _ (fits : Fraction → Type 0) (cs : List (ℕ × Option Fraction)) (o : 
         left = h.left.1;
         done = in_next _ p.0 cs new o o' w h.done h.left.0 n g;
         so_far = ap (after rest) is ∙ h.so_far;
-        fit = λ r. h.fit (fit_append fits _ _ (subst (λ (v : Option Fraction). AllFit fits (updated_nodes p.1.op p.1.amount v)) at a) (subst (λ l. AllFit fits (walk rest l)) is r));
-        unfit = λ m r. h.unfit m (unfit_right fits _ _ m (subst (λ (v : Option Fraction). AllFit fits (updated_nodes p.1.op p.1.amount v)) at a) (subst (λ l. FirstUnfit fits (walk rest l) m) is r));
+        fit = λ r. h.fit (pass_append (NodeFits fits) _ _ (subst (λ (v : Option Fraction). AllFit fits (updated_nodes p.1.op p.1.amount v)) at a) (subst (λ l. AllFit fits (walk rest l)) is r));
+        unfit = λ m r. h.unfit m (fail_right (NodeFits fits) _ _ m (subst (λ (v : Option Fraction). AllFit fits (updated_nodes p.1.op p.1.amount v)) at a) (subst (λ l. FirstUnfit fits (walk rest l) m) is r));
       }
 
 pub valuing_end : (fits : Fraction → Type 0) (cs end : List (ℕ × Option Fraction)) (o : Option (ℕ × Option Fraction)) (whole : List (ℕ × Update)) (vs : List (Option Fraction)) → Valuing fits cs o [] whole vs → end ≡ cs ++ as_list o → AllFit fits (walk whole vs) × (patched_list end vs ≡ after whole vs) × Rises end × AreIn (length vs) end
 valuing_end fits cs end o whole vs h e =
-    (h.fit (fit_none fits), ap (λ l. patched_list l vs) e ∙ h.so_far, subst Rises (sym e) (opening_end cs o h.opening), subst (AreIn (length vs)) (sym e) h.done)
+    (h.fit (pass_none (NodeFits fits)), ap (λ l. patched_list l vs) e ∙ h.so_far, subst Rises (sym e) (opening_end cs o h.opening), subst (AreIn (length vs)) (sym e) h.done)
 
 -- how far the writes on atoms are gone through
 pub record Lasting (cs : List (ℕ × Bool)) (o : Option (ℕ × Bool)) (rest whole : List (ℕ × Bool)) : Type 0 where

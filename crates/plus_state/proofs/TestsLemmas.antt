@@ -14,9 +14,9 @@ use Rattle.plus_state.specs.declared.term.Cond.{Cond, All, All', Any, Any', Row_
 use Rattle.plus_state.specs.View.{condition_of, all_in, any_in}
 use Rattle.plus_state.specs.Fits.{Fits}
 use Rattle.plus_state.specs.Node.{Node}
-use Rattle.plus_state.specs.Asked.{nodes, sides, AllFit, FirstUnfit}
+use Rattle.plus_state.specs.Asked.{nodes, sides, NodeFits, AllFit, FirstUnfit}
 use Rattle.plus_state.specs.Tests.{asked, tests_of, verdict, decided, pair, unit, joined, join, join_decided}
-use Rattle.plus_state.proofs.AskedLemmas.{fit_append, unfit_left, unfit_right, fit_none}
+use Rattle.plus_state.proofs.Testing.{pass_none, pass_append, fail_left, fail_right}
 
 verdict_both : (c d : Condition) → verdict (live_both c d) ≡ join_decided true (verdict c) (verdict d)
 verdict_both Never d = refl
@@ -74,7 +74,7 @@ holds_verdict (Compare test left right positive) b s e = cc
 
 pub decided_asks : (fits : Fraction → Type 0) (c : Condition) (b : Bool) (s : State) → Some b ≡ decided c s → AllFit fits (tests_of c s)
 unfolding decided tests_of
-decided_asks fits c b s e = subst (AllFit fits) (sym (asked_verdict (live c s) b s e)) (fit_none fits)
+decided_asks fits c b s e = subst (AllFit fits) (sym (asked_verdict (live c s) b s e)) (pass_none (NodeFits fits))
 
 pub decided_holds : (c : Condition) (b : Bool) (s : State) → Some b ≡ decided c s → b ≡ holds c s
 unfolding decided
@@ -87,7 +87,7 @@ asked_choice false s = refl
 
 pub atom_asks : (fits : Fraction → Type 0) (a : ℕ) (positive : Bool) (s : State) → AllFit fits (tests_of (Atom a positive) s)
 unfolding tests_of
-atom_asks fits a positive s = subst (AllFit fits) (asked_choice (signed positive (atom_of s a)) s) (fit_none fits)
+atom_asks fits a positive s = subst (AllFit fits) (asked_choice (signed positive (atom_of s a)) s) (pass_none (NodeFits fits))
 
 module _ (fits : Fraction → Type 0) (test : Test) (left right : Expression) (positive : Bool) (s : State) where
   pub compare_fit : AllFit fits (sides (nodes left s) (value left s) (nodes right s)) → AllFit fits (tests_of (Compare test left right positive) s)
@@ -237,18 +237,18 @@ going_next fits all truth b c rest whole s h a e =
       inside = fits_tail all _ _ c (joined all rest) h.inside;
       undecided = λ k. h.undecided (sym (decided_absorbs all (decided c s)) ∙ ap (join_decided all (decided c s)) k ∙ sym (decided_pair all c (joined all rest) s));
       so_far = join_assoc all truth b _ ∙ ap (λ o. join all truth (join all o (holds (joined all rest) s))) e ∙ ap (join all truth) (sym (holds_pair all c (joined all rest) s)) ∙ h.so_far;
-      fit = λ r. h.fit (subst (AllFit fits) (sym t) (fit_append fits _ _ a r));
-      unfit = λ m u. h.unfit m (subst (λ ns. FirstUnfit fits ns m) (sym t) (unfit_right fits _ _ m a u));
+      fit = λ r. h.fit (subst (AllFit fits) (sym t) (pass_append (NodeFits fits) _ _ a r));
+      unfit = λ m u. h.unfit m (subst (λ ns. FirstUnfit fits ns m) (sym t) (fail_right (NodeFits fits) _ _ m a u));
     }
 
 pub going_err : (fits : Fraction → Type 0) (all truth : Bool) (c : Condition) (rest whole : List Condition) (s : State) (m : Node) → Going fits all truth (c ∷ rest) whole s → FirstUnfit fits (tests_of c s) m → FirstUnfit fits (tests_of (joined all whole) s) m
 going_err fits all truth c rest whole s m h u =
-    h.unfit m (subst (λ ns. FirstUnfit fits ns m) (sym (tests_pair all c (joined all rest) s h.undecided)) (unfit_left fits _ _ m u))
+    h.unfit m (subst (λ ns. FirstUnfit fits ns m) (sym (tests_pair all c (joined all rest) s h.undecided)) (fail_left (NodeFits fits) _ _ m u))
 
 unit_asks : (fits : Fraction → Type 0) (all : Bool) (s : State) → AllFit fits (tests_of (unit all) s)
 unfolding tests_of
-unit_asks fits true s = fit_none fits
-unit_asks fits false s = fit_none fits
+unit_asks fits true s = pass_none (NodeFits fits)
+unit_asks fits false s = pass_none (NodeFits fits)
 
 pub going_end : (fits : Fraction → Type 0) (all truth : Bool) (whole : List Condition) (s : State) → Going fits all truth [] whole s → AllFit fits (tests_of (joined all whole) s) × (truth ≡ holds (joined all whole) s)
 going_end fits all truth whole s h = (h.fit (unit_asks fits all s), sym (join_end all truth s) ∙ h.so_far)

@@ -1,11 +1,12 @@
 -- The nodes that an evaluation asks, in order, and the first of them whose result is no value of the type.
-use Rattle.std.specs.Prelude.{◌≡◌, ◌⊎◌, List, [], ◌∷◌, ◌++◌, Option, Some, None, if◌then◌else◌}
+use Rattle.std.specs.Prelude.{List, [], ◌∷◌, ◌++◌, Option, Some, None, if◌then◌else◌}
 use Rattle.plus_fraction.specs.Fraction.{Fraction, ◌+ℚ◌, ◌-ℚ◌, ◌*ℚ◌, ◌/ℚ◌}
 use Rattle.plus_state.specs.declared.term.Sign.{Sign}
 use Rattle.plus_state.specs.declared.term.Sign.TheVariants.{Plus, Minus, Times, Divide}
 use Rattle.plus_model.specs.Terms.{Expression, Number, Fluent, Sum, Difference, Product, Quotient, State}
 use Rattle.plus_model.specs.Value.{value, is_zero, quotient}
 use Rattle.plus_state.specs.Node.{Node}
+use Rattle.plus_state.specs.Tested.{AllPass, FirstFailing}
 
 -- the exact result of an operation, and its value: a divisor that is zero gives none
 abbrev pub result_of : Sign → Fraction → Fraction → Fraction
@@ -51,11 +52,14 @@ nodes (Difference a b) s = operation Minus (nodes a s) (value a s) (nodes b s) (
 nodes (Product a b) s = operation Times (nodes a s) (value a s) (nodes b s) (value b s)
 nodes (Quotient a b) s = operation Divide (nodes a s) (value a s) (nodes b s) (value b s)
 
-unfoldable pub AllFit : (Fraction → Type 0) → List Node → Type 0
-AllFit fits [] = Unit {0}
-AllFit fits (n ∷ ns) = fits (result_of n.sign n.left n.right) × AllFit fits ns
+-- a node passes where its exact result is a value of the number type
+unfoldable pub NodeFits : (Fraction → Type 0) → Node → Type 0
+NodeFits fits n = fits (result_of n.sign n.left n.right)
+
+-- all nodes pass
+abbrev pub AllFit : (Fraction → Type 0) → List Node → Type 0
+AllFit fits ns = AllPass (NodeFits fits) ns
 
 -- the first node that does not fit
-unfoldable pub FirstUnfit : (Fraction → Type 0) → List Node → Node → Type 0
-FirstUnfit fits [] m = ⊥
-FirstUnfit fits (n ∷ ns) m = ((fits (result_of n.sign n.left n.right) → ⊥) × (m ≡ n)) ⊎ (fits (result_of n.sign n.left n.right) × FirstUnfit fits ns m)
+abbrev pub FirstUnfit : (Fraction → Type 0) → List Node → Node → Type 0
+FirstUnfit fits ns m = FirstFailing (NodeFits fits) ns m

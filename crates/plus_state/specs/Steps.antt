@@ -2,7 +2,7 @@
 -- First each effect in the order added: its guard, and where that holds the amount of its write and then the present
 -- value of the fluent, where the write needs it. Then the fluents in ground order for writes that clash. Then the fluents
 -- in ground order once more: each write on a fluent, in the order added, is a node on the value that the writes before it made.
-use Rattle.std.specs.Prelude.{◌≡◌, ◌⊎◌, ℕ, suc, List, [], ◌∷◌, ◌++◌, map, Option, Some, None, Bool, true, false, if◌then◌else◌}
+use Rattle.std.specs.Prelude.{ℕ, suc, List, [], ◌∷◌, ◌++◌, map, Option, Some, None, Bool, true, false, if◌then◌else◌}
 use Rattle.plus_fraction.specs.Fraction.{Fraction}
 use Rattle.plus_model.specs.Terms as model
 use Rattle.plus_model.specs.Terms.{State, Expression, Effect}
@@ -13,7 +13,8 @@ use Rattle.plus_state.specs.declared.term.AssignOp.TheVariants.{Assign, Increase
 use Rattle.plus_state.specs.declared.term.Sign.{Sign}
 use Rattle.plus_state.specs.declared.term.Sign.TheVariants.{Plus, Minus, Times, Divide}
 use Rattle.plus_state.specs.Node.{Node}
-use Rattle.plus_state.specs.Asked.{nodes, node_of, result_of}
+use Rattle.plus_state.specs.Tested as tested
+use Rattle.plus_state.specs.Asked.{nodes, node_of, NodeFits}
 use Rattle.plus_state.specs.Tests.{tests_of}
 use Rattle.plus_state.specs.Due.{Update, Due, dues, by_fluent, clash, updated}
 
@@ -22,17 +23,17 @@ pub data Step : Type 0 where
   asks : Node → Step
   fault : Fault → Step
 
+unfoldable pub Passes : (Fraction → Type 0) → Step → Type 0
+Passes fits (asks n) = NodeFits fits n
+Passes fits (fault f) = ⊥
+
 -- no step stops
-unfoldable pub AllPass : (Fraction → Type 0) → List Step → Type 0
-AllPass fits [] = Unit {0}
-AllPass fits (asks n ∷ ns) = fits (result_of n.sign n.left n.right) × AllPass fits ns
-AllPass fits (fault f ∷ ns) = ⊥
+abbrev pub AllPass : (Fraction → Type 0) → List Step → Type 0
+AllPass fits ns = tested.AllPass (Passes fits) ns
 
 -- the first step that stops
-unfoldable pub FirstStop : (Fraction → Type 0) → List Step → Step → Type 0
-FirstStop fits [] m = ⊥
-FirstStop fits (asks n ∷ ns) m = ((fits (result_of n.sign n.left n.right) → ⊥) × (m ≡ asks n)) ⊎ (fits (result_of n.sign n.left n.right) × FirstStop fits ns m)
-FirstStop fits (fault f ∷ ns) m = m ≡ fault f
+abbrev pub FirstStop : (Fraction → Type 0) → List Step → Step → Type 0
+FirstStop fits ns m = tested.FirstFailing (Passes fits) ns m
 
 -- a value that is needed
 unfoldable pub need : ℕ → Option Fraction → List Step

@@ -11,41 +11,21 @@ use Rattle.plus_state.specs.declared.outcome.Breach.TheVariants.{UnknownAction, 
 use Rattle.plus_state.specs.declared.outcome.Limit.{Limit}
 use Rattle.plus_state.specs.declared.outcome.Limit.TheVariants.{Happenings, Number, Nonlinear}
 use Rattle.plus_state.specs.Node.{Node}
-use Rattle.plus_state.specs.Asked.{AllFit, FirstUnfit, result_of}
+use Rattle.plus_state.specs.Asked.{NodeFits, AllFit, FirstUnfit}
 use Rattle.plus_state.specs.Tests.{tests_of}
-use Rattle.plus_state.specs.Steps.{Step, asks, fault, AllPass, FirstStop, guarded, joint_steps}
+use Rattle.plus_state.specs.Steps.{Step, asks, fault, Passes, AllPass, FirstStop, guarded, joint_steps}
 use Rattle.plus_state.specs.View.{overflow_of}
-use Rattle.plus_state.proofs.StepsLemmas.{pass_append, stop_left, stop_right, pass_nodes, stop_nodes}
+use Rattle.plus_state.proofs.Testing.{pass_append, fail_left, fail_right, fail_split, none_fails, carry_pass, carry_fail, one_test}
+use Rattle.plus_state.proofs.StepsLemmas.{nodes_carry}
 use Rattle.plus_timeline.specs.Act.{act_steps, ActsOn, ConditionFails, EffectsFail, StopsAct, UnfitAct}
-use Rattle.plus_timeline.proofs.Finished.{none_first}
 
 -- ---- steps
--- where all steps pass, none stops
-none_stops : (fits : Fraction → Type 0) (ns : List Step) (m : Step) → AllPass fits ns → FirstStop fits ns m → ⊥
-unfolding AllPass FirstStop
-none_stops fits [] m a u = u
-none_stops fits (asks n ∷ ns) m a u = elim u [ inl p ↦ p.0 a.0 | inr p ↦ none_stops fits ns m a.1 p.1 ]
-none_stops fits (fault f ∷ ns) m a u = a
-
--- there is one first stop
-one_stop : (fits : Fraction → Type 0) (ns : List Step) (k m : Step) → FirstStop fits ns k → FirstStop fits ns m → k ≡ m
-unfolding FirstStop
-one_stop fits [] k m a b = absurd a
-one_stop fits (asks n ∷ ns) k m a b = elim a [
-  | inl p ↦ elim b [ inl q ↦ p.1 ∙ sym q.1 | inr q ↦ absurd (p.0 q.0) ]
-  | inr p ↦ elim b [ inl q ↦ absurd (q.0 p.0) | inr q ↦ one_stop fits ns k m p.1 q.1 ]
-]
-one_stop fits (fault f ∷ ns) k m a b = a ∙ sym b
-
 -- nodes that fit stop nothing
 behind_nodes : (fits : Fraction → Type 0) (ns : List Node) (ys : List Step) (m : Step) → AllFit fits ns → FirstStop fits (map asks ns ++ ys) m → FirstStop fits ys m
-unfolding AllFit FirstStop
-behind_nodes fits [] ys m a u = u
-behind_nodes fits (n ∷ ns) ys m a u = elim u [ inl p ↦ absurd (p.0 a.0) | inr p ↦ behind_nodes fits ns ys m a.1 p.1 ]
-
-no_steps : (fits : Fraction → Type 0) (m : Step) → FirstStop fits [] m → ⊥
-unfolding FirstStop
-no_steps fits m u = u
+behind_nodes fits ns ys m a u = elim (fail_split (Passes fits) (map asks ns) ys m u) [
+  | inl p ↦ absurd ((one_test (Passes fits)).none (map asks ns) m (carry_pass (nodes_carry fits) ns a) p)
+  | inr q ↦ q.1
+]
 
 not_both : (n : Node) (f : Fault) → asks n ≡ fault f → ⊥
 not_both n f e = cc
@@ -55,21 +35,21 @@ module _ (fits : Fraction → Type 0) (a : Action) (s : State) where
   -- the condition does not hold
   pub condition_stops_none : AllFit fits (tests_of a.condition s) → holds a.condition s ≡ false → (m : Step) → FirstStop fits (act_steps a s) m → ⊥
   condition_stops_none t f m u =
-      no_steps fits m
+      none_fails (Passes fits) m
       (subst (λ (b : Bool). FirstStop fits (guarded b (joint_steps a.effects s)) m) f (behind_nodes fits (tests_of a.condition s) _ m t u))
 
   pub condition_unfit : (m : Node) → FirstUnfit fits (tests_of a.condition s) m → FirstStop fits (act_steps a s) (asks m)
-  condition_unfit m u = stop_left fits (map asks (tests_of a.condition s)) _ (asks m) (stop_nodes fits (tests_of a.condition s) m u)
+  condition_unfit m u = fail_left (Passes fits) (map asks (tests_of a.condition s)) _ (asks m) (carry_fail (nodes_carry fits) (tests_of a.condition s) m u)
 
   -- it holds
   pub effects_stop : (m : Step) → AllFit fits (tests_of a.condition s) → holds a.condition s ≡ true → FirstStop fits (joint_steps a.effects s) m → FirstStop fits (act_steps a s) m
   effects_stop m t h u =
-      stop_right fits (map asks (tests_of a.condition s)) _ m (pass_nodes fits (tests_of a.condition s) t)
+      fail_right (Passes fits) (map asks (tests_of a.condition s)) _ m (carry_pass (nodes_carry fits) (tests_of a.condition s) t)
       (subst (λ (b : Bool). FirstStop fits (guarded b (joint_steps a.effects s)) m) (sym h) u)
 
   pub effects_pass : AllFit fits (tests_of a.condition s) → holds a.condition s ≡ true → AllPass fits (joint_steps a.effects s) → AllPass fits (act_steps a s)
   effects_pass t h u =
-      pass_append fits (map asks (tests_of a.condition s)) _ (pass_nodes fits (tests_of a.condition s) t)
+      pass_append (Passes fits) (map asks (tests_of a.condition s)) _ (carry_pass (nodes_carry fits) (tests_of a.condition s) t)
       (subst (λ (b : Bool). AllPass fits (guarded b (joint_steps a.effects s))) (sym h) u)
 
   -- ---- no breach stands, and no limit is reached
@@ -95,8 +75,8 @@ module _ (fits : Fraction → Type 0) (a : Action) (s : State) where
   -- the condition has a node that does not fit
   pub unfit_no_breach : {Q : Type 0} (line : ℕ) (m : Node) → FirstUnfit fits (tests_of a.condition s) m → (b : Breach Q) → StopsAct fits a line s b → ⊥
   unfit_no_breach line m u b = no_stop line b
-      (λ n label r. none_first fits (tests_of a.condition s) m r.tests u)
-      (λ why r. not_both m why (one_stop fits (act_steps a s) (asks m) (fault why) (condition_unfit m u) r.first))
+      (λ n label r. (one_test (NodeFits fits)).none (tests_of a.condition s) m r.tests u)
+      (λ why r. not_both m why ((one_test (Passes fits)).one (act_steps a s) (asks m) (fault why) (condition_unfit m u) r.first))
 
   -- it does not hold
   pub false_no_limit : {Q : Type 0} (value : Q → Fraction) → AllFit fits (tests_of a.condition s) → holds a.condition s ≡ false → (l : Limit Q) → UnfitAct value fits a s l → ⊥
@@ -104,16 +84,16 @@ module _ (fits : Fraction → Type 0) (a : Action) (s : State) where
 
   -- all steps pass
   pub pass_no_breach : {Q : Type 0} (line : ℕ) → holds a.condition s ≡ true → AllPass fits (act_steps a s) → (b : Breach Q) → StopsAct fits a line s b → ⊥
-  pass_no_breach line h p b = no_stop line b (λ n label r. (let f = r.fails in cc (h, f))) (λ why r. none_stops fits (act_steps a s) (fault why) p r.first)
+  pass_no_breach line h p b = no_stop line b (λ n label r. (let f = r.fails in cc (h, f))) (λ why r. (one_test (Passes fits)).none (act_steps a s) (fault why) p r.first)
 
   pub pass_no_limit : {Q : Type 0} (value : Q → Fraction) → AllPass fits (act_steps a s) → (l : Limit Q) → UnfitAct value fits a s l → ⊥
-  pass_no_limit value p l = no_limit value l (λ n u. none_stops fits (act_steps a s) (asks n) p u)
+  pass_no_limit value p l = no_limit value l (λ n u. (one_test (Passes fits)).none (act_steps a s) (asks n) p u)
 
   -- a fault stops
   pub fault_no_limit : {Q : Type 0} (value : Q → Fraction) (why : Fault) → FirstStop fits (act_steps a s) (fault why) → (l : Limit Q) → UnfitAct value fits a s l → ⊥
-  fault_no_limit value why f l = no_limit value l (λ n u. not_both n why (one_stop fits (act_steps a s) (asks n) (fault why) u f))
+  fault_no_limit value why f l = no_limit value l (λ n u. not_both n why ((one_test (Passes fits)).one (act_steps a s) (asks n) (fault why) u f))
 
   -- a node of the effects stops
   pub node_no_breach : {Q : Type 0} (line : ℕ) (m : Node) → holds a.condition s ≡ true → FirstStop fits (act_steps a s) (asks m) → (b : Breach Q) → StopsAct fits a line s b → ⊥
   node_no_breach line m h u b = no_stop line b (λ n label r. (let f = r.fails in cc (h, f)))
-      (λ why r. not_both m why (one_stop fits (act_steps a s) (asks m) (fault why) u r.first))
+      (λ why r. not_both m why ((one_test (Passes fits)).one (act_steps a s) (asks m) (fault why) u r.first))

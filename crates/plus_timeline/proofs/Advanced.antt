@@ -16,7 +16,8 @@ use Rattle.plus_state.specs.declared.term.Overflow.{Overflow}
 use Rattle.plus_state.specs.declared.outcome.Limit.{Limit}
 use Rattle.plus_state.specs.declared.outcome.Limit.TheVariants.{Happenings, Number, Nonlinear}
 use Rattle.plus_state.specs.Node.{Node}
-use Rattle.plus_state.specs.Asked.{FirstUnfit, node}
+use Rattle.plus_state.specs.Asked.{NodeFits, FirstUnfit, node}
+use Rattle.plus_state.proofs.Testing.{none_fails, pass_one, fail_here, one_test}
 use Rattle.plus_state.specs.View.{overflow_of}
 use Rattle.plus_timeline.specs.declared.next.Next.{Next}
 use Rattle.plus_timeline.specs.declared.next.Next.TheVariants.{Run, Entry, There}
@@ -39,16 +40,15 @@ pub record AdvanceTells {Q : Type 0} (value : Q → Fraction) (fits : Fraction �
 
 -- ---- what does not stand
 none_unfit : (fits : Fraction → Type 0) (n : Node) → FirstUnfit fits [] n → ⊥
-unfolding FirstUnfit
-none_unfit fits n u = u
+none_unfit fits n u = none_fails (NodeFits fits) n u
 
 time_unfit : (fits : Fraction → Type 0) (time u : Fraction) (n : Node) → fits (u -ℚ time) → FirstUnfit fits (node Minus u time ∷ []) n → ⊥
-unfolding FirstUnfit
-time_unfit fits time u n f w = elim w [ inl p ↦ p.0 f | inr p ↦ p.1 ]
+unfolding NodeFits
+time_unfit fits time u n f w = (one_test (NodeFits fits)).none _ n (pass_one (NodeFits fits) (node Minus u time) f) w
 
 first_unfit : (fits : Fraction → Type 0) (time u : Fraction) → (fits (u -ℚ time) → ⊥) → FirstUnfit fits (node Minus u time ∷ []) (node Minus u time)
-unfolding FirstUnfit
-first_unfit fits time u f = inl (f, refl)
+unfolding NodeFits
+first_unfit fits time u f = fail_here (NodeFits fits) (node Minus u time) [] f
 
 -- a running set stands, and the time that is left is a value
 no_limit_running : {Q : Type 0} (value : Q → Fraction) (fits : Fraction → Type 0) (P : Problem) (u : Fraction) (v : TimelineView) (R : List ℕ) (l : Limit Q) → v.now.running ≡ Some R → fits (u -ℚ v.now.time) → Reaches value fits P u v l → ⊥

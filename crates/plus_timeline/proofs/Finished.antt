@@ -12,19 +12,14 @@ use Rattle.plus_state.specs.declared.outcome.Limit.TheVariants.{Happenings, Numb
 use Rattle.plus_state.specs.Fits.{Fits, StateFits}
 use Rattle.plus_state.specs.Tests.{tests_of}
 use Rattle.plus_state.specs.Node.{Node}
-use Rattle.plus_state.specs.Asked.{AllFit, FirstUnfit}
+use Rattle.plus_state.specs.Asked.{NodeFits, AllFit, FirstUnfit}
+use Rattle.plus_state.proofs.Testing.{one_test}
 use Rattle.plus_state.specs.View.{overflow_of}
 use Rattle.plus_timeline.specs.declared.stop.Stop.{Stop}
 use Rattle.plus_timeline.specs.declared.stop.Stop.TheVariants.{Breach as Broken, Limit as Beyond, Ended}
 use Rattle.plus_timeline.specs.Timeline.{TimelineView}
 use Rattle.plus_timeline.specs.Stops.{IsGoing, BreachExactly, LimitExactly, EndedExactly}
 use Rattle.plus_timeline.specs.Finish.{GoalIs, BreaksFinish, GoalUnfit, LimitsFinish}
-
--- where all nodes fit, none is the first that does not
-pub none_first : (fits : Fraction → Type 0) (ns : List Node) (m : Node) → AllFit fits ns → FirstUnfit fits ns m → ⊥
-unfolding AllFit FirstUnfit
-none_first fits [] m a u = u
-none_first fits (n ∷ ns) m a u = elim u [ inl p ↦ p.0 a.0 | inr p ↦ none_first fits ns m a.1 p.1 ]
 
 only_goal : {Q : Type 0} (fits : Fraction → Type 0) (P : Problem) (v : TimelineView) (b : Breach Q) → BreaksFinish fits P v b → GoalIs fits P v false
 only_goal fits P v (UnknownAction line name) s = elim s [ ]
@@ -54,9 +49,9 @@ only_number value fits P v (Nonlinear o k) s = elim s [ ]
 pub no_limit : {Q : Type 0} (value : Q → Fraction) (fits : Fraction → Type 0) (P : Problem) (v : TimelineView) (s : State) → s ≡ v.now.state → AllFit fits (tests_of P.goal s) → (l : Limit Q) → LimitsFinish value fits P v l → ⊥
 no_limit value fits P v s e a l r =
     let u = (only_number value fits P v l r).unfit.first in
-    none_first fits _ _ (subst (λ (w : State). AllFit fits (tests_of P.goal w)) e a) u
+    (one_test (NodeFits fits)).none _ _ (subst (λ (w : State). AllFit fits (tests_of P.goal w)) e a) u
 
 -- where one does not, no breach does
 pub no_breach : {Q : Type 0} (value : Q → Fraction) (fits : Fraction → Type 0) (P : Problem) (v : TimelineView) (s : State) (m : Node) → s ≡ v.now.state → FirstUnfit fits (tests_of P.goal s) m → (b : Breach Q) → BreaksFinish fits P v b → ⊥
 no_breach value fits P v s m e u b r =
-    none_first fits _ m (only_goal fits P v b r).tests (subst (λ (w : State). FirstUnfit fits (tests_of P.goal w) m) e u)
+    (one_test (NodeFits fits)).none _ m (only_goal fits P v b r).tests (subst (λ (w : State). FirstUnfit fits (tests_of P.goal w) m) e u)

@@ -1,5 +1,4 @@
 pub mod StillWorld
-pub mod Sized
 pub mod Begun
 pub mod StillBreaches
 pub mod Advanced
@@ -7,3 +6,4 @@ pub mod Finished
 pub mod Acted
 pub mod Follows
 pub mod Serving
+pub mod Entries

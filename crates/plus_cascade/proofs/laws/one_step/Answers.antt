@@ -1,5 +1,5 @@
-use Rattle.plus_cascade.proofs.StepsLemmas.{one_step}
+use Rattle.plus_state.proofs.Testing.{one_test}
 use Rattle.plus_cascade.proofs.laws.one_step.Goals as goal
 
 pub returns : goal.returns
-returns g c = one_step g.Q.Exact.fits
+returns g c = one_test _

@@ -7,7 +7,7 @@ use Rattle.plus_state.proofs.TestsLemmas.{next_member, no_member, all_view, any_
 use Rattle.plus_crossing.specs.Asked.{AllPass, FirstFailing, cond_stop_of}
 use Rattle.plus_crossing.specs.Conds.{live_asks, TruthAfter}
 use Rattle.plus_crossing.proofs.Walking.{walking_start, walking_next, walking_stop, walking_end, truths_start, truths_next, truths_end, truth_atom}
-use Rattle.plus_crossing.proofs.Joins.{none_asks}
+use Rattle.plus_state.proofs.Testing.{pass_none}
 use Rattle.plus_crossing.proofs.afters.+truth_after.Goals as goal
 
 pub all-init : goal.all-init
@@ -69,4 +69,4 @@ returns-after-any g t c =
     subst (λ (k : Condition). AllPass g.Q.Exact.fits (live_asks c.args.before k c.args.state.now c.args.rates.now) × TruthAfter c.args.state.now c.args.rates.now k c.any.truth) w (walking_end _ _ _ false _ _ _ (rw e at c.any.invariant.walking), truths_end _ false _ _ _ (rw e at c.any.invariant.truths))
 
 pub returns-in-Atom : goal.returns-in-Atom
-returns-in-Atom g t c = rw c.in-Atom.is (none_asks _, truth_atom _ _ _ _ _ _ c.atom.ensures c.signed.ensures)
+returns-in-Atom g t c = rw c.in-Atom.is (pass_none _, truth_atom _ _ _ _ _ _ c.atom.ensures c.signed.ensures)

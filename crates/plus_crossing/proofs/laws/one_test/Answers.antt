@@ -1,5 +1,5 @@
-use Rattle.plus_crossing.proofs.Joins.{one_test}
+use Rattle.plus_state.proofs.Testing.{one_test}
 use Rattle.plus_crossing.proofs.laws.one_test.Goals as goal
 
 pub returns : goal.returns
-returns g c = one_test g.Q.Exact.fits
+returns g c = one_test _
