@@ -14,7 +14,6 @@ use Rattle.plus_spelling.specs.Spelling.{begins, EndsOp, Ends, Spells, IsGapToEn
 use Rattle.plus_spelling.proofs.Runs.{behind}
 use Rattle.plus_spelling.proofs.Found.{found}
 use Rattle.plus_spelling.proofs.Read.{read, none}
-use Rattle.plus_tree.specs.declared.names.Span.{Span}
 use Rattle.plus_tree.specs.Lowered.{lowered}
 use Rattle.plus_reading.specs.Items.{Piece, Item, tok, bad, piece_of, items_at}
 use Rattle.plus_reading.proofs.Stream.{stands, at_token, at_none, at_fault}
