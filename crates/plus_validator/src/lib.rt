@@ -3,6 +3,7 @@
 
 mod checking;
 mod halt;
+mod instances;
 mod judge;
 mod memory;
 mod play;

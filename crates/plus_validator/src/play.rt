@@ -8,19 +8,21 @@ ghost use Rattle.plus_state.specs.View.{problem_of, labels_of};
 ghost use Rattle.plus_timeline.specs.Finish.{IsPaused};
 ghost use Rattle.plus_expansion.specs.Calls.{called_of};
 ghost use Rattle.plus_validator.specs.Plans.{pair_in};
+ghost use Rattle.plus_validator.specs.Made.{AreMade, StayMade};
 ghost use Rattle.plus_validator.specs.Halts.{CallHalts, HaltFits};
 ghost use Rattle.plus_validator.specs.Standing.{CanGoOn};
 ghost use Rattle.plus_validator.specs.Stopped.{HaltsAtMoment, HaltsInAct, HaltsInLine, HaltsInLines, HaltsAtEnd};
 ghost use Rattle.plus_validator.specs.Playing.{IsGroundOf, IsInTime, ActsOnce, PlaysLine, Closes, ReadsAll};
 
 use crate::halt::Halt;
+use crate::instances::Instances;
 use crate::run::Run;
-use plus_ground::{InstanceFault, instance};
+use plus_ground::InstanceFault;
 use plus_number::exact::Exact;
 use plus_number::frac::Frac64;
 use plus_numbering::Numbering;
 use plus_plan::{Line, PlanForm, Time, line_at, time_value};
-use plus_report::{Early, Kinds, Text, Verdict, write_act};
+use plus_report::{Early, Kinds, Text, Verdict, write_act_changes};
 use plus_state::Label;
 use plus_state::outcome::Breach;
 use plus_state::problem::Ground;
@@ -113,31 +115,34 @@ impl Run {
     fn act(
         &mut self,
         alloc: Global,
-        numbering: &Numbering,
+        instances: &mut Instances<'_>,
         ground: &Ground<Frac64>,
         line: u32,
         call: &Call,
     ) -> Result<(), Halt>
-        requires expands { IsGroundOf numbering.now.typed.now.domain numbering.now.typed.now.problem ground.now }
+        requires expands { IsGroundOf instances.old.numbering.now.typed.now.domain instances.old.numbering.now.typed.now.problem ground.now }
+        requires kept { AreMade instances.old }
         requires can { CanGoOn (problem_of fraction_of ground.now) self.old.timeline }
         requires paused { IsPaused self.old.timeline }
         ensures acts { OnOk result (ActsOnce (labels_of ground.now) (problem_of fraction_of ground.now)
-            (called_of numbering.now.typed.now.domain numbering.now.typed.now.problem call.now.name call.now.args) self.old self.new) }
-        ensures stops { IfErr result (HaltsInAct (pair_in numbering.now.typed.now) (labels_of ground.now)
+            (called_of instances.old.numbering.now.typed.now.domain instances.old.numbering.now.typed.now.problem call.now.name call.now.args) self.old self.new) }
+        ensures stops { IfErr result (HaltsInAct (pair_in instances.old.numbering.now.typed.now) (labels_of ground.now)
             (problem_of fraction_of ground.now) line call.now self.old self.new) }
+        ensures kept { StayMade instances.old instances.new }
         ensures fits { IfErr result (HaltFits (problem_of fraction_of ground.now)) }
     {
-        let action = match instance::<Frac64>(alloc, numbering, call) {
-            Ok(action) => action,
+        let place = match instances.place(alloc, call) {
+            Ok(place) => place,
             Err(fault) => return Err(refused_call(alloc, fault, line, call)),
         };
-        self.timeline.act(ground, &action, line)?;
-        write_act(
+        let action = instances.at(place);
+        self.timeline.act(ground, action, line)?;
+        write_act_changes(
             &mut self.report,
             ground,
             &action.label,
             self.timeline.before(),
-            self.timeline.state(),
+            self.timeline.changes(),
         )?;
         Ok(())
     }
@@ -146,25 +151,27 @@ impl Run {
     pub fn line(
         &mut self,
         alloc: Global,
-        numbering: &Numbering,
+        instances: &mut Instances<'_>,
         ground: &Ground<Frac64>,
         read: &Line,
     ) -> Result<(), Halt>
-        requires expands { IsGroundOf numbering.now.typed.now.domain numbering.now.typed.now.problem ground.now }
+        requires expands { IsGroundOf instances.old.numbering.now.typed.now.domain instances.old.numbering.now.typed.now.problem ground.now }
+        requires kept { AreMade instances.old }
         requires can { CanGoOn (problem_of fraction_of ground.now) self.old.timeline }
         requires moment { self.old.timeline.now.running ≡ None }
         requires bottom { HasBottom read.now }
-        ensures plays { OnOk result (PlaysLine (pair_in numbering.now.typed.now) (labels_of ground.now)
+        ensures plays { OnOk result (PlaysLine (pair_in instances.old.numbering.now.typed.now) (labels_of ground.now)
             (problem_of fraction_of ground.now) read.now self.old self.new) }
-        ensures stops { IfErr result (HaltsInLine (pair_in numbering.now.typed.now) (labels_of ground.now)
+        ensures stops { IfErr result (HaltsInLine (pair_in instances.old.numbering.now.typed.now) (labels_of ground.now)
             (problem_of fraction_of ground.now) read.now self.old self.new) }
+        ensures kept { StayMade instances.old instances.new }
         ensures fits { IfErr result (HaltFits (problem_of fraction_of ground.now)) }
     {
         match read {
             Line::Act { line, time, call } => {
                 let until = self.moment(*line, time)?;
                 self.reach(ground, until)?;
-                self.act(alloc, numbering, ground, *line, call)?;
+                self.act(alloc, instances, ground, *line, call)?;
                 let now = self.timeline.time();
                 self.reach(ground, now)
             }
@@ -212,6 +219,7 @@ impl Run {
             (problem_of fraction_of ground.now) text.now self.old self.new) }
         ensures fits { IfErr result (HaltFits (problem_of fraction_of ground.now)) }
     {
+        let mut instances = Instances::new(alloc, numbering);
         let mut from = 0;
         let mut number = 1u32;
         'lines: while let Some((read, next)) = line_at(
@@ -221,7 +229,7 @@ impl Run {
             number,
             PlanForm::Timed,
         )? {
-            self.line(alloc, numbering, ground, &read)?;
+            self.line(alloc, &mut instances, ground, &read)?;
             from = next;
             number += 1;
         }

@@ -26,7 +26,7 @@ pub returns-in_ok-act-in-Act-clause-plays : goal.returns-in_ok-act-in-Act-clause
 returns-in_ok-act-in-Act-clause-plays c =
     let N = labels_of c.args.ground.now in
     let P = problem_of fraction_of c.args.ground.now in
-    let d = (pair_in c.args.numbering.now.typed.now) in
+    let d = (pair_in c.args.instances.now.numbering.now.typed.now) in
     on_ok c.reach-in-Act.result _ _ (λ r.
     subst (λ l. PlaysLine d N P l c.args.self.now c.reach-in-Act.new.self) (sym c.in-Act.is)
     (act_played d N P c.in-Act.line c.in-Act.time c.in-Act.call c.in_ok-until-in-Act.until (fraction_of c.time-now.result)
@@ -38,7 +38,7 @@ pub returns-in_ok-reach-in-End-clause-plays : goal.returns-in_ok-reach-in-End-cl
 returns-in_ok-reach-in-End-clause-plays c =
     let N = labels_of c.args.ground.now in
     let P = problem_of fraction_of c.args.ground.now in
-    let d = (pair_in c.args.numbering.now.typed.now) in
+    let d = (pair_in c.args.instances.now.numbering.now.typed.now) in
     let new : Run = record { timeline = c.reach-in-End.new.self.timeline; report = c.reach-in-End.new.self.report; ended = true } in
     subst (λ l. PlaysLine d N P l c.args.self.now new) (sym c.in-End.is)
     (end_played d N P c.in-End.line c.in-End.time c.in_ok-until-in-End.until c.args.self.now c.reach-in-End.new.self new
@@ -62,7 +62,7 @@ pub returns-in_err-until-in-Act-clause-stops : goal.returns-in_err-until-in-Act-
 returns-in_err-until-in-Act-clause-stops c =
     let N = labels_of c.args.ground.now in
     let P = problem_of fraction_of c.args.ground.now in
-    let d = (pair_in c.args.numbering.now.typed.now) in
+    let d = (pair_in c.args.instances.now.numbering.now.typed.now) in
     let line : Line = lines.Act c.in-Act.line c.in-Act.time c.in-Act.call in
     from_err c.from_residual.result (λ (h : Halt). h ≡ c.in_err-until-in-Act.field-0.0) (HaltsInLine d N P c.args.read.now c.args.self.now c.args.self.now) c.from_residual.ensures.1
     (λ h e. subst (λ (l : Line). HaltsInLine d N P l c.args.self.now c.args.self.now h) (sym c.in-Act.is)
@@ -73,7 +73,7 @@ pub returns-in_err-until-in-End-clause-stops : goal.returns-in_err-until-in-End-
 returns-in_err-until-in-End-clause-stops c =
     let N = labels_of c.args.ground.now in
     let P = problem_of fraction_of c.args.ground.now in
-    let d = (pair_in c.args.numbering.now.typed.now) in
+    let d = (pair_in c.args.instances.now.numbering.now.typed.now) in
     let line : Line = lines.End c.in-End.line c.in-End.time in
     from_err c.from_residual-in_err-until-in-End.result (λ (h : Halt). h ≡ c.in_err-until-in-End.field-0.0) (HaltsInLine d N P c.args.read.now c.args.self.now c.args.self.now) c.from_residual-in_err-until-in-End.ensures.1
     (λ h e. subst (λ (l : Line). HaltsInLine d N P l c.args.self.now c.args.self.now h) (sym c.in-End.is)
@@ -84,7 +84,7 @@ pub returns-in_err-reach-in-Act-clause-stops : goal.returns-in_err-reach-in-Act-
 returns-in_err-reach-in-Act-clause-stops c =
     let N = labels_of c.args.ground.now in
     let P = problem_of fraction_of c.args.ground.now in
-    let d = (pair_in c.args.numbering.now.typed.now) in
+    let d = (pair_in c.args.instances.now.numbering.now.typed.now) in
     let line : Line = lines.Act c.in-Act.line c.in-Act.time c.in-Act.call in
     let at = c.in_ok-until-in-Act.until in
     from_err c.from_residual-in_err-reach-in-Act.result (λ (h : Halt). h ≡ c.in_err-reach-in-Act.field-0.0) (HaltsInLine d N P c.args.read.now c.args.self.now c.reach.new.self) c.from_residual-in_err-reach-in-Act.ensures.1
@@ -97,7 +97,7 @@ pub returns-in_err-reach-in-End-clause-stops : goal.returns-in_err-reach-in-End-
 returns-in_err-reach-in-End-clause-stops c =
     let N = labels_of c.args.ground.now in
     let P = problem_of fraction_of c.args.ground.now in
-    let d = (pair_in c.args.numbering.now.typed.now) in
+    let d = (pair_in c.args.instances.now.numbering.now.typed.now) in
     let line : Line = lines.End c.in-End.line c.in-End.time in
     let at = c.in_ok-until-in-End.until in
     from_err c.from_residual-in_err-reach-in-End.result (λ (h : Halt). h ≡ c.in_err-reach-in-End.field-0.0) (HaltsInLine d N P c.args.read.now c.args.self.now c.reach-in-End.new.self) c.from_residual-in_err-reach-in-End.ensures.1
@@ -110,7 +110,7 @@ pub returns-in_err-act-in-Act-clause-stops : goal.returns-in_err-act-in-Act-clau
 returns-in_err-act-in-Act-clause-stops c =
     let N = labels_of c.args.ground.now in
     let P = problem_of fraction_of c.args.ground.now in
-    let d = (pair_in c.args.numbering.now.typed.now) in
+    let d = (pair_in c.args.instances.now.numbering.now.typed.now) in
     let at = c.in_ok-until-in-Act.until in
     from_err c.from_residual-in_err-act-in-Act.result (λ (h : Halt). h ≡ c.in_err-act-in-Act.field-0.0) (HaltsInLine d N P c.args.read.now c.args.self.now c.act.new.self) c.from_residual-in_err-act-in-Act.ensures.1
     (λ h e. subst (λ (l : Line). HaltsInLine d N P l c.args.self.now c.act.new.self h) (sym c.in-Act.is)
@@ -121,7 +121,7 @@ pub returns-in_ok-act-in-Act-clause-stops : goal.returns-in_ok-act-in-Act-clause
 returns-in_ok-act-in-Act-clause-stops c =
     let N = labels_of c.args.ground.now in
     let P = problem_of fraction_of c.args.ground.now in
-    let d = (pair_in c.args.numbering.now.typed.now) in
+    let d = (pair_in c.args.instances.now.numbering.now.typed.now) in
     let at = c.in_ok-until-in-Act.until in
     on_err c.reach-in-Act.result (HaltsOnWay N P (fraction_of c.time-now.result) c.act.new.self c.reach-in-Act.new.self) (HaltsInLine d N P c.args.read.now c.args.self.now c.reach-in-Act.new.self)
     (λ h s. subst (λ (l : Line). HaltsInLine d N P l c.args.self.now c.reach-in-Act.new.self h) (sym c.in-Act.is)
