@@ -1,5 +1,4 @@
 pub mod StillWorld
-pub mod Sized
 pub mod Begun
 pub mod StillBreaches
 pub mod Advanced
@@ -13,3 +12,4 @@ pub mod Between
 pub mod Stays
 pub mod Left
 pub mod Rows
+pub mod Entries

@@ -1,3 +1,4 @@
+pub mod EntryStates
 pub mod Timeline
 pub mod TimelineCode
 pub mod Still

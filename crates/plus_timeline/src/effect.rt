@@ -1,13 +1,15 @@
-// What one action does in a state.
+//! What one action changes of a state.
 ghost use Rattle.std.specs.Prelude.{IfOk, length};
 ghost use Rattle.plus_state.specs.View.{action_of};
+ghost use Rattle.plus_state.specs.Changes.{patched, RisesIn};
 ghost use Rattle.plus_state.specs.Fits.{ActionFits};
 ghost use Rattle.plus_timeline.specs.Stops.{BreachExactly, LimitExactly, NeverEnded};
 ghost use Rattle.plus_timeline.specs.Act.{ActsOn, StopsAct, UnfitAct};
 
 use crate::stop::Stop;
 use plus_number::exact::Exact;
-use plus_state::joint_effect::apply;
+use plus_state::changes::Changes;
+use plus_state::joint_effect::joint_changes;
 use plus_state::labels::Label;
 use plus_state::outcome::{Breach, JointStop, Limit};
 use plus_state::problem::Action;
@@ -15,16 +17,18 @@ use plus_state::states::State;
 use plus_state::truth::holds;
 use std::alloc::Global;
 
-// The state after the action, or the first step that stops it.
-pub fn action_after<Q: Exact>(
+// What the action changes, or the first step that stops it.
+pub fn action_changes<Q: Exact>(
     alloc: Global,
     state: &State<Q>,
     action: &Action<Q>,
     line: u32,
-) -> Result<State<Q>, Stop<Q>>
+) -> Result<Changes<Q>, Stop<Q>>
     requires { ActionFits (length (state.now.atoms)) (length (state.now.fluents))
         (action_of Q.value action.now) }
-    ensures ok { IfOk result (ActsOn Q.fits (action_of Q.value action.now) state.now) }
+    ensures ok { IfOk result (λ c.
+        ActsOn Q.fits (action_of Q.value action.now) state.now (patched state.now c)) }
+    ensures rises { IfOk result (RisesIn state.now) }
     ensures breach { BreachExactly
         (StopsAct Q.fits (action_of Q.value action.now) line state.now) result }
     ensures limit { LimitExactly
@@ -37,8 +41,8 @@ pub fn action_after<Q: Exact>(
             Ok(label) => Err(Stop::Breach(Breach::Precondition { line, label })),
             Err(_) => Err(Stop::Memory),
         },
-        Ok(true) => match apply(alloc, state, &action.effects) {
-            Ok(after) => Ok(after),
+        Ok(true) => match joint_changes(alloc, state, &action.effects) {
+            Ok(changes) => Ok(changes),
             Err(JointStop::Conflict(fluent)) => Err(Stop::Breach(Breach::Conflict { fluent })),
             Err(JointStop::NoValue(fluent)) => Err(Stop::Breach(Breach::NoValue { fluent })),
             Err(JointStop::Number(overflow)) => Err(Stop::Limit(Limit::Number(overflow))),

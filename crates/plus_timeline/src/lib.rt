@@ -2,6 +2,7 @@
 #![tactic(auto)]
 
 mod effect;
+mod entry;
 pub mod laws;
 pub mod next;
 pub mod stop;

@@ -1,9 +1,10 @@
-// A timeline: a history that is played one part at a time, and of which only the view is kept.
+//! A timeline: a history that is played one part at a time, and of which only the view is kept.
 ghost use Rattle.std.specs.Prelude.{◌≡◌, ◌≤◌, ◌<◌, ◌↔◌, IsTrue, ℕ, suc, Bool, true, false, Option, Some, None, List, [], length, map, option_map, unwrap_or, IfOk, OnOk, OnErr};
 ghost use Rattle.plus_fraction.specs.Fraction.{◌<ℚ◌};
 ghost use Rattle.plus_model.specs.History.{view_after, Enter, Act, Run as Runs};
 ghost use Rattle.plus_model.specs.Trajectory.{is_below};
 ghost use Rattle.plus_state.specs.View.{problem_of, action_of};
+ghost use Rattle.plus_state.specs.Changes.{patched, RisesIn, LeadsTo};
 ghost use Rattle.plus_state.specs.Fits.{StateFits, ProblemFits, ActionFits};
 ghost use Rattle.plus_timeline.specs.Still.{IsStill, Serves};
 ghost use Rattle.plus_timeline.specs.Timeline.{TimelineView, begun, next_of, event_numbers, process_numbers};
@@ -12,11 +13,13 @@ ghost use Rattle.plus_timeline.specs.Act.{DoesAct, BreaksAct, LimitsAct};
 ghost use Rattle.plus_timeline.specs.Finish.{IsPaused, GoalIs, BreaksFinish, LimitsFinish, TakesNoMemory};
 ghost use Rattle.plus_timeline.specs.Advance.{IsAhead, Advances, BreaksAdvance, LimitsAdvance, RunsBy, FullBy};
 
-use crate::effect::action_after;
+use crate::effect::action_changes;
+use crate::entry::EntryStates;
 use crate::next::Next;
 use crate::stop::Stop;
 use plus_number::consts::zero;
 use plus_number::exact::Exact;
+use plus_state::changes::Changes;
 use plus_state::outcome::{Breach, Limit};
 use plus_state::problem::{Action, Ground};
 use plus_state::states::State;
@@ -25,7 +28,6 @@ use plus_state::truth::holds;
 use std::alloc::{AllocError, Global};
 use std::cmp::Ordering;
 use std::marker::Model;
-use std::mem;
 
 /// A history that is played one part at a time. It keeps no parts, but what the next one depends on,
 /// and what the last one was.
@@ -33,11 +35,7 @@ use std::mem;
 pub struct Timeline<Q: Exact> {
     alloc: Global,
     time: Q,
-    state: State<Q>,
-    // where there is none, it is `state`
-    before: Option<State<Q>>,
-    // where there is none, it is the one before
-    arrival: Option<State<Q>>,
+    states: EntryStates<Q>,
     events: Vec<EventId>,
     running: Vec<ProcessId>,
     lines: u64,
@@ -49,7 +47,7 @@ pub struct Timeline<Q: Exact> {
 }
 
 impl<Q: Exact> Model for Timeline<Q> {
-    ghost use Rattle.std.specs.Prelude.{◌≡◌, [], false, length, option_map, unwrap_or};
+    ghost use Rattle.std.specs.Prelude.{◌≡◌, [], false, length, option_map};
     ghost use Rattle.plus_timeline.specs.Timeline.{TimelineView};
     ghost use Rattle.plus_timeline.specs.TimelineCode.{coded_timeline};
 
@@ -62,14 +60,14 @@ impl<Q: Exact> Model for Timeline<Q> {
     ghost view = { λ t. record {
       now = record {
         time = Q.value t.time;
-        state = t.state;
+        state = t.states.state;
         fired = [];
         running = running_by (option_map (next_of Q.value) t.answer)
             (process_numbers t.running.items);
         acted = t.lines;
       };
-      before = unwrap_or t.before t.state;
-      arrival = unwrap_or t.arrival (unwrap_or t.before t.state);
+      before = t.states.before;
+      arrival = t.states.arrival;
       literal = false;
       events = event_numbers t.events.items;
       running = process_numbers t.running.items;
@@ -78,13 +76,13 @@ impl<Q: Exact> Model for Timeline<Q> {
       answer = option_map (next_of Q.value) t.answer;
       acted = t.acted;
       ended = t.ended;
-      atoms = length (t.state.atoms);
-      fluents = length (t.state.fluents);
+      atoms = length (t.states.state.atoms);
+      fluents = length (t.states.state.fluents);
     } };
 
-    ghost invariant = { λ t. Keeps t.state (unwrap_or t.before t.state)
-        (unwrap_or t.arrival (unwrap_or t.before t.state))
-        (length (t.state.atoms)) (length (t.state.fluents)) (process_numbers t.running.items)
+    ghost invariant = { λ t. Keeps t.states.state t.states.before t.states.arrival
+        (length (t.states.state.atoms)) (length (t.states.state.fluents))
+        (process_numbers t.running.items)
         (option_map (next_of Q.value) t.answer) t.entries t.most };
 }
 
@@ -95,18 +93,6 @@ fn is_earlier<Q: Exact>(time: Q, other: Q) -> bool
         Ordering::Less => true,
         Ordering::Equal => false,
         Ordering::Greater => false,
-    }
-}
-
-fn copy_of<Q: Exact>(
-    alloc: Global,
-    state: &Option<State<Q>>,
-) -> Result<Option<State<Q>>, AllocError>
-    ensures { IfOk result (λ copy. copy ≡ state.now) }
-{
-    match state {
-        None => Ok(None),
-        Some(state) => Ok(Some(state.copy(alloc)?)),
     }
 }
 
@@ -125,9 +111,7 @@ impl<Q: Exact> Timeline<Q> {
         Ok(Timeline {
             alloc,
             time: zero(),
-            state: ground.initial.copy(alloc)?,
-            before: None,
-            arrival: None,
+            states: EntryStates::begin(alloc, &ground.initial)?,
             events: Vec::new(alloc),
             running: Vec::new(alloc),
             lines: 0,
@@ -213,11 +197,14 @@ impl<Q: Exact> Timeline<Q> {
             self.end();
             return Err(Stop::Memory);
         }
-        match action_after(self.alloc(), self.state(), action, line) {
-            Ok(after) => {
-                self.put_state(after);
-                Ok(())
-            }
+        match action_changes(self.alloc(), self.state(), action, line) {
+            Ok(changes) => match self.put_changes(changes) {
+                Ok(()) => Ok(()),
+                Err(_) => {
+                    self.end();
+                    Err(Stop::Memory)
+                }
+            },
             Err(stop) => {
                 self.end();
                 Err(stop)
@@ -262,7 +249,7 @@ impl<Q: Exact> Timeline<Q> {
         ensures state { result.now ≡ self.now.now.state }
         ensures fits { StateFits (self.now.atoms) (self.now.fluents) result.now }
     {
-        &self.state
+        self.states.state()
     }
 
     /// The state on arrival in the present entry, before its timed literals.
@@ -270,13 +257,7 @@ impl<Q: Exact> Timeline<Q> {
         ensures state { result.now ≡ self.now.arrival }
         ensures fits { StateFits (self.now.atoms) (self.now.fluents) result.now }
     {
-        match &self.arrival {
-            Some(state) => state,
-            None => match &self.before {
-                Some(state) => state,
-                None => &self.state,
-            },
-        }
+        self.states.arrival()
     }
 
     /// The state before the last round, action or stretch, and the initial state where there was none.
@@ -284,10 +265,15 @@ impl<Q: Exact> Timeline<Q> {
         ensures state { result.now ≡ self.now.before }
         ensures fits { StateFits (self.now.atoms) (self.now.fluents) result.now }
     {
-        match &self.before {
-            Some(state) => state,
-            None => &self.state,
-        }
+        self.states.before()
+    }
+
+    /// What the last round, action or stretch changed: each atom and each fluent at most once, by
+    /// their numbers. They lead from the state before to the present one.
+    pub fn changes(&self) -> &Changes<Q>
+        ensures { LeadsTo self.now.before result.now self.now.now.state }
+    {
+        self.states.changes()
     }
 
     /// The events of the last round.
@@ -319,9 +305,7 @@ impl<Q: Exact> Timeline<Q> {
         Ok(Timeline {
             alloc,
             time: self.time,
-            state: self.state.copy(alloc)?,
-            before: copy_of(alloc, &self.before)?,
-            arrival: copy_of(alloc, &self.arrival)?,
+            states: self.states.copy(alloc)?,
             events: Vec::from_slice(alloc, &self.events)?,
             running: Vec::from_slice(alloc, &self.running)?,
             lines: self.lines,
@@ -376,22 +360,24 @@ impl<Q: Exact> Timeline<Q> {
         self.lines < u64::MAX
     }
 
-    // Goes on in the state after an action.
-    fn put_state(&mut self, after: State<Q>)
+    // Goes on in the state after an action, which changed this.
+    fn put_changes(&mut self, changes: Changes<Q>) -> Result<(), AllocError>
         requires there { self.old.answer ≡ Some Next.There }
         requires count { self.old.now.acted < u64.MAX }
-        requires fits { StateFits (self.old.atoms) (self.old.fluents) after }
+        requires rises { RisesIn self.old.now.state changes }
         ensures moment { self.old.now.running ≡ None }
-        ensures now { self.new ≡ record (self.old) {
-          now = view_after (self.old.now) (Act (self.old.now.acted) after);
+        ensures ok { OnOk result (self.new ≡ record (self.old) {
+          now = view_after (self.old.now)
+              (Act (self.old.now.acted) (patched self.old.now.state changes));
           before = self.old.now.state;
           acted = true;
-        } }
+        }) }
+        ensures err { OnErr result (self.new ≡ self.old) }
     {
-        self.arrival = self.arrival.take().or(self.before.take());
-        self.before = Some(mem::replace(&mut self.state, after));
+        self.states.step(changes)?;
         self.lines += 1;
         self.acted = true;
+        Ok(())
     }
 
     fn arrive(&mut self)
@@ -435,8 +421,7 @@ impl<Q: Exact> Timeline<Q> {
         } }
     {
         self.time = time;
-        self.before = None;
-        self.arrival = None;
+        self.states.enter(self.alloc);
         self.entries += 1;
         self.answer = Some(Next::Entry { time });
         self.acted = false;
