@@ -9,7 +9,7 @@ ghost use Rattle.planplus.specs.Pair.{behind, text_refusal, type_refusal, word_o
 ghost use Rattle.planplus.specs.Reads.{NotRead, ReadsDomain, ReadsProblem, ReadsPair, NoDomain, NoProblem, NoPair};
 
 use plus_io::{ReadStop, Shelf, read_all};
-use plus_parser::{read_domain, read_problem};
+use plus_places::{read_domain, read_problem};
 use plus_report::{Early, Text, Word};
 use plus_tokens::LexFault;
 use plus_tree::{Domain, Problem, Span, TextFault};
