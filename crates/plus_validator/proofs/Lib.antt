@@ -16,3 +16,4 @@ pub mod TextStops
 pub mod Cutting
 pub mod Judging
 pub mod Validating
+pub mod Excluding

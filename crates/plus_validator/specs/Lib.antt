@@ -10,3 +10,4 @@ pub mod Refused
 pub mod Stopped
 pub mod Judged
 pub mod Validates
+pub mod Laws

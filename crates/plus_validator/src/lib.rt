@@ -4,6 +4,7 @@
 mod checking;
 mod halt;
 mod judge;
+pub mod laws;
 mod memory;
 mod play;
 mod run;
