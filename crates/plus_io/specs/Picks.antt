@@ -22,11 +22,13 @@ with_read count (Some (pick ∷ picks)) = Some (record pick { count = pick.count
 abbrev pub PicksOnce : ℕ → List ℕ → Option (List Pick) → Option (List Pick) → Type 0
 PicksOnce most name old new = (count : ℕ) × (count ≤ most) × (new ≡ with_pick name count old)
 
--- Between old and new the file under a name was read, and no other: it was picked once, and at most so many bytes of it
--- were read, which is what its rest shows, unless the pick failed.
-pub record ReadsOnce {S : Type 0} (bytes : S → List ℕ → Option (List ℕ)) (picked rest : S → Option (List ℕ)) (picks : S → Option (List Pick)) (most : ℕ) (name : List ℕ) (old new : S) : Type 0 where
-  pub once : PicksOnce most name (picks old) (picks new)
-  pub behind : (picked new ≡ None) ⊎ TakesAtMost most (bytes old name) (rest new)
+-- Between old and new the file under a name was read, and no other: its pick failed, and nothing is picked; or it was picked
+-- once, at most so many bytes of it were read, and its rest is what is behind them.
+pub data ReadsOnce {S : Type 0} (bytes : S → List ℕ → Option (List ℕ)) (picked rest : S → Option (List ℕ)) (picks : S → Option (List Pick)) (most : ℕ) (name : List ℕ) (old new : S) : Type 0 where
+  unpicked : picked new ≡ None → picks new ≡ picks old → ReadsOnce bytes picked rest picks most name old new
+  taken :
+      PicksOnce most name (picks old) (picks new) → TakesAtMost most (bytes old name) (rest new)
+      → ReadsOnce bytes picked rest picks most name old new
 
 -- the files under these names were read so, in this order
 abbrev pub ReadsEach : {S : Type 0} → (S → List ℕ → Option (List ℕ)) → (S → Option (List ℕ)) → (S → Option (List ℕ)) → (S → Option (List Pick)) → ℕ → List (List ℕ) → S → S → Type 0

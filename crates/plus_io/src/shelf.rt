@@ -25,8 +25,8 @@ pub trait Shelf {
     /// What is unread of the text that is picked, where the shelf tells it.
     ghost rest: { Self → Option (List ℕ) };
 
-    /// The picks so far, the latest first, each with how many bytes were read since, where the
-    /// shelf tells them.
+    /// The picks so far that did not fail, the latest first, each with how many bytes were read
+    /// from then to the next, where the shelf tells them.
     ghost picks: { Self → Option (List Pick) };
 
     /// How many faults there were. It never falls, and stands still at the greatest `u64`.
@@ -47,8 +47,9 @@ pub trait Shelf {
         ensures outside { ¬ Contains (names self.old) name.now →
             IsOk result × (picked self.new ≡ None) × (faults self.new ≡ faults self.old) }
 
-        // A pick is told also where it failed.
-        ensures told { picks self.new ≡ with_pick name.now 0 (picks self.old) }
+        // A pick that failed is not told.
+        ensures told { OnOk result (picks self.new ≡ with_pick name.now 0 (picks self.old)) }
+        ensures untold { OnErr result (picks self.new ≡ picks self.old) }
         ensures keeps { KeepsFiles names bytes faults self.old self.new };
 
     /// Reads the next piece to the front of `into`, and answers how many bytes it has: 0 only at

@@ -1,6 +1,6 @@
 use Rattle.std.proofs.Common.{arith, inr, refl, ◌≡◌, ◌≤◌, ◌++◌, length, take, ◌∙◌, ap, length-append, Ok}
 use Rattle.std.proofs.lemmas.List.{length-take-le, length-take}
-use Rattle.plus_io.specs.Picks.{with_pick}
+use Rattle.plus_io.specs.Picks.{with_pick, taken}
 use Rattle.plus_io.proofs.Pieces.{OnErr-always, empty_prefix, too_long, cut_prefix, at_most_one_over, once_over, told_more, Takes-append, kept_prefix, KeepsFiles-trans}
 use Rattle.plus_io.proofs.shelf.read_all.Goals as goal
 
@@ -40,25 +40,25 @@ returns-in_err-extend_from_slice-2-clause-taken g c =
     inr (at_most_one_over _ _ _ _ _ _ _ c.loop-count.invariant.front c.in_ok-count.ensures.piece fits (omega (arith, simp length-take at c.read.auto.into, c.min.ensures)))
 
 pub returns-in_err-extend_from_slice-clause-reads : goal.returns-in_err-extend_from_slice-clause-reads
-returns-in_err-extend_from_slice-clause-reads g c = record {
-  once = once_over _ _ _ _ _ _ _ c.loop-count.invariant.told c.in_ok-count.ensures.told (omega (arith, c.in_ok-count.ensures.fits, simp length-take at c.read.auto.into, c.min.ensures));
-  behind = let fits : c.in_ok-count.count ≤ length c.read.new.into = c.in_ok-count.ensures.fits in
-      inr (at_most_one_over _ _ _ _ _ _ _ c.loop-count.invariant.front c.in_ok-count.ensures.piece fits (omega (arith, simp length-take at c.read.auto.into, c.min.ensures)));
-}
+returns-in_err-extend_from_slice-clause-reads g c =
+    let fits : c.in_ok-count.count ≤ length c.read.new.into = c.in_ok-count.ensures.fits in
+    taken
+    (once_over _ _ _ _ _ _ _ c.loop-count.invariant.told c.in_ok-count.ensures.told (omega (arith, c.in_ok-count.ensures.fits, simp length-take at c.read.auto.into, c.min.ensures)))
+    (at_most_one_over _ _ _ _ _ _ _ c.loop-count.invariant.front c.in_ok-count.ensures.piece fits (omega (arith, simp length-take at c.read.auto.into, c.min.ensures)))
 
 pub returns-then-count-room-clause-reads : goal.returns-then-count-room-clause-reads
-returns-then-count-room-clause-reads g c = record {
-  once = once_over _ _ _ _ _ _ _ c.loop-count.invariant.told c.in_ok-count.ensures.told (omega (arith, c.in_ok-count.ensures.fits, simp length-take at c.read.auto.into, c.min.ensures));
-  behind = let fits : c.in_ok-count.count ≤ length c.read.new.into = c.in_ok-count.ensures.fits in
-      inr (at_most_one_over _ _ _ _ _ _ _ c.loop-count.invariant.front c.in_ok-count.ensures.piece fits (omega (arith, simp length-take at c.read.auto.into, c.min.ensures)));
-}
+returns-then-count-room-clause-reads g c =
+    let fits : c.in_ok-count.count ≤ length c.read.new.into = c.in_ok-count.ensures.fits in
+    taken
+    (once_over _ _ _ _ _ _ _ c.loop-count.invariant.told c.in_ok-count.ensures.told (omega (arith, c.in_ok-count.ensures.fits, simp length-take at c.read.auto.into, c.min.ensures)))
+    (at_most_one_over _ _ _ _ _ _ _ c.loop-count.invariant.front c.in_ok-count.ensures.piece fits (omega (arith, simp length-take at c.read.auto.into, c.min.ensures)))
 
 pub returns-in_err-extend_from_slice-2-clause-reads : goal.returns-in_err-extend_from_slice-2-clause-reads
-returns-in_err-extend_from_slice-2-clause-reads g c = record {
-  once = once_over _ _ _ _ _ _ _ c.loop-count.invariant.told c.in_ok-count.ensures.told (omega (arith, c.in_ok-count.ensures.fits, simp length-take at c.read.auto.into, c.min.ensures));
-  behind = let fits : c.in_ok-count.count ≤ length c.read.new.into = c.in_ok-count.ensures.fits in
-      inr (at_most_one_over _ _ _ _ _ _ _ c.loop-count.invariant.front c.in_ok-count.ensures.piece fits (omega (arith, simp length-take at c.read.auto.into, c.min.ensures)));
-}
+returns-in_err-extend_from_slice-2-clause-reads g c =
+    let fits : c.in_ok-count.count ≤ length c.read.new.into = c.in_ok-count.ensures.fits in
+    taken
+    (once_over _ _ _ _ _ _ _ c.loop-count.invariant.told c.in_ok-count.ensures.told (omega (arith, c.in_ok-count.ensures.fits, simp length-take at c.read.auto.into, c.min.ensures)))
+    (at_most_one_over _ _ _ _ _ _ _ c.loop-count.invariant.front c.in_ok-count.ensures.piece fits (omega (arith, simp length-take at c.read.auto.into, c.min.ensures)))
 
 pub loop-count-preserved : goal.loop-count-preserved
 loop-count-preserved g c =
