@@ -90,7 +90,7 @@ pair_by_domain domain problem b n NoMemory h = tt
 problem_then : (domain problem : Option (List ℕ)) (d : Domain) (e : early.Early) → ReadsDomain domain d → IfSome problem (λ ps. ProblemRefused ps e) → IfSome domain (λ ds. IfSome problem (λ ps. PairRefused ds ps e))
 problem_then None problem d e r h = tt
 problem_then (Some ds) None d e r h = tt
-problem_then (Some ds) (Some ps) d e r h = by_problem d r.0 h
+problem_then (Some ds) (Some ps) d e r h = by_problem d r.1 r.0 h
 
 pub pair_by_problem :
     (domain problem later : Option (List ℕ)) (d : Domain) (b m n : ℕ) (r : Refusal) → later ≡ problem → b ≤ m
@@ -106,7 +106,8 @@ types_then :
     → IfSome domain (λ ds. IfSome problem (λ ps. PairRefused ds ps e))
 types_then None problem d p fault e rd rp f q = tt
 types_then (Some ds) None d p fault e rd rp f q = tt
-types_then (Some ds) (Some ps) d p fault e rd rp f q = by_types d p fault rd.0 rp.0 f q
+types_then (Some ds) (Some ps) d p fault e rd rp f q =
+    by_types d p fault (record { domain_within = rd.1; problem_within = rp.1; domain_spelled = rd.0; problem_spelled = rp.0 }) f q
 
 types_by :
     (domain problem : Option (List ℕ)) (d : Domain) (p : Problem) (b n : ℕ) (fault : TypeFault) → ReadsDomain domain d

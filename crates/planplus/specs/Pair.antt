@@ -82,18 +82,20 @@ pub data ProblemRefused (text : List ℕ) (e : early.Early) : Type 0 where
       (fault : TextFault) → length text ≤ text_limit → ((p : Problem) → SpellsProblemWithin depth_limit text p → ⊥)
       → IsPlace ProblemTokens depth_limit text fault → text_refusal texts.Problem (length text) fault ≡ Early e → ProblemRefused text e
 
--- why two texts are no well-typed pair
-pub data PairRefused (domain problem : List ℕ) (e : early.Early) : Type 0 where
-  by_domain : DomainRefused domain e → PairRefused domain problem e
-  by_problem : (d : Domain) → SpellsWithin depth_limit domain d → ProblemRefused problem e → PairRefused domain problem e
-  by_types :
-      (d : Domain) (p : Problem) (fault : TypeFault) → SpellsWithin depth_limit domain d
-      → SpellsProblemWithin depth_limit problem p → IsFirstFault (faults_of d p) fault → type_refusal fault ≡ Early e
-      → PairRefused domain problem e
-
--- the two texts spell this pair, which is well typed
+-- the two texts are within their limits and spell this pair
 pub record SpellsPair (domain problem : List ℕ) (d : Domain) (p : Problem) : Type 0 where
   pub domain_within : length domain ≤ text_limit
   pub problem_within : length problem ≤ text_limit
   pub domain_spelled : SpellsWithin depth_limit domain d
   pub problem_spelled : SpellsProblemWithin depth_limit problem p
+
+-- Why two texts are no well-typed pair: the domain's text, or, where it spells a domain, the problem's, or, where the two
+-- spell a pair, its types.
+pub data PairRefused (domain problem : List ℕ) (e : early.Early) : Type 0 where
+  by_domain : DomainRefused domain e → PairRefused domain problem e
+  by_problem :
+      (d : Domain) → length domain ≤ text_limit → SpellsWithin depth_limit domain d → ProblemRefused problem e
+      → PairRefused domain problem e
+  by_types :
+      (d : Domain) (p : Problem) (fault : TypeFault) → SpellsPair domain problem d p → IsFirstFault (faults_of d p) fault
+      → type_refusal fault ≡ Early e → PairRefused domain problem e
