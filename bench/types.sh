@@ -41,9 +41,9 @@ for size in 16000 64000; do
     { flat "$size"; echo t0; } | domain > "$work/d"
     measure "a flat list of $size types, one listed twice"
 done
-chain 67000 | domain > "$work/d"
+chain 66900 | domain > "$work/d"
 measure "a chain of a mebibyte"
-flat 145000 | domain > "$work/d"
+flat 144900 | domain > "$work/d"
 measure "a flat list of a mebibyte"
 
 for count in 4000 10000; do

@@ -1,15 +1,16 @@
 -- Why a text, and a pair, is refused, put together from what the calls answer.
-use Rattle.std.proofs.Common.{◌≡◌, ℕ, ◌≤◌, List, Option, Some, None, Err, arith, sym, subst, refl, length}
+use Rattle.std.proofs.Common.{◌≡◌, ℕ, ◌≤◌, List, Option, Some, None, arith, sym, subst, refl, length}
 use Rattle.std.specs.Prelude.{IfSome}
 use Rattle.plus_tokens.specs.declared.token.LexFault.TheVariants as lex
 use Rattle.plus_tree.specs.declared.faults.TextFault.{TextFault}
 use Rattle.plus_tree.specs.declared.faults.TextFault.TheVariants as faults
 use Rattle.plus_tree.specs.declared.trees.Domain.{Domain}
 use Rattle.plus_tree.specs.declared.trees.Problem.{Problem}
-use Rattle.plus_reading.specs.Items.{items_of}
-use Rattle.plus_reading.specs.Reading.{Fails}
-use Rattle.plus_parser.specs.ReadingDomain.{domain_of}
-use Rattle.plus_parser.specs.ReadingProblem.{problem_of}
+use Rattle.plus_parser.specs.SpellsDomain.{DomainTokens}
+use Rattle.plus_parser.specs.SpellsProblem.{ProblemTokens}
+use Rattle.plus_places.specs.Place.{IsPlace, Refuses}
+use Rattle.plus_places.proofs.Domains as domains
+use Rattle.plus_places.proofs.Problems as problems
 use Rattle.plus_types.specs.declared.faults.TypeFault.{TypeFault}
 use Rattle.plus_types.specs.declared.faults.TypeFault.TheVariants as types
 use Rattle.plus_types.specs.Faults.{faults_of, IsFirstFault}
@@ -26,15 +27,16 @@ WasRead bytes text = IfSome bytes (λ bs. (text ≡ bs) × (length bs ≤ 104857
 
 domain_line :
     (bytes : Option (List ℕ)) (text : List ℕ) (fault : TextFault) (e : early.Early) → WasRead bytes text
-    → domain_of 64 (items_of text) ≡ Err fault → text_refusal texts.Domain (length text) fault ≡ Early e
+    → IsPlace DomainTokens 64 text fault → text_refusal texts.Domain (length text) fault ≡ Early e
     → IfSome bytes (λ bs. DomainRefused bs e)
 domain_line None text fault e h f q = tt
 domain_line (Some bs) text fault e h f q =
-    no_domain fault h.1 (subst (λ t. domain_of 64 (items_of t) ≡ Err fault) h.0 f) (subst (λ t. text_refusal texts.Domain (length t) fault ≡ Early e) h.0 q)
+    let place = subst (λ t. IsPlace DomainTokens 64 t fault) h.0 f in
+    no_domain fault h.1 (domains.spells_none 64 bs fault (omega arith) place) place (subst (λ t. text_refusal texts.Domain (length t) fault ≡ Early e) h.0 q)
 
 no_domain_by :
     (bytes : Option (List ℕ)) (b n : ℕ) (text : List ℕ) (fault : TextFault) → WasRead bytes text
-    → Fails fault (domain_of 64 (items_of text)) → NoDomain bytes b n (text_refusal texts.Domain (length text) fault)
+    → Refuses DomainTokens 64 text fault → NoDomain bytes b n (text_refusal texts.Domain (length text) fault)
 no_domain_by bytes b n text faults.Memory h f = tt
 no_domain_by bytes b n text (faults.Lex (lex.BadByte at)) h f = domain_line bytes text (faults.Lex (lex.BadByte at)) _ h f refl
 no_domain_by bytes b n text (faults.Lex (lex.TooLong at)) h f = domain_line bytes text (faults.Lex (lex.TooLong at)) _ h f refl
@@ -45,20 +47,21 @@ no_domain_by bytes b n text (faults.Form s) h f = domain_line bytes text (faults
 -- the domain's text spells none
 pub domain_refused :
     (bytes : Option (List ℕ)) (b n : ℕ) (text : List ℕ) (fault : TextFault) (r : Refusal) → WasRead bytes text
-    → Fails fault (domain_of 64 (items_of text)) → r ≡ text_refusal texts.Domain (length text) fault → NoDomain bytes b n r
+    → Refuses DomainTokens 64 text fault → r ≡ text_refusal texts.Domain (length text) fault → NoDomain bytes b n r
 domain_refused bytes b n text fault r h f e = subst (NoDomain bytes b n) (sym e) (no_domain_by bytes b n text fault h f)
 
 problem_line :
     (bytes : Option (List ℕ)) (text : List ℕ) (fault : TextFault) (e : early.Early) → WasRead bytes text
-    → problem_of 64 (items_of text) ≡ Err fault → text_refusal texts.Problem (length text) fault ≡ Early e
+    → IsPlace ProblemTokens 64 text fault → text_refusal texts.Problem (length text) fault ≡ Early e
     → IfSome bytes (λ bs. ProblemRefused bs e)
 problem_line None text fault e h f q = tt
 problem_line (Some bs) text fault e h f q =
-    no_problem fault h.1 (subst (λ t. problem_of 64 (items_of t) ≡ Err fault) h.0 f) (subst (λ t. text_refusal texts.Problem (length t) fault ≡ Early e) h.0 q)
+    let place = subst (λ t. IsPlace ProblemTokens 64 t fault) h.0 f in
+    no_problem fault h.1 (problems.spells_none 64 bs fault (omega arith) place) place (subst (λ t. text_refusal texts.Problem (length t) fault ≡ Early e) h.0 q)
 
 no_problem_by :
     (bytes : Option (List ℕ)) (b n : ℕ) (text : List ℕ) (fault : TextFault) → WasRead bytes text
-    → Fails fault (problem_of 64 (items_of text)) → NoProblem bytes b n (text_refusal texts.Problem (length text) fault)
+    → Refuses ProblemTokens 64 text fault → NoProblem bytes b n (text_refusal texts.Problem (length text) fault)
 no_problem_by bytes b n text faults.Memory h f = tt
 no_problem_by bytes b n text (faults.Lex (lex.BadByte at)) h f = problem_line bytes text (faults.Lex (lex.BadByte at)) _ h f refl
 no_problem_by bytes b n text (faults.Lex (lex.TooLong at)) h f = problem_line bytes text (faults.Lex (lex.TooLong at)) _ h f refl
@@ -69,7 +72,7 @@ no_problem_by bytes b n text (faults.Form s) h f = problem_line bytes text (faul
 -- the problem's text spells none
 pub problem_refused :
     (bytes : Option (List ℕ)) (b n : ℕ) (text : List ℕ) (fault : TextFault) (r : Refusal) → WasRead bytes text
-    → Fails fault (problem_of 64 (items_of text)) → r ≡ text_refusal texts.Problem (length text) fault → NoProblem bytes b n r
+    → Refuses ProblemTokens 64 text fault → r ≡ text_refusal texts.Problem (length text) fault → NoProblem bytes b n r
 problem_refused bytes b n text fault r h f e = subst (NoProblem bytes b n) (sym e) (no_problem_by bytes b n text fault h f)
 
 -- ---- the pair
@@ -87,7 +90,7 @@ pair_by_domain domain problem b n NoMemory h = tt
 problem_then : (domain problem : Option (List ℕ)) (d : Domain) (e : early.Early) → ReadsDomain domain d → IfSome problem (λ ps. ProblemRefused ps e) → IfSome domain (λ ds. IfSome problem (λ ps. PairRefused ds ps e))
 problem_then None problem d e r h = tt
 problem_then (Some ds) None d e r h = tt
-problem_then (Some ds) (Some ps) d e r h = by_problem d r.0 h
+problem_then (Some ds) (Some ps) d e r h = by_problem d r.1 r.0 h
 
 pub pair_by_problem :
     (domain problem later : Option (List ℕ)) (d : Domain) (b m n : ℕ) (r : Refusal) → later ≡ problem → b ≤ m
@@ -103,7 +106,8 @@ types_then :
     → IfSome domain (λ ds. IfSome problem (λ ps. PairRefused ds ps e))
 types_then None problem d p fault e rd rp f q = tt
 types_then (Some ds) None d p fault e rd rp f q = tt
-types_then (Some ds) (Some ps) d p fault e rd rp f q = by_types d p fault rd.0 rp.0 f q
+types_then (Some ds) (Some ps) d p fault e rd rp f q =
+    by_types d p fault (record { domain_within = rd.1; problem_within = rp.1; domain_spelled = rd.0; problem_spelled = rp.0 }) f q
 
 types_by :
     (domain problem : Option (List ℕ)) (d : Domain) (p : Problem) (b n : ℕ) (fault : TypeFault) → ReadsDomain domain d

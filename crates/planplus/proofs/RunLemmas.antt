@@ -1,5 +1,5 @@
 -- What the top call shows, put together from what its calls answer.
-use Rattle.std.proofs.Common.{◌≡◌, ◌⊎◌, ℕ, List, [], ◌∷◌, Option, Some, None, subst, sym, ◌∙◌, refl, rules, IsTrue, inl, inr, ◌≤◌, arith}
+use Rattle.std.proofs.Common.{◌≡◌, ◌⊎◌, ℕ, List, [], ◌∷◌, Option, Some, None, subst, sym, ◌∙◌, ap, refl, rules, IsTrue, inl, inr, ◌≤◌, arith}
 use Rattle.std.specs.Prelude.{IfSome}
 use Rattle.plus_io.specs.Faults.{Rose}
 use Rattle.plus_tree.specs.declared.trees.Domain.{Domain}
@@ -14,9 +14,10 @@ use Rattle.plus_validator.specs.declared.judge.Outcome.TheVariants as outcomes
 use Rattle.plus_validator.specs.Validates.{Accepts, IsRefusal, Refuses, BreaksOff, RefusesPair, RefusesPairInPart}
 use Rattle.planplus.specs.declared.run.Status.{Status}
 use Rattle.planplus.specs.declared.run.Status.TheVariants as s
+use Rattle.planplus.specs.Command.{Command}
 use Rattle.planplus.specs.Pair.{PairRefused}
 use Rattle.planplus.specs.Reads.{ReadsPair}
-use Rattle.planplus.specs.Headline.{SpellsWellTyped, IsValidRun, IsRefusedRun, for_pair, for_ground, for_plan, IsBrokenRun, in_pair, in_ground, in_plan, OnRefusal, status_of}
+use Rattle.planplus.specs.Headline.{SpellsWellTyped, IsValidRun, IsRefusedRun, for_pair, for_ground, for_plan, IsBrokenRun, in_pair, in_ground, in_plan, OnRefusal, status_of, exit_number, IsAnswer, EndsWith}
 use Rattle.planplus.specs.Statuses.{early_status, Writes}
 
 none_at_all : {A : Type 0} (xs : List A) → IsTrue (is_empty xs) → xs ≡ []
@@ -194,3 +195,16 @@ pub pair_broken :
 pair_broken domain problem plan e old new before now r h (inl w) v = absurd (early_plain e (sym w.0 ∙ v))
 pair_broken domain problem plan e old new before now r h (inr w) v =
     told domain problem e (λ ds ps. IsBrokenRun ds ps plan old new) h (λ ds ps x. in_pair e x w.2)
+
+-- ---- the number of the process
+
+-- words that are no command end with the number of the usage line, or of a failed output
+pub ends_unknown :
+    (number : ℕ) (command : Option Command) (bytes : List ℕ → Option (List ℕ)) (old new : Option (List ℕ)) (read_before read_now write_before write_now : ℕ)
+    → EndsWith number (IsAnswer command bytes old new read_before read_now write_before write_now) → command ≡ None
+    → (number ≡ 4) ⊎ (number ≡ 6) ⊎ (number ≡ 7)
+ends_unknown number command bytes old new read_before read_now write_before write_now (status, is, answer) none =
+    elim (answer.no_command none) [
+      | inl w ↦ inl (is ∙ ap exit_number w.0)
+      | inr w ↦ inr (inl (is ∙ ap exit_number w.0))
+    ]

@@ -1,5 +1,6 @@
 -- What an answer of the top call shows.
 use Rattle.std.specs.Prelude.{◌≡◌, ℕ, List, [], Option, Some, None, IfSome, codes}
+use Rattle.plus_io.specs.Faults.{Rose}
 use Rattle.plus_io.specs.Taken.{Took, TookPart}
 use Rattle.plus_tree.specs.declared.trees.Domain.{Domain}
 use Rattle.plus_tree.specs.declared.trees.Problem.{Problem}
@@ -16,7 +17,7 @@ use Rattle.plus_parser.specs.SpellsProblem.{SpellsProblemWithin}
 use Rattle.plus_printer.specs.Canon.{domain_text, problem_text}
 use Rattle.planplus.specs.Command.{Command, Check, ShowDomain, ShowProblem}
 use Rattle.planplus.specs.Pair.{depth_limit, SpellsPair, PairRefused, DomainRefused, ProblemRefused}
-use Rattle.planplus.specs.Statuses.{early_status}
+use Rattle.planplus.specs.Statuses.{early_status, Writes}
 use Rattle.planplus.specs.Shown.{IsShown, IsNotShown, IsShownInPart}
 
 -- how many moments a plan may enter
@@ -115,3 +116,17 @@ exit_number s.Usage = 4
 exit_number s.ReadFault = 5
 exit_number s.WriteFault = 6
 exit_number s.NoMemory = 7
+
+-- What the status of the top call shows: of the files and the output, and of the counts of faults before and now.
+pub record IsAnswer (command : Option Command) (bytes : List ℕ → Option (List ℕ)) (old new : Option (List ℕ)) (read_before read_now write_before write_now : ℕ) (status : Status) : Type 0 where
+  pub valid : status ≡ s.Valid → RunsValid command bytes old new
+  pub refused : OnRefusal status (RunsRefused command bytes old new status)
+  pub usage : status ≡ s.Usage → command ≡ None
+  pub no_command : command ≡ None → Writes usage_line s.Usage old new write_before write_now status
+  pub read_fault : status ≡ s.ReadFault → Rose read_before read_now × (new ≡ old)
+  pub write_fault : status ≡ s.WriteFault → Rose write_before write_now × RunsBroken command bytes old new
+  pub no_memory : status ≡ s.NoMemory → new ≡ old
+
+-- a process ends with this number, which is that of a status that shows so much
+abbrev pub EndsWith : ℕ → (Status → Type 0) → Type 0
+EndsWith number P = (status : Status) × (number ≡ exit_number status) × P status

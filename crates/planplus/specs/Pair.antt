@@ -1,16 +1,14 @@
 -- The domain and the problem that two texts spell, and why two texts are no pair. The domain's text comes first: its
 -- length, then its tree; then the problem's; then their types.
-use Rattle.std.specs.Prelude.{◌≡◌, ℕ, ◌+◌, ◌-◌, ◌^◌, ◌<◌, ◌≤◌, min, List, length, Err}
+use Rattle.std.specs.Prelude.{◌≡◌, ℕ, ◌+◌, ◌-◌, ◌^◌, ◌<◌, ◌≤◌, min, List, length}
 use Rattle.plus_tokens.specs.declared.token.LexFault.TheVariants as lex
 use Rattle.plus_tree.specs.declared.faults.TextFault.{TextFault}
 use Rattle.plus_tree.specs.declared.faults.TextFault.TheVariants as faults
 use Rattle.plus_tree.specs.declared.trees.Domain.{Domain}
 use Rattle.plus_tree.specs.declared.trees.Problem.{Problem}
-use Rattle.plus_reading.specs.Items.{items_of}
-use Rattle.plus_parser.specs.ReadingDomain.{domain_of}
-use Rattle.plus_parser.specs.ReadingProblem.{problem_of}
-use Rattle.plus_parser.specs.SpellsDomain.{SpellsWithin}
-use Rattle.plus_parser.specs.SpellsProblem.{SpellsProblemWithin}
+use Rattle.plus_parser.specs.SpellsDomain.{DomainTokens, SpellsWithin}
+use Rattle.plus_parser.specs.SpellsProblem.{ProblemTokens, SpellsProblemWithin}
+use Rattle.plus_places.specs.Place.{IsPlace}
 use Rattle.plus_types.specs.declared.faults.File.{File}
 use Rattle.plus_types.specs.declared.faults.File.TheVariants as files
 use Rattle.plus_types.specs.declared.faults.Wrong.{Wrong}
@@ -69,32 +67,35 @@ abbrev pub type_refusal : TypeFault → Refusal
 type_refusal (types.At wrong file span) = Early (BadText (text_named file) span.start span.«end» (word_of wrong))
 type_refusal types.Memory = NoMemory
 
--- why the domain's text is refused
+-- Why the domain's text is refused: it is too long; or it spells no domain with so few parentheses open at once, and the
+-- line names the place of this, the first token behind which no text of the grammar goes on.
 pub data DomainRefused (text : List ℕ) (e : early.Early) : Type 0 where
   long_domain : text_limit < length text → e ≡ TooLong texts.Domain → DomainRefused text e
   no_domain :
-      (fault : TextFault) → length text ≤ text_limit → domain_of depth_limit (items_of text) ≡ Err fault
-      → text_refusal texts.Domain (length text) fault ≡ Early e → DomainRefused text e
+      (fault : TextFault) → length text ≤ text_limit → ((d : Domain) → SpellsWithin depth_limit text d → ⊥)
+      → IsPlace DomainTokens depth_limit text fault → text_refusal texts.Domain (length text) fault ≡ Early e → DomainRefused text e
 
--- why the problem's text is refused
+-- why the problem's text is refused, in the same way
 pub data ProblemRefused (text : List ℕ) (e : early.Early) : Type 0 where
   long_problem : text_limit < length text → e ≡ TooLong texts.Problem → ProblemRefused text e
   no_problem :
-      (fault : TextFault) → length text ≤ text_limit → problem_of depth_limit (items_of text) ≡ Err fault
-      → text_refusal texts.Problem (length text) fault ≡ Early e → ProblemRefused text e
+      (fault : TextFault) → length text ≤ text_limit → ((p : Problem) → SpellsProblemWithin depth_limit text p → ⊥)
+      → IsPlace ProblemTokens depth_limit text fault → text_refusal texts.Problem (length text) fault ≡ Early e → ProblemRefused text e
 
--- why two texts are no well-typed pair
-pub data PairRefused (domain problem : List ℕ) (e : early.Early) : Type 0 where
-  by_domain : DomainRefused domain e → PairRefused domain problem e
-  by_problem : (d : Domain) → SpellsWithin depth_limit domain d → ProblemRefused problem e → PairRefused domain problem e
-  by_types :
-      (d : Domain) (p : Problem) (fault : TypeFault) → SpellsWithin depth_limit domain d
-      → SpellsProblemWithin depth_limit problem p → IsFirstFault (faults_of d p) fault → type_refusal fault ≡ Early e
-      → PairRefused domain problem e
-
--- the two texts spell this pair, which is well typed
+-- the two texts are within their limits and spell this pair
 pub record SpellsPair (domain problem : List ℕ) (d : Domain) (p : Problem) : Type 0 where
   pub domain_within : length domain ≤ text_limit
   pub problem_within : length problem ≤ text_limit
   pub domain_spelled : SpellsWithin depth_limit domain d
   pub problem_spelled : SpellsProblemWithin depth_limit problem p
+
+-- Why two texts are no well-typed pair: the domain's text, or, where it spells a domain, the problem's, or, where the two
+-- spell a pair, its types.
+pub data PairRefused (domain problem : List ℕ) (e : early.Early) : Type 0 where
+  by_domain : DomainRefused domain e → PairRefused domain problem e
+  by_problem :
+      (d : Domain) → length domain ≤ text_limit → SpellsWithin depth_limit domain d → ProblemRefused problem e
+      → PairRefused domain problem e
+  by_types :
+      (d : Domain) (p : Problem) (fault : TypeFault) → SpellsPair domain problem d p → IsFirstFault (faults_of d p) fault
+      → type_refusal fault ≡ Early e → PairRefused domain problem e

@@ -1,11 +1,15 @@
 //! Real files as a shelf.
 
-ghost use Rattle.std.specs.Prelude.{◌≡◌, ◌≤◌, length, map, position, string_bytes, None, IfSome};
+ghost use Rattle.std.specs.Io.KnownBytes.{Consumes, IsAtEnd};
+ghost use Rattle.std.specs.Prelude.{◌≡◌, ◌<◌, ◌≤◌, take, length, map, position, string_bytes, None, IfSome, IfOk};
 ghost use Rattle.std.specs.Str.{bytes_eq};
 ghost use Rattle.plus_io.specs.Stored.{place_of};
 ghost use Rattle.plus_io.specs.Faults.{Rose};
+ghost use Rattle.planplus.specs.Command.{command_of, files_of};
 
+use crate::command::files;
 use plus_io::{Failed, Shelf};
+use std::alloc::{AllocError, Global};
 use std::fs;
 use std::fs::Files;
 use std::io::Read;
@@ -48,9 +52,14 @@ fn raised(faults: u64) -> u64
     faults.saturating_add(1)
 }
 
-// Reads a piece; at a fault nothing is read.
-fn read_piece(file: &mut impl Read, into: &mut [u8]) -> Option<usize>
+// Reads a piece off the front of what a file has left, which is empty only at the end; at a fault
+// nothing is read.
+fn read_piece<F: Read>(file: &mut F, into: &mut [u8]) -> Option<usize>
     ensures within { IfSome result (λ count. count ≤ length into.new) }
+    ensures piece { IfSome result (λ count.
+        Consumes (F.remaining file.old) (F.remaining file.new) (take count into.new)) }
+    ensures at_end { 0 < length into.new →
+        IfSome result (λ count. count ≡ 0 → IsAtEnd (F.remaining file.new)) }
 {
     match file.read(into) {
         Ok(count) => Some(count),
@@ -74,6 +83,20 @@ impl<'r, R: Files> FileShelf<'r, R> {
     }
 }
 
+/// The shelf of the files that the words name, and of no others.
+pub fn shelf_for<'r, R: Files>(
+    rt: &'r R,
+    alloc: Global,
+    words: &[String],
+) -> Result<FileShelf<'r, R>, AllocError>
+    ensures names { IfOk result (λ shelf.
+        map string_bytes shelf.names.items ≡ files_of (command_of (map string_bytes words.now))) }
+    ensures no_fault { IfOk result (λ shelf. shelf.faults ≡ 0) }
+{
+    let names = files(alloc, words)?;
+    Ok(FileShelf::new(rt, names))
+}
+
 impl<'r, R: Files> Shelf for FileShelf<'r, R> {
     ghost use Rattle.std.specs.Prelude.{[], map, string_bytes, slice_index_or, option_map};
 
@@ -84,6 +107,8 @@ impl<'r, R: Files> Shelf for FileShelf<'r, R> {
     ghost picked = { λ s. option_map (λ p. slice_index_or (map string_bytes s.names.items) p.place []) s.picked };
 
     ghost rest = { λ _. None };
+
+    ghost picks = { λ _. None };
 
     ghost faults = { λ s. s.faults };
 

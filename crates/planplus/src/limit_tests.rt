@@ -231,7 +231,7 @@ fn happenings(rt: HostRuntime) -> Result<(), Fail> {
 }
 
 // A problem over so many objects.
-fn peopled(alloc: Global, count: u32, goal: &str) -> Result<String, Fail> {
+pub fn peopled(alloc: Global, count: u32, goal: &str) -> Result<String, Fail> {
     let mut text = String::from_str(alloc, "(define (problem q) (:domain n) (:objects")?;
     for number in 0..count {
         let object = format!(in alloc; " o{number}")?;
@@ -244,7 +244,7 @@ fn peopled(alloc: Global, count: u32, goal: &str) -> Result<String, Fail> {
 }
 
 // A goal that has 1001 nodes for each object, and one more.
-fn wide(alloc: Global) -> Result<String, Fail> {
+pub fn wide(alloc: Global) -> Result<String, Fail> {
     let mut goal = String::from_str(alloc, "(forall (?a) (and")?;
     for _ in 0..1000 {
         goal.push_str(" (not (p))")?;

@@ -12,13 +12,25 @@ mod show;
 #[cfg(test)]
 mod tests;
 
-use command::files;
-use files::FileShelf;
+ghost use Rattle.std.specs.Prelude.{◌≡◌, ◌⊎◌, map, string_bytes, None};
+ghost use Rattle.std.specs.Process.{exit_status};
+ghost use Rattle.planplus.specs.Command.{command_of};
+ghost use Rattle.planplus.specs.Headline.{IsAnswer, EndsWith};
+
+use files::shelf_for;
+use plus_io::{Shelf, Sink};
 use run::run;
 use screen::StdSink;
+use std::alloc::Global;
 use std::env::Env;
+use std::fs::Files;
 use std::process::ExitCode;
 use std::{env, io};
+
+// The exit status where memory is wanting, and where the words cannot be read.
+const NO_MEMORY: u8 = 7;
+
+const NO_WORDS: u8 = 4;
 
 // The words behind the program's name.
 fn words<R: Env + AllocGlobal>(rt: &R) -> io::Result<Vec<String>> {
@@ -29,18 +41,36 @@ fn words<R: Env + AllocGlobal>(rt: &R) -> io::Result<Vec<String>> {
     Ok(words)
 }
 
+// Carries out the words, and ends with the number of the status.
+fn conclude<S: Shelf, O: Sink>(
+    alloc: Global,
+    words: &[String],
+    shelf: &mut S,
+    out: &mut O,
+) -> ExitCode
+    ensures { EndsWith (exit_status result) (IsAnswer (command_of (map string_bytes words.now))
+        (S.bytes shelf.old) (O.taken out.old) (O.taken out.new) (S.faults shelf.old)
+        (S.faults shelf.new) (O.faults out.old) (O.faults out.new)) }
+{
+    run(alloc, words, shelf, out).exit_code()
+}
+
+// Carries out the words over their files and the standard output.
+fn perform<R: Files + Print>(rt: &R, alloc: Global, words: &[String]) -> ExitCode
+    // Words that are no command end so, unless the output failed or there was no memory.
+    ensures { command_of (map string_bytes words.now) ≡ None →
+        (exit_status result ≡ 4) ⊎ (exit_status result ≡ 6) ⊎ (exit_status result ≡ 7) }
+{
+    match shelf_for(rt, alloc, words) {
+        Ok(mut shelf) => conclude(alloc, words, &mut shelf, &mut StdSink::new(rt)),
+        Err(_) => ExitCode::from(NO_MEMORY),
+    }
+}
+
 fn main(rt: HostRuntime) -> ExitCode {
-    let words = match words(&rt) {
-        Ok(words) => words,
-        Err(e) if e.kind() == io::ErrorKind::OutOfMemory => return ExitCode::from(7),
-        Err(_) => return ExitCode::from(4),
-    };
-    match files(rt.alloc(), &words) {
-        Err(_) => ExitCode::from(7),
-        Ok(names) => {
-            let mut shelf = FileShelf::new(&rt, names);
-            let mut out = StdSink::new(&rt);
-            run(rt.alloc(), &words, &mut shelf, &mut out).exit_code()
-        }
+    match words(&rt) {
+        Ok(words) => perform(&rt, rt.alloc(), &words),
+        Err(e) if e.kind() == io::ErrorKind::OutOfMemory => ExitCode::from(NO_MEMORY),
+        Err(_) => ExitCode::from(NO_WORDS),
     }
 }

@@ -1,15 +1,16 @@
 //! Reads the domain and the problem, and tests their types.
 
-ghost use Rattle.std.specs.Prelude.{◌≡◌, ◌≤◌, length, IfOk, IfErr, IfSome};
+ghost use Rattle.std.specs.Prelude.{◌≡◌, ◌≤◌, [], ◌∷◌, length, IfOk, IfErr, IfSome, OnOk};
 ghost use Rattle.plus_io.specs.Faults.{Rose};
 ghost use Rattle.plus_io.specs.Files.{KeepsFiles};
+ghost use Rattle.plus_io.specs.Picks.{ReadsOnce, ReadsEach, ReadsInOrder};
 ghost use Rattle.plus_parser.specs.SpellsDomain.{SpellsWithin};
 ghost use Rattle.plus_parser.specs.SpellsProblem.{SpellsProblemWithin};
 ghost use Rattle.planplus.specs.Pair.{behind, text_refusal, type_refusal, word_of, text_named};
 ghost use Rattle.planplus.specs.Reads.{NotRead, ReadsDomain, ReadsProblem, ReadsPair, NoDomain, NoProblem, NoPair};
 
 use plus_io::{ReadStop, Shelf, read_all};
-use plus_parser::{read_domain, read_problem};
+use plus_places::{read_domain, read_problem};
 use plus_report::{Early, Text, Word};
 use plus_tokens::LexFault;
 use plus_tree::{Domain, Problem, Span, TextFault};
@@ -120,6 +121,7 @@ pub fn text_of<S: Shelf>(
         (v.items ≡ bytes) × (length bytes ≤ 1048576))) }
     ensures not_read { IfErr result (NotRead text (S.bytes shelf.old name.now)
         (S.faults shelf.old) (S.faults shelf.new)) }
+    ensures reads { ReadsOnce S.bytes S.picked S.rest S.picks 1048577 name.now shelf.old shelf.new }
     ensures keeps { KeepsFiles S.names S.bytes S.faults shelf.old shelf.new }
 {
     let mut bytes = Vec::new(alloc);
@@ -136,6 +138,7 @@ pub fn domain_under<S: Shelf>(alloc: Global, shelf: &mut S, name: &str) -> Resul
     ensures read { IfOk result (ReadsDomain (S.bytes shelf.old name.now)) }
     ensures not_read { IfErr result (NoDomain (S.bytes shelf.old name.now)
         (S.faults shelf.old) (S.faults shelf.new)) }
+    ensures reads { ReadsOnce S.bytes S.picked S.rest S.picks 1048577 name.now shelf.old shelf.new }
     ensures keeps { KeepsFiles S.names S.bytes S.faults shelf.old shelf.new }
 {
     let text = text_of(alloc, shelf, name, Text::Domain)?;
@@ -150,6 +153,7 @@ pub fn problem_under<S: Shelf>(alloc: Global, shelf: &mut S, name: &str) -> Resu
     ensures read { IfOk result (ReadsProblem (S.bytes shelf.old name.now)) }
     ensures not_read { IfErr result (NoProblem (S.bytes shelf.old name.now)
         (S.faults shelf.old) (S.faults shelf.new)) }
+    ensures reads { ReadsOnce S.bytes S.picked S.rest S.picks 1048577 name.now shelf.old shelf.new }
     ensures keeps { KeepsFiles S.names S.bytes S.faults shelf.old shelf.new }
 {
     let text = text_of(alloc, shelf, name, Text::Problem)?;
@@ -170,6 +174,11 @@ pub fn pair<S: Shelf>(
         (S.bytes shelf.old problem.now) t.domain t.problem) }
     ensures not_read { IfErr result (NoPair (S.bytes shelf.old domain.now)
         (S.bytes shelf.old problem.now) (S.faults shelf.old) (S.faults shelf.new)) }
+    // The domain's file is read and then the problem's, each once, and no other.
+    ensures reads { ReadsInOrder S.bytes S.picked S.rest S.picks 1048577
+        (domain.now ∷ problem.now ∷ []) shelf.old shelf.new }
+    ensures both { OnOk result (ReadsEach S.bytes S.picked S.rest S.picks 1048577
+        (domain.now ∷ problem.now ∷ []) shelf.old shelf.new) }
     ensures keeps { KeepsFiles S.names S.bytes S.faults shelf.old shelf.new }
 {
     let domain = domain_under(alloc, shelf, domain)?;

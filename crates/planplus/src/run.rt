@@ -4,8 +4,9 @@ ghost use Rattle.std.specs.Prelude.{◌≡◌, ◌≤◌, map, string_bytes};
 ghost use Rattle.std.specs.Process.{exit_status};
 ghost use Rattle.plus_io.specs.Faults.{Rose};
 ghost use Rattle.plus_io.specs.Files.{KeepsFiles};
+ghost use Rattle.plus_io.specs.Picks.{ReadsInOrder};
 ghost use Rattle.plus_report.specs.Refusals.{early_text};
-ghost use Rattle.planplus.specs.Command.{command_of};
+ghost use Rattle.planplus.specs.Command.{command_of, files_of};
 ghost use Rattle.planplus.specs.Headline.{RunsValid, RunsRefused, RunsBroken, OnRefusal, usage_line, status_of, exit_number};
 ghost use Rattle.planplus.specs.Statuses.{early_status, Writes};
 ghost use Rattle.planplus.specs.Meant.{meant};
@@ -122,6 +123,8 @@ fn check<S: Shelf, O: Sink>(alloc: Global, files: Check<'_>, shelf: &mut S, out:
     ensures broken { result ≡ Status.WriteFault → RunsBroken (Some (meant (Command.Check files.entry)))
         (S.bytes shelf.old) (O.taken out.old) (O.taken out.new) }
     ensures no_memory { result ≡ Status.NoMemory → O.taken out.new ≡ O.taken out.old }
+    ensures reads { ReadsInOrder S.bytes S.picked S.rest S.picks 1048577
+        (files_of (Some (meant (Command.Check files.entry)))) shelf.old shelf.new }
     ensures keeps { KeepsFiles S.names S.bytes S.faults shelf.old shelf.new }
     ensures no_fall { O.faults out.old ≤ O.faults out.new }
 {
@@ -161,6 +164,11 @@ pub fn run<S: Shelf, O: Sink>(alloc: Global, words: &[String], shelf: &mut S, ou
     ensures broken { result ≡ Status.WriteFault → RunsBroken (command_of (map string_bytes words.now))
         (S.bytes shelf.old) (O.taken out.old) (O.taken out.new) }
     ensures no_memory { result ≡ Status.NoMemory → O.taken out.new ≡ O.taken out.old }
+
+    // It reads the files that the words name and no other, in the order of the words and each once,
+    // and of each at most one byte past the limit of a text.
+    ensures reads { ReadsInOrder S.bytes S.picked S.rest S.picks 1048577
+        (files_of (command_of (map string_bytes words.now))) shelf.old shelf.new }
     ensures keeps { KeepsFiles S.names S.bytes S.faults shelf.old shelf.new }
     ensures no_fall { O.faults out.old ≤ O.faults out.new }
 {

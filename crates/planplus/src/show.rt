@@ -1,8 +1,9 @@
 //! The command `show`: from a text to the canonical text of its tree.
 
-ghost use Rattle.std.specs.Prelude.{◌≡◌, ◌≤◌, Some, IfOk};
+ghost use Rattle.std.specs.Prelude.{◌≡◌, ◌≤◌, [], ◌∷◌, Some, IfOk};
 ghost use Rattle.plus_io.specs.Faults.{Rose};
 ghost use Rattle.plus_io.specs.Files.{KeepsFiles};
+ghost use Rattle.plus_io.specs.Picks.{ReadsInOrder};
 ghost use Rattle.plus_printer.specs.Canon.{domain_text, problem_text};
 ghost use Rattle.planplus.specs.Command.{ShowDomain, ShowProblem};
 ghost use Rattle.planplus.specs.Statuses.{Writes};
@@ -54,6 +55,7 @@ pub fn show_domain<S: Shelf, O: Sink>(
     ensures broken { result ≡ Status.WriteFault → RunsBroken (Some (ShowDomain name.now))
         (S.bytes shelf.old) (O.taken out.old) (O.taken out.new) }
     ensures no_memory { result ≡ Status.NoMemory → O.taken out.new ≡ O.taken out.old }
+    ensures reads { ReadsInOrder S.bytes S.picked S.rest S.picks 1048577 (name.now ∷ []) shelf.old shelf.new }
     ensures keeps { KeepsFiles S.names S.bytes S.faults shelf.old shelf.new }
     ensures no_fall { O.faults out.old ≤ O.faults out.new }
 {
@@ -95,6 +97,7 @@ pub fn show_problem<S: Shelf, O: Sink>(
     ensures broken { result ≡ Status.WriteFault → RunsBroken (Some (ShowProblem name.now))
         (S.bytes shelf.old) (O.taken out.old) (O.taken out.new) }
     ensures no_memory { result ≡ Status.NoMemory → O.taken out.new ≡ O.taken out.old }
+    ensures reads { ReadsInOrder S.bytes S.picked S.rest S.picks 1048577 (name.now ∷ []) shelf.old shelf.new }
     ensures keeps { KeepsFiles S.names S.bytes S.faults shelf.old shelf.new }
     ensures no_fall { O.faults out.old ≤ O.faults out.new }
 {

@@ -14,7 +14,7 @@ use Rattle.plus_types.proofs.SoundLemmas.{left-none, right-none}
 use Rattle.plus_numbering.specs.Numbers.{ground_names}
 use Rattle.plus_expansion.specs.Environments.{Environment, environments}
 use Rattle.plus_expansion.specs.Expansion.{grouped, chained, expression_meant, expressions_meant, condition_meant, conditions_meant}
-use Rattle.plus_expansion.proofs.Members.{Stands, environments-stand}
+use Rattle.plus_expansion.proofs.Members.{Stands, AreNew, environments-stand, variables-new}
 use Rattle.plus_expansion.proofs.Uses.{Widens, atom-within, fluent-within}
 
 -- how many ground atoms and ground fluents there are
@@ -72,13 +72,13 @@ joined-fits a f false (c ∷ cs) h = (h.0, joined-fits a f false cs h.1)
 
 -- one condition for each choice of objects
 pub quantified-fits :
-    (m : Context) (a f : ℕ) (all : Bool) (vs : List TypedName) (vars : List Binding) (env : Environment) (g : Environment → Condition) → Stands m vars env
+    (m : Context) (a f : ℕ) (all : Bool) (vs : List TypedName) (vars : List Binding) (env : Environment) (g : Environment → Condition) → Stands m vars env → AreNew vars vs
     → ((e : Environment) → Stands m (vars ++ bindings_of vs) e → Fits a f (g e)) → Fits a f (joined all (map g (environments m vs env)))
-quantified-fits m a f all vs vars env g s each =
+quantified-fits m a f all vs vars env g s n each =
     joined-fits a f all (map g (environments m vs env))
     (recursion_from_All (Fits a f) (map g (environments m vs env))
     (All-map (Fits a f) g (environments m vs env)
-    (All-weaker (Stands m (vars ++ bindings_of vs)) (λ e. Fits a f (g e)) each (environments m vs env) (environments-stand m vs vars env s))))
+    (All-weaker (Stands m (vars ++ bindings_of vs)) (λ e. Fits a f (g e)) each (environments m vs env) (environments-stand m vs vars env s n))))
 
 mutual
   pub condition-fits :
@@ -91,10 +91,10 @@ mutual
       joined-fits _ _ (not positive) (condition_meant m env (not positive) f ∷ condition_meant m env positive g ∷ [])
       (condition-fits c m w f vars env (not positive) s (left-none (cond_faults c vars f) _ e), (condition-fits c m w g vars env positive s (right-none (cond_faults c vars f) _ e), tt))
   condition-fits c m w (c_forall vs f p) vars env positive s e =
-      quantified-fits m _ _ positive vs vars env (λ inner. condition_meant m inner positive f) s
+      quantified-fits m _ _ positive vs vars env (λ inner. condition_meant m inner positive f) s (variables-new c vars vs (left-none (variables_faults c vars vs) _ e))
       (λ inner t. condition-fits c m w f (vars ++ bindings_of vs) inner positive t (right-none (variables_faults c vars vs) _ e))
   condition-fits c m w (c_exists vs f p) vars env positive s e =
-      quantified-fits m _ _ (not positive) vs vars env (λ inner. condition_meant m inner positive f) s
+      quantified-fits m _ _ (not positive) vs vars env (λ inner. condition_meant m inner positive f) s (variables-new c vars vs (left-none (variables_faults c vars vs) _ e))
       (λ inner t. condition-fits c m w f (vars ++ bindings_of vs) inner positive t (right-none (variables_faults c vars vs) _ e))
   condition-fits c m w (c_atom u p) vars env positive s e = atom-within c m w vars env u s e
   condition-fits c m w (c_same t u p) vars env positive s e = joined-fits _ _ _ [] tt

@@ -15,7 +15,7 @@ use Rattle.plus_types.specs.Faults.{Context, fault_where, is_rate, is_clock, use
 use Rattle.plus_types.proofs.SoundLemmas.{left-none, right-none}
 use Rattle.plus_expansion.specs.Environments.{Environment, environments}
 use Rattle.plus_expansion.specs.Expansion.{expression_meant, condition_meant, write_meant, leaf_meant, effects_meant, all_effects_meant, factor_meant, amount_meant, rate_meant, rates_meant, all_rates_meant}
-use Rattle.plus_expansion.proofs.Members.{Stands, environments-stand, all-flat}
+use Rattle.plus_expansion.proofs.Members.{Stands, environments-stand, variables-new, all-flat}
 use Rattle.plus_expansion.proofs.Uses.{Widens, atom-within, fluent-within}
 use Rattle.plus_expansion.proofs.Conditions.{atoms_of, fluents_of, expression-in, expressions-in, condition-fits}
 
@@ -71,7 +71,7 @@ mutual
       effects-flat _ _ (λ inner. effects_meant m inner e) (environments m vs env)
       (All-weaker (Stands m (vars ++ bindings_of vs)) (λ inner. AllEffectsFit (atoms_of m) (fluents_of m) (effects_meant m inner e))
       (λ inner t. effect-fits c m w process e (vars ++ bindings_of vs) inner t (right-none (variables_faults c vars vs) _ f))
-      (environments m vs env) (environments-stand m vs vars env s))
+      (environments m vs env) (environments-stand m vs vars env s (variables-new c vars vs (left-none (variables_faults c vars vs) _ f))))
   effect-fits c m w process (e_when g ls p) vars env s f =
       let rest : cond_faults c vars g ++ leaves_faults c vars process ls ≡ [] = right-none (fault_where process RateForm c.file p) _ f in
       leaves-fit c m w vars env process s (condition_meant m env true g)
@@ -140,7 +140,7 @@ mutual
       all-flat (RateFits (fluents_of m)) (λ inner. rates_meant m inner e) (environments m vs env)
       (All-weaker (Stands m (vars ++ bindings_of vs)) (λ inner. All (RateFits (fluents_of m)) (rates_meant m inner e))
       (λ inner t. rates-fit c m w process e (vars ++ bindings_of vs) inner t (right-none (variables_faults c vars vs) _ f))
-      (environments m vs env) (environments-stand m vs vars env s))
+      (environments m vs env) (environments-stand m vs vars env s (variables-new c vars vs (left-none (variables_faults c vars vs) _ f))))
   rates-fit c m w process (e_when g ls p) vars env s f = All-nil (RateFits (fluents_of m))
   rates-fit c m w process (e_leaf l p) vars env s f = rate-fits c m w vars env process s l.node (leaf-write c vars process l f)
 

@@ -145,7 +145,7 @@ called-fits d p t name args a e = by (slice_get d.actions (position_or_len (byte
     named s None typed is w = cc
     named s (Some env) typed is w =
         let c = domain_context d in let m = problem_context d p in
-        let stands = bound-stands m s.params args [] [] env tt is in
+        let stands = bound-stands m s.params args [] [] env tt typed.variables is in
         let same : action_meant m s env ≡ a = cc in
         subst (ActionFits (atoms_of m) (fluents_of m)) same (
           condition-fits c m t.widens s.condition (bindings_of s.params) env true stands typed.condition,

@@ -15,11 +15,12 @@ use Rattle.plus_types.proofs.SoundLemmas.{left-none, right-none, well_listed}
 use Rattle.plus_expansion.specs.Environments.{Environment, environments}
 use Rattle.plus_expansion.specs.Expansion.{instances_of}
 use Rattle.plus_expansion.proofs.Above.{under-through}
-use Rattle.plus_expansion.proofs.Members.{Stands, environments-stand, all-flat}
+use Rattle.plus_expansion.proofs.Members.{Stands, AreNew, environments-stand, variables-new, all-flat}
 use Rattle.plus_expansion.proofs.Uses.{Widens}
 
 -- the condition and the effect of an action, an event or a process are without a fault
 pub record SchemaTyped (c : Context) (process : Bool) (a : Schema) : Type 0 where
+  pub variables : AreNew [] a.params
   pub condition : cond_faults c (bindings_of a.params) a.condition ≡ []
   pub effect : effect_faults c (bindings_of a.params) process a.effect ≡ []
 
@@ -36,6 +37,7 @@ unfolding schema_faults
 schema-typed c process earlier a e =
     let rest = right-none (variables_faults c [] a.params) _ (right-none (twice_faults earlier a.name) _ e) in
     record {
+      variables = variables-new c [] a.params (left-none (variables_faults c [] a.params) _ (right-none (twice_faults earlier a.name) _ e));
       condition = left-none (cond_faults c (bindings_of a.params) a.condition) _ rest;
       effect = right-none (cond_faults c (bindings_of a.params) a.condition) _ rest;
     }
@@ -98,7 +100,7 @@ instances-all P c m process f each schemas typed =
     all-flat P (λ a. map (f a) (environments m a.params [])) schemas
     (All-weaker (SchemaTyped c process) (λ a. All P (map (f a) (environments m a.params [])))
     (λ a t. All-map P (f a) (environments m a.params [])
-    (All-weaker (Stands m (bindings_of a.params)) (λ env. P (f a env)) (λ env s. each a env t s) (environments m a.params []) (environments-stand m a.params [] [] tt)))
+    (All-weaker (Stands m (bindings_of a.params)) (λ env. P (f a env)) (λ env s. each a env t s) (environments m a.params []) (environments-stand m a.params [] [] tt t.variables)))
     schemas typed)
 
 -- and of the schema at a place

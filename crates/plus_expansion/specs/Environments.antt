@@ -20,10 +20,10 @@ abbrev pub environments : Context → List TypedName → Environment → List En
 environments c [] env = env ∷ []
 environments c (v ∷ vs) env = flat_map (λ o. environments c vs (env ++ (v.name.name, o) ∷ [])) (members_of c v.kind.name)
 
--- the object that a variable stands for, else this
+-- the object that a variable stands for, the innermost where several lists bind it; else this
 abbrev pub bound_object : ℕ → Environment → List ℕ → ℕ
 bound_object none [] name = none
-bound_object none (b ∷ bs) name = if bytes_eq name b.0 then b.1 else bound_object none bs name
+bound_object none (b ∷ bs) name = bound_object (if bytes_eq name b.0 then b.1 else none) bs name
 
 -- the object of a term; where there is none, as in no well-typed pair, the number of objects
 abbrev pub term_object : Context → Environment → Term → ℕ

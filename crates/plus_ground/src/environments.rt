@@ -86,16 +86,18 @@ impl<'a> Environment<'a> {
         Ok(objects)
     }
 
-    /// The object that a variable stands for, or this one where it stands for none.
+    /// The object that a variable stands for, the innermost where several lists bind it, or this one where
+    /// it stands for none.
     pub fn object(&self, name: &[u8], none: u32) -> u32
         ensures { result ≡ bound_object none self.now name.now }
     {
+        let mut object = none;
         'bound: for bound in &self.bound {
             if name == bound.name {
-                return bound.object;
+                object = bound.object;
             }
         }
-        none
+        object
     }
 }
 

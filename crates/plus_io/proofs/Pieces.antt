@@ -4,6 +4,7 @@ use Rattle.std.proofs.Math.Seq.{take-append-add, take-add}
 use Rattle.std.proofs.lemmas.List.{append-nil, take-append-le, take-take, length-take-le, take-append-drop, nil_from_length, take_rest}
 use Rattle.std.specs.Io.KnownBytes.{IsAtEnd, prepend_known, append_known}
 use Rattle.plus_io.specs.Files.{KeepsFiles, Takes, TakesAtMost, IsPrefix}
+use Rattle.plus_io.specs.Picks.{Pick, PicksOnce, with_pick, with_read}
 use Rattle.plus_io.specs.Taken.{Took}
 
 pub OnErr-always : {T E P : Type 0} (r : Result T E) → P → OnErr r P
@@ -94,6 +95,19 @@ at_most_one_over text rest left front piece count limit so_far next within over 
   omega (arith, length-append front (take count piece), length-take-le count piece within),
   Takes-append text rest left front (take count piece) so_far next,
 )
+
+-- so many bytes more were read since a pick
+read_more : (name : List ℕ) (before more : ℕ) (picks : Option (List Pick)) → with_read more (with_pick name before picks) ≡ with_pick name (before + more) picks
+read_more name before more None = refl
+read_more name before more (Some picks) = refl
+
+pub told_more : (start before now : Option (List Pick)) (name : List ℕ) (count more : ℕ) → before ≡ with_pick name count start → now ≡ with_read more before → now ≡ with_pick name (count + more) start
+told_more start before now name count more e f = f ∙ ap (with_read more) e ∙ read_more name count more start
+
+-- with the last read at most one byte more than the limit is taken
+pub once_over : (start before now : Option (List Pick)) (name : List ℕ) (count more limit : ℕ) → before ≡ with_pick name count start → now ≡ with_read more before → count + more ≤ limit + 1
+    → PicksOnce (limit + 1) name start now
+once_over start before now name count more limit e f over = (count + more, over, told_more start before now name count more e f)
 
 -- what was written and one more piece, off the front of what was left
 pub took_more : (start before now : Option (List ℕ)) (bytes : List ℕ) (done count : ℕ)

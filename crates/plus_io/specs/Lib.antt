@@ -1,5 +1,6 @@
 pub mod Faults
 pub mod Files
+pub mod Picks
 pub mod Taken
 pub mod Stored
 pub mod Named

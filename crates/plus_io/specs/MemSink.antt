@@ -1,5 +1,5 @@
 -- What a sink in memory stands for: the bytes that it took, and the failures that are to come.
-use Rattle.std.specs.Prelude.{ℕ, List, ◌++◌}
+use Rattle.std.specs.Prelude.{ℕ, ◌-◌, List, ◌++◌, vec_len, vec_capacity}
 use Rattle.plus_io.specs.Faults.{one_more}
 use Rattle.plus_io.specs.declared.mem_sink.MemSink.{MemSink}
 
@@ -15,6 +15,10 @@ pub record SinkState : Type 0 where
 
 abbrev pub sink_state : MemSink → SinkState
 sink_state sink = record { bytes = sink.bytes.items; most = sink.most; listed = sink.listed.items; writes = sink.writes; faults = sink.faults }
+
+-- how many bytes it takes before it asks for memory
+abbrev pub room : MemSink → ℕ
+room sink = vec_capacity sink.bytes - vec_len sink.bytes
 
 -- after a write that took these bytes
 abbrev pub after_write : SinkState → List ℕ → SinkState

@@ -72,59 +72,6 @@ impl MemShelf {
         self.listed.push(Listed { place, call }).unwrap();
         Ok(())
     }
-
-    // Picks a file, which fails where that is listed as call 0.
-    fn pick_listed(&mut self, name: &str) -> Result<(), Failed>
-        ensures fails { IsErr result ↔ (is_listed (state_of self.old).listed
-            (place_of (state_of self.old).stored.names name.now) 0 ≡ true) }
-        ensures ok { OnOk result (state_of self.new ≡ after_pick (state_of self.old)
-            (place_of (state_of self.old).stored.names name.now)) }
-        ensures err { OnErr result (
-            state_of self.new ≡ after_fault (after_pick (state_of self.old) None)) }
-        ensures no_fall { (state_of self.old).faults ≤ (state_of self.new).faults }
-        ensures found { Contains (state_of self.old).stored.names name.now →
-            OnOk result (picked_name (state_of self.new).stored ≡ Some name.now) }
-        ensures absent { ¬ Contains (state_of self.old).stored.names name.now →
-            IsOk result × ((state_of self.new).stored.picked ≡ None) }
-    {
-        let place = self.stored.place_of(name.as_bytes());
-        self.reads = 0;
-        if is_listed(&self.listed, place, 0) {
-            self.stored.pick(None);
-            self.faults = self.faults.saturating_add(1);
-            return Err(Failed);
-        }
-        self.stored.pick(place);
-        Ok(())
-    }
-
-    // Reads a piece, which fails where that is listed for this read.
-    fn read_listed(&mut self, into: &mut [u8]) -> Result<usize, Failed>
-        ensures fails { IsErr result ↔ (is_listed (state_of self.old).listed
-            (state_of self.old).stored.picked (one_more (state_of self.old).reads) ≡ true) }
-        ensures ok { IfOk result (λ count. state_of self.new ≡ record (state_of self.old) {
-          stored = reading (state_of self.old).stored count;
-          reads = one_more (state_of self.old).reads;
-        }) }
-        ensures err { OnErr result (state_of self.new ≡ after_fault (record (state_of self.old) {
-          reads = one_more (state_of self.old).reads;
-        })) }
-        ensures count { IfOk result (λ count. count ≡ min (length (state_of self.old).stored.rest)
-            (min (state_of self.old).stored.most (length into.old))) }
-        ensures piece { IfOk result (λ count.
-            take count into.new ≡ take count (state_of self.old).stored.rest) }
-        ensures no_fall { (state_of self.old).faults ≤ (state_of self.new).faults }
-        ensures at_end { 0 < length into.old →
-            IfOk result (λ count. count ≡ 0 → (state_of self.old).stored.rest ≡ []) }
-        ensures unpicked { picked_name (state_of self.old).stored ≡ None → result ≡ Ok 0 }
-    {
-        self.reads = self.reads.saturating_add(1);
-        if is_listed(&self.listed, self.stored.picked(), self.reads) {
-            self.faults = self.faults.saturating_add(1);
-            return Err(Failed);
-        }
-        Ok(self.stored.read(into))
-    }
 }
 
 // Whether a failure of this call is listed for the file at a place.
@@ -154,13 +101,60 @@ impl Shelf for MemShelf {
 
     ghost rest = { λ s. Some s.stored.rest };
 
+    ghost picks = { λ _. None };
+
     ghost faults = { λ s. s.faults };
 
-    fn pick(&mut self, name: &str) -> Result<(), Failed> {
-        self.pick_listed(name)
+    // Picks a file, which fails where that is listed as call 0.
+    fn pick(&mut self, name: &str) -> Result<(), Failed>
+        ensures fails { IsErr result ↔ (is_listed (state_of self.old).listed
+            (place_of (state_of self.old).stored.names name.now) 0 ≡ true) }
+        ensures ok { OnOk result (state_of self.new ≡ after_pick (state_of self.old)
+            (place_of (state_of self.old).stored.names name.now)) }
+        ensures err { OnErr result (
+            state_of self.new ≡ after_fault (after_pick (state_of self.old) None)) }
+        ensures no_fall { (state_of self.old).faults ≤ (state_of self.new).faults }
+        ensures found { Contains (state_of self.old).stored.names name.now →
+            OnOk result (picked_name (state_of self.new).stored ≡ Some name.now) }
+        ensures absent { ¬ Contains (state_of self.old).stored.names name.now →
+            IsOk result × ((state_of self.new).stored.picked ≡ None) }
+    {
+        let place = self.stored.place_of(name.as_bytes());
+        self.reads = 0;
+        if is_listed(&self.listed, place, 0) {
+            self.stored.pick(None);
+            self.faults = self.faults.saturating_add(1);
+            return Err(Failed);
+        }
+        self.stored.pick(place);
+        Ok(())
     }
 
-    fn read(&mut self, into: &mut [u8]) -> Result<usize, Failed> {
-        self.read_listed(into)
+    // Reads a piece, which fails where that is listed for this read.
+    fn read(&mut self, into: &mut [u8]) -> Result<usize, Failed>
+        ensures fails { IsErr result ↔ (is_listed (state_of self.old).listed
+            (state_of self.old).stored.picked (one_more (state_of self.old).reads) ≡ true) }
+        ensures ok { IfOk result (λ count. state_of self.new ≡ record (state_of self.old) {
+          stored = reading (state_of self.old).stored count;
+          reads = one_more (state_of self.old).reads;
+        }) }
+        ensures err { OnErr result (state_of self.new ≡ after_fault (record (state_of self.old) {
+          reads = one_more (state_of self.old).reads;
+        })) }
+        ensures count { IfOk result (λ count. count ≡ min (length (state_of self.old).stored.rest)
+            (min (state_of self.old).stored.most (length into.old))) }
+        ensures piece { IfOk result (λ count.
+            take count into.new ≡ take count (state_of self.old).stored.rest) }
+        ensures no_fall { (state_of self.old).faults ≤ (state_of self.new).faults }
+        ensures at_end { 0 < length into.old →
+            IfOk result (λ count. count ≡ 0 → (state_of self.old).stored.rest ≡ []) }
+        ensures unpicked { picked_name (state_of self.old).stored ≡ None → result ≡ Ok 0 }
+    {
+        self.reads = self.reads.saturating_add(1);
+        if is_listed(&self.listed, self.stored.picked(), self.reads) {
+            self.faults = self.faults.saturating_add(1);
+            return Err(Failed);
+        }
+        Ok(self.stored.read(into))
     }
 }

@@ -1,7 +1,7 @@
 //! A sink in memory, with failures that are listed beforehand.
 
 ghost use Rattle.plus_io.specs.Faults.{one_more};
-ghost use Rattle.std.specs.Prelude.{◌≡◌, ℕ, ◌<◌, ◌≤◌, [], ◌∷◌, ◌++◌, Some, Contains, min, take, length, OnOk, OnErr, IfOk, IsErr};
+ghost use Rattle.std.specs.Prelude.{◌≡◌, ◌⊎◌, ℕ, ◌<◌, ◌≤◌, [], ◌∷◌, ◌++◌, Some, Contains, min, take, length, OnOk, OnErr, IfOk, IsErr, IsTrue, ◌↔◌};
 
 use crate::{Failed, Sink};
 use std::alloc::{AllocError, Global};
@@ -19,7 +19,7 @@ pub struct MemSink {
 }
 
 impl MemSink {
-    ghost use Rattle.plus_io.specs.MemSink.{SinkState, sink_state, after_write, after_failed_write};
+    ghost use Rattle.plus_io.specs.MemSink.{SinkState, sink_state};
 
     /// A sink that takes at most `most` bytes at once.
     pub fn new(alloc: Global, most: usize) -> MemSink
@@ -59,8 +59,31 @@ impl MemSink {
         &self.bytes
     }
 
+    // Counts a fault.
+    fn fault(&mut self) -> Failed
+        ensures counted { self.new ≡ record self.old { faults = one_more self.old.faults } }
+        ensures no_fall { self.old.faults ≤ self.new.faults }
+    {
+        self.faults = self.faults.saturating_add(1);
+        Failed
+    }
+}
+
+fn is_listed(listed: &[u64], write: u64) -> bool
+    ensures { IsTrue result ↔ Contains listed.now write }
+{
+    listed.contains(&write)
+}
+
+impl Sink for MemSink {
+    ghost use Rattle.plus_io.specs.MemSink.{sink_state, after_write, after_failed_write, room};
+
+    ghost taken = { λ s. Some s.bytes.items };
+
+    ghost faults = { λ s. s.faults };
+
     // Takes some first bytes, unless a failure of this write is listed or memory is refused.
-    fn write_listed(&mut self, from: &[u8]) -> Result<usize, Failed>
+    fn write(&mut self, from: &[u8]) -> Result<usize, Failed>
         ensures ok { IfOk result (λ count.
             sink_state self.new ≡ after_write (sink_state self.old) (take count from.now)) }
         ensures count { IfOk result (λ count.
@@ -70,25 +93,19 @@ impl MemSink {
         ensures no_fall { (sink_state self.old).faults ≤ (sink_state self.new).faults }
         ensures listed { Contains (sink_state self.old).listed (one_more (sink_state self.old).writes) →
             IsErr result }
+        // It fails nowhere else, unless it had to ask for memory.
+        ensures fails { IsErr result →
+            Contains (sink_state self.old).listed (one_more (sink_state self.old).writes)
+            ⊎ (room self.old < min (sink_state self.old).most (length from.now)) }
     {
         self.writes = self.writes.saturating_add(1);
-        let count = self.most.min(from.len());
-        if self.listed.contains(&self.writes)
-            || self.bytes.extend_from_slice(&from[..count]).is_err()
-        {
-            self.faults = self.faults.saturating_add(1);
-            return Err(Failed);
+        if is_listed(&self.listed, self.writes) {
+            return Err(self.fault());
         }
-        Ok(count)
-    }
-}
-
-impl Sink for MemSink {
-    ghost taken = { λ s. Some s.bytes.items };
-
-    ghost faults = { λ s. s.faults };
-
-    fn write(&mut self, from: &[u8]) -> Result<usize, Failed> {
-        self.write_listed(from)
+        let count = self.most.min(from.len());
+        match self.bytes.extend_from_slice(&from[..count]) {
+            Ok(()) => Ok(count),
+            Err(_) => Err(self.fault()),
+        }
     }
 }

@@ -53,6 +53,8 @@ impl Shelf for QuietShelf {
 
     ghost rest = { λ s. Some s.stored.rest };
 
+    ghost picks = { λ _. None };
+
     ghost faults = { λ _. 0 };
 
     fn pick(&mut self, name: &str) -> Result<(), Failed> {

@@ -4,6 +4,7 @@ ghost use Rattle.std.specs.Prelude.{◌≡◌, ◌⊎◌, ℕ, ◌+◌, ◌<◌,
 ghost use Rattle.plus_io.specs.Faults.{Rose};
 ghost use Rattle.std.specs.Io.KnownBytes.{IsAtEnd};
 ghost use Rattle.plus_io.specs.Files.{IsUnpicked, KeepsFiles, IsPrefix, Takes, TakesAtMost};
+ghost use Rattle.plus_io.specs.Picks.{Pick, ReadsOnce, with_pick, with_read};
 
 use crate::{Failed, ReadStop};
 
@@ -24,6 +25,10 @@ pub trait Shelf {
     /// What is unread of the text that is picked, where the shelf tells it.
     ghost rest: { Self → Option (List ℕ) };
 
+    /// The picks so far that did not fail, the latest first, each with how many bytes were read
+    /// from then to the next, where the shelf tells them.
+    ghost picks: { Self → Option (List Pick) };
+
     /// How many faults there were. It never falls, and stands still at the greatest `u64`.
     ghost faults: { Self → ℕ };
 
@@ -41,6 +46,10 @@ pub trait Shelf {
         // Under a name outside the list there is nothing to pick.
         ensures outside { ¬ Contains (names self.old) name.now →
             IsOk result × (picked self.new ≡ None) × (faults self.new ≡ faults self.old) }
+
+        // A pick that failed is not told.
+        ensures told { OnOk result (picks self.new ≡ with_pick name.now 0 (picks self.old)) }
+        ensures untold { OnErr result (picks self.new ≡ picks self.old) }
         ensures keeps { KeepsFiles names bytes faults self.old self.new };
 
     /// Reads the next piece to the front of `into`, and answers how many bytes it has: 0 only at
@@ -58,6 +67,9 @@ pub trait Shelf {
         ensures picked { picked self.new ≡ picked self.old }
         ensures nothing { picked self.old ≡ None →
             (result ≡ Ok 0) × (faults self.new ≡ faults self.old) }
+
+        ensures told { IfOk result (λ count. picks self.new ≡ with_read count (picks self.old)) }
+        ensures untold { OnErr result (picks self.new ≡ picks self.old) }
         ensures keeps { KeepsFiles names bytes faults self.old self.new };
 }
 
@@ -87,11 +99,14 @@ pub fn read_all<S: Shelf>(
         Rose (S.faults shelf.old) (S.faults shelf.new) }
     ensures prefix { OnErr result (IfSome (S.bytes shelf.old name.now) (IsPrefix into.new.items)) }
 
-    // Nothing was read, since the pick failed, or at most one byte past the limit was taken.
+    // The name is picked once, and at most one byte past the limit is taken of its text: the rest
+    // stays picked, or nothing where the pick failed.
+    ensures reads { ReadsOnce S.bytes S.picked S.rest S.picks (limit + 1) name.now
+        shelf.old shelf.new }
     ensures taken { IsUnpicked result (S.picked shelf.new) into.new.items
         ⊎ TakesAtMost (limit + 1) (S.bytes shelf.old name.now) (S.rest shelf.new) }
-    ensures picked { OnOk result (
-        Contains (S.names shelf.old) name.now → S.picked shelf.new ≡ Some name.now) }
+    ensures picked { IsUnpicked result (S.picked shelf.new) into.new.items
+        ⊎ (Contains (S.names shelf.old) name.now → S.picked shelf.new ≡ Some name.now) }
     ensures to_the_end { OnOk result (IsAtEnd (S.rest shelf.new)) }
 
     ensures outside { ¬ Contains (S.names shelf.old) name.now →

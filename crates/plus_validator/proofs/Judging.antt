@@ -3,10 +3,11 @@ use Rattle.std.proofs.Common.{◌≡◌, ℕ, ◌≤◌, Bool, false, List, [], 
 use Rattle.std.specs.Prelude.{◌≢◌, length, OnOk, IfErr, Result, Ok, Err}
 use Rattle.plus_model.specs.Terms.{Problem}
 use Rattle.plus_number.specs.declared.frac.Frac64.{Frac64}
-use Rattle.plus_number.specs.Frac.{fraction_of}
+use Rattle.plus_number.specs.Frac.{fraction_of, IsFrac64}
 use Rattle.plus_state.specs.View.{Labels}
 use Rattle.plus_tree.specs.declared.trees.Domain.{Domain}
 use Rattle.plus_tree.specs.declared.trees.Problem as tree
+use Rattle.plus_expansion.specs.Counting.{IsGroundable}
 use Rattle.plus_expansion.specs.Expansion.{expanded, labels_meant}
 use Rattle.plus_report.specs.declared.verdicts.Verdict.{Verdict}
 use Rattle.plus_report.specs.declared.verdicts.Verdict.TheVariants.{Valid, Invalid, Beyond, Other}
@@ -73,11 +74,11 @@ verdict_plain (Other e) = early_plain e
 both : (line line' report report' : List ℕ) → report ≡ report' → line ≡ line' → report ++ line ≡ report' ++ line'
 both line line' report report' e f = ap (λ t. t ++ line) e ∙ ap (λ t. report' ++ t) f
 
-module _ (d : Domain) (p : tree.Problem) (N : Labels) (P : Problem) (most : ℕ) (text : List ℕ) (goes_on : Bool) (old new : Run) where
+module _ (d : Domain) (p : tree.Problem) (N : Labels) (P : Problem) (most : ℕ) (text : List ℕ) (goes_on : Bool) (old new : Run) (z : IsGroundable IsFrac64 d p) where
   says : (bytes : List ℕ) (played : Result (Unit {0}) Halt) (v : Verdict Frac64) → v ≡ Valid → length text ≤ 1048576 → P ≡ expanded d p → N ≡ labels_meant d p → Begins N P most old → OnOk played (PlaysWhole (pair d p) N P text goes_on old new) → IfErr played (HaltFits P) → GivesVerdict played v → bytes ≡ new.report.bytes.items ++ verdict_text fraction_of N P v → AcceptsWhole d p most text goes_on bytes
   says bytes (Ok u) v i w e n b r f g k = record {
     whole = r.whole;
-    accepted = accepted d p N P most text bytes old new w e n b r.plays (k ∙ ap (λ x. new.report.bytes.items ++ verdict_text fraction_of N P x) i);
+    accepted = accepted d p N P most text bytes old new z w e n b r.plays (k ∙ ap (λ x. new.report.bytes.items ++ verdict_text fraction_of N P x) i);
   }
   says bytes (Err (Refused Valid)) v i w e n b r f g k = absurd f.names
   says bytes (Err (Refused (Invalid x))) v i w e n b r f g k = absurd (let h : Invalid x ≡ Valid = sym g ∙ i in cc h)
@@ -100,6 +101,7 @@ module _ (d : Domain) (p : tree.Problem) (N : Labels) (P : Problem) (most : ℕ)
       let text_is : verdict_text fraction_of N P v ≡ verdict_text fraction_of (labels_meant d p) (expanded d p) v =
       ap (λ M. verdict_text fraction_of M P v) n ∙ ap (λ Q. verdict_text fraction_of (labels_meant d p) Q v) e in
       record {
+        groundable = z;
         whole = s.whole;
         piece = s.piece;
         cut = s.cut;

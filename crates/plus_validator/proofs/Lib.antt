@@ -17,3 +17,4 @@ pub mod Cutting
 pub mod Judging
 pub mod Validating
 pub mod Making
+pub mod Excluding

@@ -32,6 +32,7 @@ use Rattle.plus_plan.specs.Lines.{numbered, plan_lines}
 use Rattle.plus_plan.specs.Answers.{IsLineAt}
 use Rattle.plus_plan.specs.declared.forms.Time.{Time}
 use Rattle.plus_plan.specs.TimeValue.{value_of}
+use Rattle.plus_expansion.specs.Counting.{IsGroundable}
 use Rattle.plus_expansion.specs.Expansion.{expanded, labels_meant}
 use Rattle.plus_expansion.specs.Calls.{called_of}
 use Rattle.plus_validator.specs.Accepted.{entries_of, IsAccepted}
@@ -231,8 +232,8 @@ plays_all d N P text old mid new number r c = record {
 }
 
 -- and accepted
-pub accepted : (d : Domain) (p : tree.Problem) (N : Labels) (P : Problem) (most : ℕ) (text bytes : List ℕ) (old new : Run) → length text ≤ 1048576 → P ≡ expanded d p → N ≡ labels_meant d p → Begins N P most old → PlaysAll (pair d p) N P text old new → bytes ≡ new.report.bytes.items ++ codes "valid\n" → IsAccepted d p most text bytes
-accepted d p N P most text bytes old new w e f b a k =
+pub accepted : (d : Domain) (p : tree.Problem) (N : Labels) (P : Problem) (most : ℕ) (text bytes : List ℕ) (old new : Run) → IsGroundable IsFrac64 d p → length text ≤ 1048576 → P ≡ expanded d p → N ≡ labels_meant d p → Begins N P most old → PlaysAll (pair d p) N P text old new → bytes ≡ new.report.bytes.items ++ codes "valid\n" → IsAccepted d p most text bytes
+accepted d p N P most text bytes old new z w e f b a k =
     let start = b.ready (plan_of (pair d p) [] false) refl refl in
     let finish = a.ends start.0 start.1 in
     let ends : Ends (labels_meant d p) (expanded d p) (plan_of (pair d p) a.lines true) most finish.0 new.report.bytes.items =
@@ -240,6 +241,7 @@ accepted d p N P most text bytes old new w e f b a k =
     (subst (λ Q. Ends N Q (plan_of (pair d p) a.lines true) most finish.0 new.report.bytes.items) e
     (subst (λ m. Ends N P (plan_of (pair d p) a.lines true) m finish.0 new.report.bytes.items) b.rests.most_is finish.1)) in
     record {
+      groundable = z;
       within = w;
       lines = a.lines;
       read = a.read;

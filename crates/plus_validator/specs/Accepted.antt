@@ -1,5 +1,5 @@
--- When a plan text is accepted: each of its lines is a line, exactly one trajectory has its actions, and the report is that
--- trajectory's text.
+-- When a plan text is accepted: its pair is inside the limits, each of its lines is a line, exactly one trajectory has its
+-- actions, and the report is that trajectory's text.
 use Rattle.std.specs.Prelude.{◌≡◌, ℕ, suc, ◌≤◌, true, List, [], ◌∷◌, ◌++◌, length, map, Ok, codes}
 use Rattle.plus_model.specs.History.{Part, Enter, Round, Act, Run}
 use Rattle.plus_model.specs.Trajectory.{Trajectory}
@@ -8,7 +8,9 @@ use Rattle.plus_tree.specs.declared.trees.Problem.{Problem}
 use Rattle.plus_plan.specs.declared.forms.Line.{Line}
 use Rattle.plus_plan.specs.declared.forms.PlanForm.TheVariants.{Timed}
 use Rattle.plus_plan.specs.Lines.{plan_lines}
+use Rattle.plus_number.specs.Frac.{IsFrac64}
 use Rattle.plus_expansion.specs.Expansion.{expanded, labels_meant}
+use Rattle.plus_expansion.specs.Counting.{IsGroundable}
 use Rattle.plus_report.specs.Report.{report_of}
 use Rattle.plus_validator.specs.Plans.{pair, plan_of}
 use Rattle.plus_validator.specs.Limits.{text_limit}
@@ -22,6 +24,7 @@ entries_of (Act i s ∷ h) = entries_of h
 entries_of (Run running ∷ h) = entries_of h
 
 pub record IsAccepted (d : Domain) (p : Problem) (most : ℕ) (text bytes : List ℕ) : Type 0 where
+  pub groundable : IsGroundable IsFrac64 d p
   pub within : length text ≤ text_limit
   pub lines : List Line
   pub read : plan_lines Timed text ≡ map Ok lines

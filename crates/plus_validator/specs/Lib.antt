@@ -11,3 +11,4 @@ pub mod Stopped
 pub mod Judged
 pub mod Validates
 pub mod Made
+pub mod Laws

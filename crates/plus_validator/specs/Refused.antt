@@ -30,6 +30,7 @@ use Rattle.plus_plan.specs.Lines.{plan_lines}
 use Rattle.plus_plan.specs.Spells.{line_limit}
 use Rattle.plus_plan.specs.TimeValue.{value_of}
 use Rattle.plus_expansion.specs.Expansion.{expanded, labels_meant}
+use Rattle.plus_expansion.specs.Counting.{IsGroundable}
 use Rattle.plus_timeline.specs.Act.{act_steps}
 use Rattle.plus_timeline.specs.Advance.{time_left}
 use Rattle.plus_timeline.specs.Tests.{breach_of}
@@ -302,8 +303,9 @@ abbrev pub WholeLines : Bool → List ℕ → List ℕ → List ℕ → Type 0
 WholeLines false text whole piece = whole ≡ text
 WholeLines true text whole piece = IsCut text whole piece
 
--- the text is refused with this outcome, and these bytes are its report and its verdict line
+-- the pair is inside the limits, the text is refused with this outcome, and these bytes are its report and its verdict line
 pub record IsRefused (d : Domain) (p : tree.Problem) (most : ℕ) (text : List ℕ) (goes_on : Bool) (outcome : Outcome) (bytes : List ℕ) : Type 0 where
+  pub groundable : IsGroundable IsFrac64 d p
   pub whole : List ℕ
   pub piece : List ℕ
   pub cut : WholeLines goes_on text whole piece

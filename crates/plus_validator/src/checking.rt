@@ -1,6 +1,7 @@
 //! From the bytes of a plan to its report and its verdict.
-ghost use Rattle.std.specs.Prelude.{◌≡◌, ◌⊎◌, ◌≤◌, length, IfSome, IfOk, IfErr};
+ghost use Rattle.std.specs.Prelude.{◌≡◌, ◌⊎◌, ◌≤◌, [], ◌∷◌, length, IfSome, IfOk, IfErr};
 ghost use Rattle.plus_io.specs.Files.{KeepsFiles};
+ghost use Rattle.plus_io.specs.Picks.{ReadsOnce, ReadsInOrder};
 ghost use Rattle.plus_validator.specs.Validates.{Accepts, Refuses, BreaksOff, RefusesPair, RefusesPairInPart, IsRefusal, IsRead, ReadsNot, EndsUngrounded, kind_meant, file_meant};
 ghost use Rattle.plus_ground.specs.Refusals.{RefusesGround};
 ghost use Rattle.plus_tree.specs.declared.trees.Domain.{Domain};
@@ -85,6 +86,7 @@ fn read_text<S: Shelf>(alloc: Global, shelf: &mut S, plan: &str) -> Result<PlanT
     ensures few { IfOk result (λ t. length t.bytes.items ≤ 1048576) }
     // The shelf failed, or memory is wanting.
     ensures refused { IfErr result (ReadsNot (S.faults shelf.old) (S.faults shelf.new)) }
+    ensures reads { ReadsOnce S.bytes S.picked S.rest S.picks 1048577 plan.now shelf.old shelf.new }
     ensures keeps { KeepsFiles S.names S.bytes S.faults shelf.old shelf.new }
 {
     let mut bytes = Vec::new(alloc);
@@ -131,6 +133,8 @@ fn validate_numbered<S: Shelf, O: Sink>(
         BreaksOff numbering.now.typed.now.domain numbering.now.typed.now.problem happenings text (O.taken out.old) (O.taken out.new))) }
     ensures no_memory { result ≡ Outcome.NoMemory → O.taken out.new ≡ O.taken out.old }
 
+    // Of the plan's file at most one byte past its limit is read, and of no other file any.
+    ensures reads { ReadsInOrder S.bytes S.picked S.rest S.picks 1048577 (plan.now ∷ []) shelf.old shelf.new }
     ensures keeps { KeepsFiles S.names S.bytes S.faults shelf.old shelf.new }
     ensures no_fall { O.faults out.old ≤ O.faults out.new }
 {
@@ -181,6 +185,8 @@ pub fn validate<S: Shelf, O: Sink>(
         BreaksOff typed.now.domain typed.now.problem happenings text (O.taken out.old) (O.taken out.new))) }
     ensures no_memory { result ≡ Outcome.NoMemory → O.taken out.new ≡ O.taken out.old }
 
+    // Of the plan's file at most one byte past its limit is read, and of no other file any.
+    ensures reads { ReadsInOrder S.bytes S.picked S.rest S.picks 1048577 (plan.now ∷ []) shelf.old shelf.new }
     ensures keeps { KeepsFiles S.names S.bytes S.faults shelf.old shelf.new }
     ensures no_fall { O.faults out.old ≤ O.faults out.new }
 {

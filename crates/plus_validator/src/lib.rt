@@ -5,6 +5,7 @@ mod checking;
 mod halt;
 mod instances;
 mod judge;
+pub mod laws;
 mod memory;
 mod play;
 mod run;

@@ -1,7 +1,6 @@
 use Rattle.std.proofs.Common.{◌≡◌, ◌∙◌, ap, arith, length, subst, List, ℕ}
-use Rattle.plus_reading.specs.Items.{items_of}
-use Rattle.plus_reading.specs.Reading.{Fails}
-use Rattle.plus_parser.specs.ReadingDomain.{domain_of}
+use Rattle.plus_parser.specs.SpellsDomain.{DomainTokens}
+use Rattle.plus_places.specs.Place.{Refuses}
 use Rattle.plus_report.specs.declared.refusals.Text.TheVariants.{Domain}
 use Rattle.planplus.specs.Pair.{text_refusal}
 use Rattle.planplus.proofs.PairLemmas.{domain_refused}
@@ -10,6 +9,6 @@ use Rattle.planplus.proofs.pair.domain_under.Goals as goal
 pub returns-clause-not_read : goal.returns-clause-not_read
 returns-clause-not_read g c =
     domain_refused _ _ _ c.in_ok-text.text.items c.in-Err.fault _ c.in_ok-text.ensures.read
-    (subst (λ (t : List ℕ). Fails c.in-Err.fault (domain_of 64 (items_of t))) c.deref.ensures.value c.in-Err.ensures.exact)
+    (subst (λ (t : List ℕ). Refuses DomainTokens 64 t c.in-Err.fault) c.deref.ensures.value c.in-Err.ensures.placed)
     (let n : c.len.result ≡ length c.in_ok-text.text.items = omega (arith, ap length c.deref.ensures.value, c.deref.ensures.len, c.len.ensures) in
     c.refuse_text.ensures ∙ ap (λ n. text_refusal Domain n c.in-Err.fault) n)

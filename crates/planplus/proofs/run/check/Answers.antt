@@ -1,5 +1,6 @@
-use Rattle.std.proofs.Common.{ap, sym, ◌∙◌}
+use Rattle.std.proofs.Common.{[], ◌∷◌, ap, sym, ◌∙◌}
 use Rattle.plus_io.proofs.Pieces.{KeepsFiles-trans}
+use Rattle.plus_io.proofs.Readings.{each_then, of_more}
 use Rattle.planplus.proofs.RunLemmas.{only_broken, only_read, only_memory, no_usage, rose_before, valid_run, plan_refused, plan_broken, pair_refused, pair_broken}
 use Rattle.planplus.proofs.run.check.Goals as goal
 
@@ -46,3 +47,19 @@ returns-in-Ok-clause-no_memory g c v = c.validate.ensures.no_memory (only_memory
 
 pub returns-in-Ok-clause-keeps : goal.returns-in-Ok-clause-keeps
 returns-in-Ok-clause-keeps g c = KeepsFiles-trans _ _ _ c.in-Ok.ensures.keeps c.validate.ensures.keeps
+
+pub returns-in-Ok-clause-reads : goal.returns-in-Ok-clause-reads
+returns-in-Ok-clause-reads g c =
+    each_then _ _ _ _ _ (c.args.files.domain.now ∷ c.args.files.problem.now ∷ []) (c.args.files.plan.now ∷ []) _ _ _ c.in-Ok.ensures.both c.validate.ensures.reads
+
+pub returns-in-Err-Early-clause-reads : goal.returns-in-Err-Early-clause-reads
+returns-in-Err-Early-clause-reads g c =
+    of_more _ _ _ _ _ (c.args.files.domain.now ∷ c.args.files.problem.now ∷ []) (c.args.files.plan.now ∷ []) _ _ c.in-Err-Early.ensures.reads
+
+pub returns-in-Err-ReadFault-clause-reads : goal.returns-in-Err-ReadFault-clause-reads
+returns-in-Err-ReadFault-clause-reads g c =
+    of_more _ _ _ _ _ (c.args.files.domain.now ∷ c.args.files.problem.now ∷ []) (c.args.files.plan.now ∷ []) _ _ c.in-Err-ReadFault.ensures.reads
+
+pub returns-in-Err-NoMemory-clause-reads : goal.returns-in-Err-NoMemory-clause-reads
+returns-in-Err-NoMemory-clause-reads g c =
+    of_more _ _ _ _ _ (c.args.files.domain.now ∷ c.args.files.problem.now ∷ []) (c.args.files.plan.now ∷ []) _ _ c.in-Err-NoMemory.ensures.reads

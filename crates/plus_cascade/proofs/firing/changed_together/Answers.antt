@@ -1,4 +1,4 @@
-use Rattle.std.proofs.Common.{◌≡◌, ◌∙◌, ◌<◌, ap, map, arith, length, get_or}
+use Rattle.std.proofs.Common.{◌<◌, ap, map, arith, length, get_or}
 use Rattle.plus_model.specs.Firing.{effects_of}
 use Rattle.plus_state.specs.View.{problem_of}
 use Rattle.plus_state.specs.Stops.{due_of}
