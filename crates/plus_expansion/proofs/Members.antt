@@ -216,11 +216,12 @@ list-new types file vars done [] e = tt
 list-new types file vars done (v ∷ vs) e =
     let first = left-none (member_faults types file (bound_names vars) (bound_names done) v) _ e in
     let h = bound-new file (bound_names vars) (bound_names done) v.name (left-none (bound_faults file (bound_names vars) (bound_names done) v.name) _ first) in
-    let rest = right-none (member_faults types file (bound_names vars) (bound_names done) v) _ e in
-    (none-both vars done v.name.name (not-among vars v.name.name h.0) (not-among done v.name.name h.1),
-    subst (λ x. AreNew x vs) (sym (append_assoc vars done ((v.name.name, v.kind.name) ∷ [])))
-    (list-new types file vars (done ++ (v.name.name, v.kind.name) ∷ []) vs
-    (subst (λ x. list_faults types file (bound_names vars) x vs ≡ []) (names-more done (v.name.name, v.kind.name)) rest)))
+    let rest = right-none (member_faults types file (bound_names vars) (bound_names done) v) _ e in (
+      none-both vars done v.name.name (not-among vars v.name.name h.0) (not-among done v.name.name h.1),
+      subst (λ x. AreNew x vs) (sym (append_assoc vars done ((v.name.name, v.kind.name) ∷ [])))
+          (list-new types file vars (done ++ (v.name.name, v.kind.name) ∷ []) vs
+          (subst (λ x. list_faults types file (bound_names vars) x vs ≡ []) (names-more done (v.name.name, v.kind.name)) rest)),
+    )
   where
     names-more : (done : List Binding) (b : Binding) → bound_names done ++ b.0 ∷ [] ≡ bound_names (done ++ b ∷ [])
     names-more [] b = refl

@@ -70,12 +70,12 @@ pub record TypeListRows : Type 0 where
   pub twice : InDomain (with_types (typed 10 "van" "truck" ∷ typed 12 "van" "place" ∷ [])) any_problem ((Twice, name_at 12) ∷ [])
   pub loop :
       InDomain (with_types (typed 10 "low" "van" ∷ typed 12 "van" "truck" ∷ typed 14 "truck" "van" ∷ [])) any_problem
-        ((TypeLoop, name_at 12) ∷ (TypeLoop, name_at 14) ∷ [])
+      ((TypeLoop, name_at 12) ∷ (TypeLoop, name_at 14) ∷ [])
   pub above_itself : InDomain (with_types (typed 10 "van" "van" ∷ [])) any_problem ((TypeLoop, name_at 10) ∷ [])
   pub under_object : InDomain (with_types (typed 10 "object" "van" ∷ [])) any_problem ((TypeLoop, name_at 10) ∷ [])
   pub through_object :
       InDomain (with_types (untyped 10 "van" ∷ typed 12 "object" "van" ∷ untyped 14 "place" ∷ [])) any_problem
-        ((TypeLoop, name_at 10) ∷ (TypeLoop, name_at 12) ∷ [])
+      ((TypeLoop, name_at 10) ∷ (TypeLoop, name_at 12) ∷ [])
   pub by_the_second :
       InDomain (with_types (untyped 10 "van" ∷ typed 12 "van" "van" ∷ [])) any_problem ((TypeLoop, name_at 10) ∷ (Twice, name_at 12) ∷ [])
 
@@ -100,7 +100,7 @@ pub record DeclarationRows : Type 0 where
       InProblem (with_constants (untyped 20 "home" ∷ [])) (problem (untyped 30 "home" ∷ []) [] (both [])) ((Twice, name_at 30) ∷ [])
   pub name_before_type :
       InProblem (with_constants (untyped 20 "home" ∷ [])) (problem (typed 30 "home" "crate" ∷ []) [] (both []))
-        ((Twice, name_at 30) ∷ (UnknownType, name_at 31) ∷ [])
+      ((Twice, name_at 30) ∷ (UnknownType, name_at 31) ∷ [])
   pub parameter_twice : InDomain (with_parameters (untyped 21 "x" ∷ untyped 22 "x" ∷ [])) any_problem ((Twice, name_at 22) ∷ [])
   pub predicate_twice :
       InDomain (record bare { predicates = head 20 "p" [] ∷ head 21 "p" [] ∷ [] }) any_problem ((Twice, name_at 21) ∷ [])
@@ -191,14 +191,14 @@ pub record SchemaRows : Type 0 where
       Acts (atom 64 "near" []) (write 70 (Add (use_of 70 "far" []))) ((UnknownName, name_at 65) ∷ (UnknownName, name_at 71) ∷ [])
   pub objects_of_the_problem :
       type_faults (record depot { actions = moves (atom 64 "seen" (the 66 "v" ∷ [])) (all []) ∷ [] }) (asks (both []))
-        ≡ At UnknownName files.Domain (name_at 66) ∷ []
+      ≡ At UnknownName files.Domain (name_at 66) ∷ []
   pub quantified_effect : Acts (both []) (for_all (typed 64 "t" "truck" ∷ []) (all [])) ((Shadowed, name_at 64) ∷ [])
   pub conditional_effect :
       Acts (both []) (e_when (atom 64 "seen" (var 66 "t" ∷ [])) (leaf 70 (Add (use_of 70 "seen" (var 72 "u" ∷ []))) ∷ []) (form_at 63))
-        ((Unbound, name_at 72) ∷ [])
+      ((Unbound, name_at 72) ∷ [])
   pub twice :
       InDomain (record depot { actions = moves (both []) (all []) ∷ schema 90 "move" [] (both []) (all []) ∷ [] }) any_problem
-        ((Twice, name_at 90) ∷ [])
+      ((Twice, name_at 90) ∷ [])
   pub kinds_apart :
       InDomain (record depot {
         actions = moves (both []) (all []) ∷ [];
