@@ -2,6 +2,8 @@
 #![tactic(auto)]
 
 mod command;
+#[cfg(test)]
+mod edge_tests;
 mod files;
 #[cfg(test)]
 mod limit_tests;
