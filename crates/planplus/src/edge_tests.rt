@@ -98,10 +98,17 @@ fn missing_files(rt: HostRuntime) -> Result<(), Fail> {
     Ok(())
 }
 
-// A text and then empty lines, of so many bytes in all.
+// A blank line of 64 bytes.
+const BLANK: &str = "                                                               \n";
+
+// A text and then blank lines, of so many bytes in all.
 fn padded(alloc: Global, text: &str, size: usize) -> Result<String, Fail> {
     let mut padded = String::from_str(alloc, text)?;
-    for _ in 0..size.saturating_sub(text.len()) {
+    let missing = size.saturating_sub(text.len());
+    for _ in 0..missing / 64 {
+        padded.push_str(BLANK)?;
+    }
+    for _ in 0..missing % 64 {
         padded.push_str("\n")?;
     }
     Ok(padded)

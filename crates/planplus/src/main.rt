@@ -13,6 +13,8 @@ mod screen;
 mod show;
 #[cfg(test)]
 mod tests;
+#[cfg(test)]
+mod typing_tests;
 
 ghost use Rattle.std.specs.Prelude.{◌≡◌, ◌⊎◌, map, string_bytes, None};
 ghost use Rattle.std.specs.Process.{exit_status};
