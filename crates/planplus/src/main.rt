@@ -2,6 +2,8 @@
 #![tactic(auto)]
 
 mod command;
+#[cfg(test)]
+mod edge_tests;
 mod files;
 #[cfg(test)]
 mod limit_tests;
@@ -11,6 +13,8 @@ mod screen;
 mod show;
 #[cfg(test)]
 mod tests;
+#[cfg(test)]
+mod typing_tests;
 
 ghost use Rattle.std.specs.Prelude.{◌≡◌, ◌⊎◌, map, string_bytes, None};
 ghost use Rattle.std.specs.Process.{exit_status};
