@@ -42,12 +42,14 @@ def task_of(pid):
     try:
         with open(f"/proc/{pid}/cmdline", "rb") as it:
             words = it.read().decode(errors="replace").split("\0")
+        folder = os.readlink(f"/proc/{pid}/cwd")
     except OSError:
         return None
     if "--crate-name" not in words or os.path.basename(words[0]) != "rattle":
         return None
     crate = words[words.index("--crate-name") + 1]
-    if "check" in words[:2]:
+    # an edit is tried on a copy of its crate
+    if "/crates/" not in folder:
         return crate, "edits"
     return crate, "tests" if "--test" in words else "proof"
 
