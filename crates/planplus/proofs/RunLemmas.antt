@@ -1,11 +1,11 @@
 -- What the top call shows, put together from what its calls answer.
-use Rattle.std.proofs.Common.{◌≡◌, ◌⊎◌, ℕ, List, [], ◌∷◌, Option, Some, None, subst, sym, ◌∙◌, ap, refl, rules, IsTrue, inl, inr, ◌≤◌, arith}
+use Rattle.std.proofs.Common.{◌≡◌, ◌⊎◌, ℕ, List, [], ◌∷◌, ◌++◌, Option, Some, None, subst, sym, ◌∙◌, ap, refl, rules, IsTrue, inl, inr, ◌≤◌, arith}
 use Rattle.std.specs.Prelude.{IfSome}
 use Rattle.plus_io.specs.Faults.{Rose}
 use Rattle.plus_tree.specs.declared.trees.Domain.{Domain}
 use Rattle.plus_tree.specs.declared.trees.Problem.{Problem}
-use Rattle.plus_types.specs.Unbuilt.{is_empty}
-use Rattle.plus_types.specs.Faults.{faults_of, is_well_typed}
+use Rattle.plus_types.specs.Unbuilt.{is_empty, unbuilt_faults}
+use Rattle.plus_types.specs.Faults.{type_faults, faults_of, is_well_typed}
 use Rattle.plus_report.specs.declared.refusals.Early.{Early}
 use Rattle.plus_report.specs.declared.refusals.Early.TheVariants as es
 use Rattle.plus_report.specs.Refusals.{early_text}
@@ -23,6 +23,10 @@ use Rattle.planplus.specs.Statuses.{early_status, Writes}
 none_at_all : {A : Type 0} (xs : List A) → IsTrue (is_empty xs) → xs ≡ []
 none_at_all [] w = refl
 none_at_all (x ∷ xs) w = absurd (search rules)
+
+both_none : {A : Type 0} (xs ys : List A) → xs ++ ys ≡ [] → (xs ≡ []) × (ys ≡ [])
+both_none [] ys e = (refl, e)
+both_none (x ∷ xs) ys e = cc e
 
 -- ---- a status comes of the outcome alone
 only_valid : (o : Outcome) → status_of o ≡ s.Valid → o ≡ outcomes.Valid
@@ -100,7 +104,9 @@ on_pair :
     → IfSome domain (λ ds. IfSome problem (λ ps. P ds ps))
 on_pair None problem d p P r w f = tt
 on_pair (Some ds) None d p P r w f = tt
-on_pair (Some ds) (Some ps) d p P r w f = f ds ps (record { spelled = r; well_typed = none_at_all (faults_of d p) w })
+on_pair (Some ds) (Some ps) d p P r w f =
+    let none = both_none (type_faults d p) (unbuilt_faults d p) (none_at_all (faults_of d p) w) in
+    f ds ps (record { spelled = r; well_typed = none.0; handled = none.1 })
 
 on_plan : (plan : Option (List ℕ)) (P Q : List ℕ → Type 0) → IfSome plan P → ((ls : List ℕ) → P ls → Q ls) → IfSome plan Q
 on_plan None P Q h f = tt

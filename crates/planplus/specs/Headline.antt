@@ -4,7 +4,8 @@ use Rattle.plus_io.specs.Faults.{Rose}
 use Rattle.plus_io.specs.Taken.{Took, TookPart}
 use Rattle.plus_tree.specs.declared.trees.Domain.{Domain}
 use Rattle.plus_tree.specs.declared.trees.Problem.{Problem}
-use Rattle.plus_types.specs.Faults.{faults_of}
+use Rattle.plus_types.specs.Unbuilt.{unbuilt_faults}
+use Rattle.plus_types.specs.Faults.{type_faults}
 use Rattle.plus_report.specs.declared.refusals.Early.{Early}
 use Rattle.plus_validator.specs.declared.judge.Outcome.{Outcome}
 use Rattle.plus_validator.specs.declared.judge.Outcome.TheVariants as outcomes
@@ -24,10 +25,11 @@ use Rattle.planplus.specs.Shown.{IsShown, IsNotShown, IsShownInPart}
 abbrev pub default_happenings : ℕ
 default_happenings = 10000
 
--- The two texts spell this pair, and it is well typed.
+-- The two texts spell this pair, it is well typed, and it has none of the forms that are not handled yet.
 pub record SpellsWellTyped (domain problem : List ℕ) (d : Domain) (p : Problem) : Type 0 where
   pub spelled : SpellsPair domain problem d p
-  pub well_typed : faults_of d p ≡ []
+  pub well_typed : type_faults d p ≡ []
+  pub handled : unbuilt_faults d p ≡ []
 
 -- The bytes under the three names spell a well-typed pair and a plan of lines, exactly one trajectory of the pair has
 -- that plan's actions, and between old and new the sink took that trajectory's text and `valid`.

@@ -5,3 +5,4 @@ pub mod Reads
 pub mod Statuses
 pub mod Shown
 pub mod Headline
+pub mod Laws

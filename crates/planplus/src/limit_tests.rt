@@ -304,3 +304,46 @@ fn counts(rt: HostRuntime) -> Result<(), Fail> {
     }
     Ok(())
 }
+
+// A domain with one action, which has this condition.
+fn conditioned(alloc: Global, condition: &str) -> Result<String, Fail> {
+    let mut text = String::from_str(
+        alloc,
+        "(define (domain n) (:predicates (p)) (:action a :precondition ",
+    )?;
+    text.push_str(condition)?;
+    text.push_str("))")?;
+    Ok(text)
+}
+
+#[test]
+fn instances(rt: HostRuntime) -> Result<(), Fail> {
+    let alloc = rt.alloc();
+    let wide = wide(alloc)?;
+    let condition = format!(in alloc; "(and {wide})")?;
+    let domain = conditioned(alloc, &condition)?;
+    let problem = peopled(alloc, 999, "(and)")?;
+    let shelf = shelf_of(alloc, &domain, &problem, "1: (a)")?;
+    let output = "at 0\n  run\nat 1\nbeyond: more than 1000000 nodes\n";
+    expect_run(
+        &rt,
+        alloc,
+        shelf,
+        MemSink::new(alloc, 64),
+        Status::Beyond,
+        output,
+    )?;
+    let domain =
+        "(define (domain n) (:functions (f)) (:action a :effect (assign (f) 9223372036854775808)))";
+    let shelf = shelf_of(alloc, domain, EMPTY, "1: (a)")?;
+    let output = "at 0\n  run\nat 1\nbeyond: literal in domain 67-86\n";
+    expect_run(
+        &rt,
+        alloc,
+        shelf,
+        MemSink::new(alloc, 64),
+        Status::Beyond,
+        output,
+    )?;
+    Ok(())
+}

@@ -5,6 +5,7 @@ mod command;
 #[cfg(test)]
 mod edge_tests;
 mod files;
+pub mod laws;
 #[cfg(test)]
 mod limit_tests;
 mod pair;

@@ -1,13 +1,12 @@
 //! The top call: from the words of the command line to what is written and the exit status.
 
-ghost use Rattle.std.specs.Prelude.{◌≡◌, ◌≤◌, map, string_bytes};
+ghost use Rattle.std.specs.Prelude.{◌≡◌, ◌≤◌, map, string_bytes, Some};
 ghost use Rattle.std.specs.Process.{exit_status};
-ghost use Rattle.plus_io.specs.Faults.{Rose};
 ghost use Rattle.plus_io.specs.Files.{KeepsFiles};
 ghost use Rattle.plus_io.specs.Picks.{ReadsInOrder};
 ghost use Rattle.plus_report.specs.Refusals.{early_text};
 ghost use Rattle.planplus.specs.Command.{command_of, files_of};
-ghost use Rattle.planplus.specs.Headline.{RunsValid, RunsRefused, RunsBroken, OnRefusal, usage_line, status_of, exit_number};
+ghost use Rattle.planplus.specs.Headline.{IsAnswer, usage_line, status_of, exit_number};
 ghost use Rattle.planplus.specs.Statuses.{early_status, Writes};
 ghost use Rattle.planplus.specs.Meant.{meant};
 
@@ -112,17 +111,9 @@ pub fn refuse<O: Sink>(out: &mut O, early: &Early) -> Status
 
 // `check`: reads the pair, and checks the plan.
 fn check<S: Shelf, O: Sink>(alloc: Global, files: Check<'_>, shelf: &mut S, out: &mut O) -> Status
-    ensures valid { result ≡ Status.Valid → RunsValid (Some (meant (Command.Check files.entry)))
-        (S.bytes shelf.old) (O.taken out.old) (O.taken out.new) }
-    ensures refused { OnRefusal result (RunsRefused (Some (meant (Command.Check files.entry)))
-        (S.bytes shelf.old) (O.taken out.old) (O.taken out.new) result) }
-    ensures no_usage { result ≡ Status.Usage → ⊥ }
-    ensures read_fault { result ≡ Status.ReadFault →
-        Rose (S.faults shelf.old) (S.faults shelf.new) × (O.taken out.new ≡ O.taken out.old) }
-    ensures write_fault { result ≡ Status.WriteFault → Rose (O.faults out.old) (O.faults out.new) }
-    ensures broken { result ≡ Status.WriteFault → RunsBroken (Some (meant (Command.Check files.entry)))
-        (S.bytes shelf.old) (O.taken out.old) (O.taken out.new) }
-    ensures no_memory { result ≡ Status.NoMemory → O.taken out.new ≡ O.taken out.old }
+    ensures answers { IsAnswer (Some (meant (Command.Check files.entry))) (S.bytes shelf.old)
+        (O.taken out.old) (O.taken out.new) (S.faults shelf.old) (S.faults shelf.new)
+        (O.faults out.old) (O.faults out.new) result }
     ensures reads { ReadsInOrder S.bytes S.picked S.rest S.picks 1048577
         (files_of (Some (meant (Command.Check files.entry)))) shelf.old shelf.new }
     ensures keeps { KeepsFiles S.names S.bytes S.faults shelf.old shelf.new }
@@ -146,24 +137,11 @@ fn check<S: Shelf, O: Sink>(alloc: Global, files: Check<'_>, shelf: &mut S, out:
 /// Carries out the command that the words mean: reads the files that it names from the shelf,
 /// writes to the sink, and answers the status.
 pub fn run<S: Shelf, O: Sink>(alloc: Global, words: &[String], shelf: &mut S, out: &mut O) -> Status
-    // The plan is valid: exactly one trajectory has its actions, and the report is its text.
-    ensures valid { result ≡ Status.Valid → RunsValid (command_of (map string_bytes words.now))
-        (S.bytes shelf.old) (O.taken out.old) (O.taken out.new) }
-    // A text, the pair or the plan is refused: the line says which, and a plan's report goes before it.
-    ensures refused { OnRefusal result (RunsRefused (command_of (map string_bytes words.now))
-        (S.bytes shelf.old) (O.taken out.old) (O.taken out.new) result) }
-
-    ensures usage { result ≡ Status.Usage → command_of (map string_bytes words.now) ≡ None }
-    ensures no_command { command_of (map string_bytes words.now) ≡ None → Writes usage_line Status.Usage
-        (O.taken out.old) (O.taken out.new) (O.faults out.old) (O.faults out.new) result }
-
-    // A fault comes only where it was counted. What was to be written is broken off, or not begun.
-    ensures read_fault { result ≡ Status.ReadFault →
-        Rose (S.faults shelf.old) (S.faults shelf.new) × (O.taken out.new ≡ O.taken out.old) }
-    ensures write_fault { result ≡ Status.WriteFault → Rose (O.faults out.old) (O.faults out.new) }
-    ensures broken { result ≡ Status.WriteFault → RunsBroken (command_of (map string_bytes words.now))
-        (S.bytes shelf.old) (O.taken out.old) (O.taken out.new) }
-    ensures no_memory { result ≡ Status.NoMemory → O.taken out.new ≡ O.taken out.old }
+    // What the status tells: of a plan, that exactly one trajectory has its actions and the report is
+    // its text, or that the plan is refused, why, and behind which report; of a fault, that it came.
+    ensures answers { IsAnswer (command_of (map string_bytes words.now)) (S.bytes shelf.old)
+        (O.taken out.old) (O.taken out.new) (S.faults shelf.old) (S.faults shelf.new)
+        (O.faults out.old) (O.faults out.new) result }
 
     // It reads the files that the words name and no other, in the order of the words and each once,
     // and of each at most one byte past the limit of a text.

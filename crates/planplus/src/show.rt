@@ -1,13 +1,12 @@
 //! The command `show`: from a text to the canonical text of its tree.
 
 ghost use Rattle.std.specs.Prelude.{◌≡◌, ◌≤◌, [], ◌∷◌, Some, IfOk};
-ghost use Rattle.plus_io.specs.Faults.{Rose};
 ghost use Rattle.plus_io.specs.Files.{KeepsFiles};
 ghost use Rattle.plus_io.specs.Picks.{ReadsInOrder};
 ghost use Rattle.plus_printer.specs.Canon.{domain_text, problem_text};
 ghost use Rattle.planplus.specs.Command.{ShowDomain, ShowProblem};
 ghost use Rattle.planplus.specs.Statuses.{Writes};
-ghost use Rattle.planplus.specs.Headline.{RunsValid, RunsRefused, RunsBroken, OnRefusal};
+ghost use Rattle.planplus.specs.Headline.{IsAnswer};
 
 use crate::pair::{Refusal, domain_under, problem_under};
 use crate::run::{Status, refuse};
@@ -44,17 +43,9 @@ pub fn show_domain<S: Shelf, O: Sink>(
     shelf: &mut S,
     out: &mut O,
 ) -> Status
-    ensures valid { result ≡ Status.Valid → RunsValid (Some (ShowDomain name.now))
-        (S.bytes shelf.old) (O.taken out.old) (O.taken out.new) }
-    ensures refused { OnRefusal result (RunsRefused (Some (ShowDomain name.now))
-        (S.bytes shelf.old) (O.taken out.old) (O.taken out.new) result) }
-    ensures no_usage { result ≡ Status.Usage → ⊥ }
-    ensures read_fault { result ≡ Status.ReadFault →
-        Rose (S.faults shelf.old) (S.faults shelf.new) × (O.taken out.new ≡ O.taken out.old) }
-    ensures write_fault { result ≡ Status.WriteFault → Rose (O.faults out.old) (O.faults out.new) }
-    ensures broken { result ≡ Status.WriteFault → RunsBroken (Some (ShowDomain name.now))
-        (S.bytes shelf.old) (O.taken out.old) (O.taken out.new) }
-    ensures no_memory { result ≡ Status.NoMemory → O.taken out.new ≡ O.taken out.old }
+    ensures answers { IsAnswer (Some (ShowDomain name.now)) (S.bytes shelf.old)
+        (O.taken out.old) (O.taken out.new) (S.faults shelf.old) (S.faults shelf.new)
+        (O.faults out.old) (O.faults out.new) result }
     ensures reads { ReadsInOrder S.bytes S.picked S.rest S.picks 1048577 (name.now ∷ []) shelf.old shelf.new }
     ensures keeps { KeepsFiles S.names S.bytes S.faults shelf.old shelf.new }
     ensures no_fall { O.faults out.old ≤ O.faults out.new }
@@ -86,17 +77,9 @@ pub fn show_problem<S: Shelf, O: Sink>(
     shelf: &mut S,
     out: &mut O,
 ) -> Status
-    ensures valid { result ≡ Status.Valid → RunsValid (Some (ShowProblem name.now))
-        (S.bytes shelf.old) (O.taken out.old) (O.taken out.new) }
-    ensures refused { OnRefusal result (RunsRefused (Some (ShowProblem name.now))
-        (S.bytes shelf.old) (O.taken out.old) (O.taken out.new) result) }
-    ensures no_usage { result ≡ Status.Usage → ⊥ }
-    ensures read_fault { result ≡ Status.ReadFault →
-        Rose (S.faults shelf.old) (S.faults shelf.new) × (O.taken out.new ≡ O.taken out.old) }
-    ensures write_fault { result ≡ Status.WriteFault → Rose (O.faults out.old) (O.faults out.new) }
-    ensures broken { result ≡ Status.WriteFault → RunsBroken (Some (ShowProblem name.now))
-        (S.bytes shelf.old) (O.taken out.old) (O.taken out.new) }
-    ensures no_memory { result ≡ Status.NoMemory → O.taken out.new ≡ O.taken out.old }
+    ensures answers { IsAnswer (Some (ShowProblem name.now)) (S.bytes shelf.old)
+        (O.taken out.old) (O.taken out.new) (S.faults shelf.old) (S.faults shelf.new)
+        (O.faults out.old) (O.faults out.new) result }
     ensures reads { ReadsInOrder S.bytes S.picked S.rest S.picks 1048577 (name.now ∷ []) shelf.old shelf.new }
     ensures keeps { KeepsFiles S.names S.bytes S.faults shelf.old shelf.new }
     ensures no_fall { O.faults out.old ≤ O.faults out.new }

@@ -1,154 +1,100 @@
 -- Each way out of `advance` in a still world.
-use Rattle.std.proofs.Common.{◌≡◌, ℕ, suc, ◌<◌, true, false, List, [], ◌∷◌, refl, ap, sym, subst, ◌∙◌, inl, inr, arith}
-use Rattle.std.specs.Prelude.{Option, Some, None, Result, Ok, Err, IfOk, OnErr}
+use Rattle.std.proofs.Common.{◌≡◌, ℕ, suc, ◌<◌, Bool, true, false, List, [], ◌∷◌, refl, ap, sym, subst, ◌∙◌, arith}
+use Rattle.std.proofs.lemmas.Bool.{eqb-true, eq-eqb}
+use Rattle.std.specs.Prelude.{Some, None, Ok, Err, nat_eq, if◌then◌else◌}
 use Rattle.std.specs.declared.cmp.Ordering.{Ordering}
 use Rattle.std.specs.declared.cmp.Ordering.TheVariants.{Less, Equal, Greater}
-use Rattle.plus_fraction.specs.Fraction.{Fraction, ◌-ℚ◌, ◌<ℚ◌, ◌≤ℚ◌, compared}
-use Rattle.plus_fraction.proofs.FractionOrder.{<ℚ_irrefl}
+use Rattle.plus_fraction.specs.Fraction.{Fraction, ◌-ℚ◌, ◌<ℚ◌, compared}
 use Rattle.plus_fraction.proofs.Compared.{compared-equal, compared-greater}
 use Rattle.plus_model.specs.Terms.{Below, Problem}
 use Rattle.plus_model.specs.Value.{passes}
-use Rattle.plus_model.specs.History.{View, view_after, Enter, Run as Runs}
+use Rattle.plus_model.specs.History.{view_after, Enter, Run as Runs}
 use Rattle.plus_model.specs.Trajectory.{least, is_below}
-use Rattle.plus_model.proofs.Moments.{not_below, from_below}
+use Rattle.plus_model.proofs.Moments.{not_below}
 use Rattle.plus_state.specs.declared.term.Sign.TheVariants.{Minus}
-use Rattle.plus_state.specs.declared.term.Overflow.{Overflow}
-use Rattle.plus_state.specs.declared.outcome.Limit.{Limit}
-use Rattle.plus_state.specs.declared.outcome.Limit.TheVariants.{Happenings, Number, Nonlinear}
-use Rattle.plus_state.specs.Node.{Node}
-use Rattle.plus_state.specs.Asked.{NodeFits, FirstUnfit, node}
-use Rattle.plus_state.proofs.Testing.{none_fails, pass_one, fail_here, one_test}
-use Rattle.plus_state.specs.View.{overflow_of}
-use Rattle.plus_timeline.specs.declared.next.Next.{Next}
+use Rattle.plus_state.specs.declared.outcome.Limit.TheVariants.{Happenings, Number}
+use Rattle.plus_state.specs.Asked.{NodeFits, node}
+use Rattle.plus_state.proofs.Testing.{pass_none, pass_one, fail_here}
 use Rattle.plus_timeline.specs.declared.next.Next.TheVariants.{Run, Entry, There}
-use Rattle.plus_timeline.specs.declared.stop.Stop.{Stop}
-use Rattle.plus_timeline.specs.declared.stop.Stop.TheVariants.{Limit as Beyond, Ended}
+use Rattle.plus_timeline.specs.declared.stop.Stop.TheVariants.{Limit as Beyond}
 use Rattle.plus_timeline.specs.Still.{IsStill}
 use Rattle.plus_timeline.specs.Timeline.{TimelineView}
-use Rattle.plus_timeline.specs.Stops.{IsGoing, BreachExactly, LimitExactly, EndedExactly}
-use Rattle.plus_timeline.specs.Advance.{IsAhead, Advances, BreaksAdvance, time_left, Reaches, LimitsAdvance}
+use Rattle.plus_timeline.specs.Tests.{Test, asks, full, Passes, AllPass, FirstFailing}
+use Rattle.plus_timeline.specs.Asked.{count_tests, advance_tests}
+use Rattle.plus_timeline.specs.Advance.{IsAhead, AdvanceTold}
 use Rattle.plus_timeline.proofs.StillWorld.{nothing_fires, no_literal, none_between, still_run, still_enter}
-use Rattle.plus_timeline.proofs.StillBreaches.{nothing_breaks}
+use Rattle.plus_timeline.proofs.StillTests.{still_stretch, still_moment}
+use Rattle.plus_timeline.proofs.Rising.{to_below}
+use Rattle.plus_timeline.proofs.Stays.{by_bool}
 
--- the whole contract of `advance`
-pub record AdvanceTells {Q : Type 0} (value : Q → Fraction) (fits : Fraction → Type 0) (P : Problem) (until : Fraction) (old new : TimelineView) (r : Result (Next Q) (Stop Q)) : Type 0 where
-  pub ok : IfOk r (Advances value P until old new)
-  pub breach : BreachExactly (BreaksAdvance value P until old) r
-  pub limit : LimitExactly (LimitsAdvance value fits P until old) r
-  pub ended : EndedExactly old r
-  pub refused : OnErr r (new ≡ record old { ended = true })
+not_equal : (m n : ℕ) → m < n → nat_eq m n ≡ false
+not_equal m n l = by_bool (nat_eq m n) (λ e. let q : m ≡ n = eqb-true m n e in omega (arith, l, q))
 
--- ---- what does not stand
-none_unfit : (fits : Fraction → Type 0) (n : Node) → FirstUnfit fits [] n → ⊥
-none_unfit fits n u = none_fails (NodeFits fits) n u
+module _ {Q : Type 0} (value : Q → Fraction) (fits : Fraction → Type 0) (P : Problem) (old : TimelineView) (h : IsStill P) (g : old.ended ≡ false) where
+  -- ---- along the empty set
+  asked_running : (u : Fraction) → old.now.running ≡ Some [] → advance_tests P old.most old.entries (least old.now.time u P.timed) old.now ≡ asks (node Minus u old.now.time) ∷ []
+  asked_running u e = still_stretch P old.most old.entries _ old.now h e ∙ ap (λ (x : Fraction). asks (node Minus x old.now.time) ∷ []) (none_between P old.now.time u h)
 
-time_unfit : (fits : Fraction → Type 0) (time u : Fraction) (n : Node) → fits (u -ℚ time) → FirstUnfit fits (node Minus u time ∷ []) n → ⊥
-unfolding NodeFits
-time_unfit fits time u n f w = (one_test (NodeFits fits)).none _ n (pass_one (NodeFits fits) (node Minus u time) f) w
-
-first_unfit : (fits : Fraction → Type 0) (time u : Fraction) → (fits (u -ℚ time) → ⊥) → FirstUnfit fits (node Minus u time ∷ []) (node Minus u time)
-unfolding NodeFits
-first_unfit fits time u f = fail_here (NodeFits fits) (node Minus u time) [] f
-
--- a running set stands, and the time that is left is a value
-no_limit_running : {Q : Type 0} (value : Q → Fraction) (fits : Fraction → Type 0) (P : Problem) (u : Fraction) (v : TimelineView) (R : List ℕ) (l : Limit Q) → v.now.running ≡ Some R → fits (u -ℚ v.now.time) → Reaches value fits P u v l → ⊥
-no_limit_running value fits P u v R (Happenings n) e f r = let m = r.1.«open».present.moment in cc (m, e)
-no_limit_running value fits P u v R (Number w) e f r = time_unfit fits v.now.time u (overflow_of value w) f (subst (λ (o : Option (List ℕ)). FirstUnfit fits (time_left o v.now.time u) (overflow_of value w)) e r)
-no_limit_running value fits P u v R (Nonlinear o k) e f r = r
-
--- none stands, and the limit of entries is not reached
-no_limit_present : {Q : Type 0} (value : Q → Fraction) (fits : Fraction → Type 0) (P : Problem) (u : Fraction) (v : TimelineView) (l : Limit Q) → v.now.running ≡ None → (v.now.time <ℚ u → v.entries ≡ v.most → ⊥) → Reaches value fits P u v l → ⊥
-no_limit_present value fits P u v (Happenings n) e f r = f r.1.«open».later r.1.done
-no_limit_present value fits P u v (Number w) e f r = none_unfit fits (overflow_of value w) (subst (λ (o : Option (List ℕ)). FirstUnfit fits (time_left o v.now.time u) (overflow_of value w)) e r)
-no_limit_present value fits P u v (Nonlinear o k) e f r = r
-
--- ---- the ways out
-pub has_ended : {Q : Type 0} (value : Q → Fraction) (fits : Fraction → Type 0) (P : Problem) (until : Fraction) (old : TimelineView) → old.ended ≡ true → AdvanceTells {Q = Q} value fits P until old old (Err Ended)
-has_ended value fits P until old e = record {
-  ok = tt;
-  breach = λ b s. (let g = s.going in cc (g, e));
-  limit = λ l s. (let g = s.going in cc (g, e));
-  ended = e;
-  refused = ap (λ b. record old { ended = b }) e;
-}
-
-pub no_value_left : {Q : Type 0} (value : Q → Fraction) (fits : Fraction → Type 0) (P : Problem) (old new : TimelineView) (until time : Q) (R : List ℕ) → IsStill P → old.ended ≡ false → old.now.running ≡ Some R → value time ≡ old.now.time → (fits (value until -ℚ value time) → ⊥) → new ≡ record old { ended = true } → AdvanceTells value fits P (value until) old new (Err (Beyond (Number (record { sign = Minus; left = until; right = time }))))
-no_value_left value fits P old new until time R h g e t f n =
-    let same = none_between P old.now.time (value until) h in
-    let first : FirstUnfit fits (node Minus (value until) (value time) ∷ []) (node Minus (value until) (value time)) = first_unfit fits (value time) (value until) f in
-    let here : FirstUnfit fits (time_left (Some R) old.now.time (value until)) (node Minus (value until) (value time)) =
-    subst (λ (w : Fraction). FirstUnfit fits (node Minus (value until) w ∷ []) (node Minus (value until) (value time))) t first in
-    record {
-      ok = tt;
-      breach = nothing_breaks value P (value until) old h;
-      limit = record {
-        going = g;
-        reached = subst (λ (u : Fraction). FirstUnfit fits (time_left old.now.running old.now.time u) (node Minus (value until) (value time))) (sym same)
-            (subst (λ (o : Option (List ℕ)). FirstUnfit fits (time_left o old.now.time (value until)) (node Minus (value until) (value time))) (sym e) here);
-      };
-      ended = g;
-      refused = n;
-    }
-
-pub entry_begun : {Q : Type 0} (value : Q → Fraction) (fits : Fraction → Type 0) (P : Problem) (old new : TimelineView) (until : Q) → IsStill P → old.ended ≡ false → old.now.running ≡ Some [] → old.now.time <ℚ value until → fits (value until -ℚ old.now.time) → new ≡ record old { now = view_after old.now (Enter (value until) old.now.state old.now.state); before = old.now.state; arrival = old.now.state; literal = false; entries = suc old.entries; answer = Some (Entry (value until)); acted = false } → AdvanceTells value fits P (value until) old new (Ok (Entry until))
-entry_begun value fits P old new until h g e l f n = record {
-  ok = record {
-    members = [];
-    runs = e;
-    arrived = old.now.state;
-    after = old.now.state;
-    may = still_enter P old.now (value until) h l;
-    is = n ∙ ap (λ b. record old { now = view_after old.now (Enter (value until) old.now.state old.now.state); before = old.now.state; arrival = old.now.state; literal = b; entries = suc old.entries; answer = Some (Entry (value until)); acted = false }) (sym (no_literal P (value until) h));
-  };
-  breach = nothing_breaks value P (value until) old h;
-  limit = λ k s. no_limit_running value fits P _ old [] k e (subst (λ u. fits (u -ℚ old.now.time)) (sym (none_between P old.now.time (value until) h)) f) s.reached;
-  ended = g;
-  refused = tt;
-}
-
-pub there : {Q : Type 0} (value : Q → Fraction) (fits : Fraction → Type 0) (P : Problem) (old new : TimelineView) (until : Fraction) → IsStill P → old.ended ≡ false → old.now.running ≡ None → old.now.time ≡ until → new ≡ record old { now = record old.now { running = None }; answer = Some There; acted = false } → AdvanceTells {Q = Q} value fits P until old new (Ok There)
-there value fits P old new until h g e t n = record {
-  ok = record {
-    moment = e;
-    still = nothing_fires P old.now.state h;
-    time = t;
-    is = n ∙ ap (λ o. record old { now = record old.now { running = o }; answer = Some There; acted = false }) (sym e);
-  };
-  breach = nothing_breaks value P until old h;
-  limit = λ k s. no_limit_present value fits P _ old k e (λ l d. <ℚ_irrefl until (subst (λ (x : Fraction). x <ℚ until) t (subst (λ u. old.now.time <ℚ u) (none_between P old.now.time until h) l))) s.reached;
-  ended = g;
-  refused = tt;
-}
-
-pub full : {Q : Type 0} (value : Q → Fraction) (fits : Fraction → Type 0) (P : Problem) (old new : TimelineView) (until : Fraction) → IsStill P → old.ended ≡ false → old.now.running ≡ None → old.now.time <ℚ until → old.entries ≡ old.most → new ≡ record old { ended = true } → AdvanceTells {Q = Q} value fits P until old new (Err (Beyond (Happenings old.most)))
-full value fits P old new until h g e l d n = record {
-  ok = tt;
-  breach = nothing_breaks value P until old h;
-  limit = record {
+  pub entry_begun : (new : TimelineView) (until : Q) → old.now.running ≡ Some [] → old.now.time <ℚ value until → fits (value until -ℚ old.now.time) → new ≡ record old { now = view_after old.now (Enter (value until) old.now.state old.now.state); before = old.now.state; arrival = old.now.state; literal = false; entries = suc old.entries; answer = Some (Entry (value until)); acted = false } → AdvanceTold value fits P (value until) old new (Ok (Entry until))
+  unfolding Passes NodeFits
+  entry_begun new until e l f n = record {
     going = g;
-    reached = (
-      refl,
-      record {
-        «open» = record {
-          present = record { moment = e; still = nothing_fires P old.now.state h };
-          later = subst (λ u. old.now.time <ℚ u) (sym (none_between P old.now.time until h)) l;
-        };
-        done = d;
-      },
-    );
-  };
-  ended = g;
-  refused = n;
-}
+    pass = subst (AllPass fits) (sym (asked_running (value until) e)) (pass_one (Passes fits) (asks (node Minus (value until) old.now.time)) f);
+    does = record {
+      members = [];
+      runs = e;
+      arrived = old.now.state;
+      after = old.now.state;
+      may = still_enter P old.now (value until) h l;
+      is = n ∙ ap (λ b. record old { now = view_after old.now (Enter (value until) old.now.state old.now.state); before = old.now.state; arrival = old.now.state; literal = b; entries = suc old.entries; answer = Some (Entry (value until)); acted = false }) (sym (no_literal P (value until) h));
+    };
+  }
 
-pub entry_closed : {Q : Type 0} (value : Q → Fraction) (fits : Fraction → Type 0) (P : Problem) (old new : TimelineView) (until : Fraction) → IsStill P → old.ended ≡ false → old.now.running ≡ None → old.now.time <ℚ until → old.entries < old.most → new ≡ record old { now = view_after old.now (Runs []); running = []; answer = Some Run; acted = false } → AdvanceTells {Q = Q} value fits P until old new (Ok Run)
-entry_closed value fits P old new until h g e l d n = record {
-  ok = record { moment = e; room = d; members = []; may = still_run P old.now until h l; is = n };
-  breach = nothing_breaks value P until old h;
-  limit = λ k s. no_limit_present value fits P _ old k e (λ _ f. omega arith) s.reached;
-  ended = g;
-  refused = tt;
-}
+  pub no_value_left : (new : TimelineView) (until time : Q) → old.now.running ≡ Some [] → value time ≡ old.now.time → (fits (value until -ℚ value time) → ⊥) → AdvanceTold value fits P (value until) old new (Err (Beyond (Number (record { sign = Minus; left = until; right = time }))))
+  unfolding Passes NodeFits
+  no_value_left new until time e t f = record {
+    going = g;
+    first = subst (λ (ts : List Test). FirstFailing fits ts (asks (node Minus (value until) (value time))))
+        (ap (λ (x : Fraction). asks (node Minus (value until) x) ∷ []) t ∙ sym (asked_running (value until) e))
+        (fail_here (Passes fits) (asks (node Minus (value until) (value time))) [] f);
+  }
+
+  -- ---- at a moment
+  asked_present : (u : Fraction) (b : Bool) → old.now.running ≡ None → is_below old.now.time u ≡ b → advance_tests P old.most old.entries (least old.now.time u P.timed) old.now ≡ (if b then count_tests old.most old.entries else [])
+  asked_present u b e d =
+      still_moment P old.most old.entries _ old.now h e
+      ∙ ap (λ (x : Fraction). if is_below old.now.time x then count_tests old.most old.entries else []) (none_between P old.now.time u h)
+      ∙ ap (λ (c : Bool). if c then count_tests old.most old.entries else []) d
+
+  pub there : (new : TimelineView) (until : Fraction) → old.now.running ≡ None → is_below old.now.time until ≡ false → old.now.time ≡ until → new ≡ record old { now = record old.now { running = None }; answer = Some There; acted = false } → AdvanceTold {Q = Q} value fits P until old new (Ok There)
+  there new until e d t n = record {
+    going = g;
+    pass = subst (AllPass fits) (sym (asked_present until false e d)) (pass_none (Passes fits));
+    does = record {
+      moment = e;
+      still = nothing_fires P old.now.state h;
+      time = t;
+      is = n ∙ ap (λ o. record old { now = record old.now { running = o }; answer = Some There; acted = false }) (sym e);
+    };
+  }
+
+  count_is : (b : Bool) → nat_eq old.entries old.most ≡ b → count_tests old.most old.entries ≡ (if b then full old.most ∷ [] else [])
+  count_is b e = ap (λ (c : Bool). if c then full old.most ∷ [] else []) e
+
+  pub is_full : (new : TimelineView) (until : Fraction) → old.now.running ≡ None → old.now.time <ℚ until → old.entries ≡ old.most → AdvanceTold {Q = Q} value fits P until old new (Err (Beyond (Happenings old.most)))
+  unfolding Passes
+  is_full new until e l d = record {
+    going = g;
+    first = subst (λ (ts : List Test). FirstFailing fits ts (full old.most)) (sym (asked_present until true e (to_below old.now.time until l) ∙ count_is true (eq-eqb old.entries old.most d)))
+        (fail_here (Passes fits) (full old.most) [] (λ z. z));
+  }
+
+  pub entry_closed : (new : TimelineView) (until : Fraction) → old.now.running ≡ None → old.now.time <ℚ until → old.entries < old.most → new ≡ record old { now = view_after old.now (Runs []); running = []; answer = Some Run; acted = false } → AdvanceTold {Q = Q} value fits P until old new (Ok Run)
+  entry_closed new until e l r n = record {
+    going = g;
+    pass = subst (AllPass fits) (sym (asked_present until true e (to_below old.now.time until l) ∙ count_is false (not_equal old.entries old.most r))) (pass_none (Passes fits));
+    does = record { moment = e; room = r; members = []; may = still_run P old.now until h l; is = n };
+  }
 
 -- ---- the time asked for
 pub is_reached : (time until : Fraction) → IsAhead None time until → is_below time until ≡ false → time ≡ until

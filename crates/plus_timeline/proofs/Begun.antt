@@ -1,5 +1,5 @@
 -- A timeline that is begun in a still world.
-use Rattle.std.proofs.Common.{◌≡◌, ℕ, false, List, [], length, refl, ap, sym, ◌∙◌, pos}
+use Rattle.std.proofs.Common.{◌≡◌, ℕ, false, List, [], length, ap, sym, ◌∙◌, pos}
 use Rattle.std.specs.Prelude.{None}
 use Rattle.plus_fraction.specs.Fraction.{Fraction, whole}
 use Rattle.plus_model.specs.Terms.{State, Problem}

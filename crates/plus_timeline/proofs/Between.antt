@@ -6,20 +6,12 @@ use Rattle.plus_model.specs.Terms.{Event, Process, State, Problem}
 use Rattle.plus_crossing.specs.Asked as crossing
 use Rattle.plus_crossing.specs.Next.{cross_asks, LiveRoot, IsNext}
 use Rattle.plus_crossing.proofs.Steady.{one_truth_until_next}
-use Rattle.plus_timeline.specs.Tests.{Whose, event, process, Passes, AllPass, of_ask}
+use Rattle.plus_timeline.specs.Tests.{event, process, Passes, AllPass}
 use Rattle.plus_timeline.specs.Asked.{owned, event_root_tests, process_root_tests, root_tests}
 use Rattle.plus_timeline.specs.AskedLaws.{NothingChangesBetween}
-use Rattle.plus_state.specs.Tested.{Carries}
 use Rattle.plus_state.proofs.Testing.{pass_left, pass_right, carry_back}
+use Rattle.plus_timeline.proofs.Layers.{asks_carry}
 use Rattle.plus_timeline.proofs.Roots.{event_listed, process_listed}
-
--- a test of an owner passes where that of its condition does
-asks_carry : (fits : Fraction → Type 0) (w : Whose) → Carries (of_ask w) (crossing.Passes fits) (Passes fits)
-unfolding crossing.Passes Passes
-asks_carry fits w = record {
-  there = λ t. elim t as (λ t. crossing.Passes fits t → Passes fits (of_ask w t)) [ crossing.asks n ↦ λ h. h | crossing.straight k b ↦ λ h. h ];
-  back = λ t. elim t as (λ t. Passes fits (of_ask w t) → crossing.Passes fits t) [ crossing.asks n ↦ λ h. h | crossing.straight k b ↦ λ h. h ];
-}
 
 events_pass : (fits : Fraction → Type 0) (j : ℕ) (es : List Event) (s : State) (rs : List Fraction) (k : ℕ) (e : Event) → slice_get es k ≡ Some e → AllPass fits (event_root_tests j es s rs) → crossing.AllPass fits (cross_asks 0 e.condition s rs)
 events_pass fits j [] s rs k e g h = cc

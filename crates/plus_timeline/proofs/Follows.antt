@@ -1,9 +1,9 @@
 -- What a caller that plays a plan may rely on.
-use Rattle.std.proofs.Common.{◌≡◌, ℕ, List, refl, ap, sym, subst, ◌∙◌, inl, inr, true, false}
+use Rattle.std.proofs.Common.{◌≡◌, ℕ, List, refl, ap, sym, subst, ◌∙◌, inl, inr}
 use Rattle.std.specs.Prelude.{Option, Some, None, IsSomeAnd}
-use Rattle.plus_fraction.specs.Fraction.{Fraction, ◌≤ℚ◌}
+use Rattle.plus_fraction.specs.Fraction.{Fraction}
 use Rattle.plus_fraction.proofs.FractionAtMost.{≤ℚ_antisymm}
-use Rattle.plus_model.specs.Terms.{Action, State, Problem, Timed}
+use Rattle.plus_model.specs.Terms.{Action, Problem, Timed}
 use Rattle.plus_model.specs.Joint.{Fault}
 use Rattle.plus_model.specs.Plan.{Plan, Instance}
 use Rattle.plus_model.specs.History as history
@@ -13,12 +13,11 @@ use Rattle.plus_model.specs.Breach.{JointFails, Stands, IsPresent, IsDue}
 use Rattle.plus_model.proofs.Moments.{≤ℚ_refl, least_within, least_above}
 use Rattle.plus_state.specs.declared.outcome.Breach.{Breach}
 use Rattle.plus_state.specs.declared.outcome.Breach.TheVariants.{UnknownAction, WrongArguments, Precondition, TimeGoesBack, AfterEnd, Conflict, NoValue, Repeats, Unsettled, Coupled, NoFirstMoment, Goal}
-use Rattle.plus_timeline.specs.declared.next.Next.{Next}
 use Rattle.plus_timeline.specs.declared.next.Next.TheVariants.{Round, Run, Entry, There}
 use Rattle.plus_timeline.specs.Timeline.{TimelineView}
-use Rattle.plus_timeline.specs.Advance.{RoundFails, BreaksOff, Advances, FiresRound, ClosesEntry, BeginsEntry, IsThere}
-use Rattle.plus_timeline.specs.Act.{EffectsFail, StopsAct}
-use Rattle.plus_timeline.specs.Laws.{IsNextAct, ActFollows, ActBreaks, AddsPart, AddsChange, IsDone, Follows, AdvanceFollows, DoneIsWorked, AdvanceBreaks, FinishBreaks}
+use Rattle.plus_timeline.specs.Advance.{RoundFails, BreaksOff, FiresRound, ClosesEntry, BeginsEntry, IsThere}
+use Rattle.plus_timeline.specs.Act.{EffectsFail, BreaksAct}
+use Rattle.plus_timeline.specs.Laws.{ActFollows, ActBreaks, AddsPart, AddsChange, IsDone, AdvanceFollows, DoneIsWorked, AdvanceBreaks, FinishBreaks}
 use Rattle.plus_timeline.specs.Tests.{breach_of}
 
 -- a part that may follow at a moment, or in a stretch
@@ -106,13 +105,13 @@ breaks_by value P L v (NoFirstMoment e t) s = s
 breaks_by value P L v Goal s = elim s [ ]
 
 pub advance_breaks : {Q : Type 0} (value : Q → Fraction) → AdvanceBreaks {Q = Q} value
-advance_breaks value P L v u b e s = breaks_by value P L v.now b (subst (λ w. BreaksOff value P w v.now b) (least_is P L v.now u e) s.stands)
+advance_breaks value P L v u b e s = breaks_by value P L v.now b (subst (λ w. BreaksOff value P w v.now b) (least_is P L v.now u e) s)
 
-pub finish_breaks : (fits : Fraction → Type 0) → FinishBreaks fits
-finish_breaks fits P L v d w g = (d, w, g.truth_is)
+pub finish_breaks : FinishBreaks
+finish_breaks P L v d w g = (d, w, g)
 
-pub act_follows : (fits : Fraction → Type 0) → ActFollows fits
-act_follows fits P L old new action n r =
+pub act_follows : ActFollows
+act_follows P L old new action n r =
     let s : new.now.state ≡ r.after = ap (λ v. v.now.state) r.is in
     let part : Act old.now.acted r.after ≡ Act old.now.acted new.now.state = ap (Act old.now.acted) (sym s) in
     let may : ActMayFollow P L old.now old.now.acted r.after = record { action = action; line = refl; due = n; acts = r.acts } in
@@ -124,26 +123,26 @@ act_follows fits P L old new action n r =
       before = ap (λ v. v.before) r.is;
     }
 
-effects_break : (fits : Fraction → Type 0) (P : Problem) (L : Plan) (v : View) (action : Action) (why : Fault) → IsDue P L v (Instance action) → EffectsFail fits action v.state why → JointFails P L v why
-effects_break fits P L v action why d r = record {
+effects_break : (P : Problem) (L : Plan) (v : View) (action : Action) (why : Fault) → IsDue P L v (Instance action) → EffectsFail action v.state why → JointFails P L v why
+effects_break P L v action why d r = record {
   effects = action.effects;
   due = inr (record { action = action; due = d; may = r.may; effects_is = refl });
   fails = r.fails;
 }
 
-act_breaks_by : {Q : Type 0} (value : Q → Fraction) (fits : Fraction → Type 0) (P : Problem) (L : Plan) (v : View) (action : Action) (line : ℕ) (b : Breach Q) → IsDue P L v (Instance action) → StopsAct fits action line v.state b → IsSomeAnd (breach_of value v.acted b) (Stands P L v)
-act_breaks_by value fits P L v action line (UnknownAction n name) d s = elim s [ ]
-act_breaks_by value fits P L v action line (WrongArguments n name) d s = elim s [ ]
-act_breaks_by value fits P L v action line (Precondition n label) d s = (refl, action, d, s.fails)
-act_breaks_by value fits P L v action line (TimeGoesBack n) d s = elim s [ ]
-act_breaks_by value fits P L v action line (AfterEnd n) d s = elim s [ ]
-act_breaks_by value fits P L v action line (Conflict f) d s = effects_break fits P L v action _ d s
-act_breaks_by value fits P L v action line (NoValue f) d s = inl (effects_break fits P L v action _ d s)
-act_breaks_by value fits P L v action line (Repeats e) d s = elim s [ ]
-act_breaks_by value fits P L v action line (Unsettled p) d s = elim s [ ]
-act_breaks_by value fits P L v action line (Coupled p f) d s = elim s [ ]
-act_breaks_by value fits P L v action line (NoFirstMoment e t) d s = elim s [ ]
-act_breaks_by value fits P L v action line Goal d s = elim s [ ]
+act_breaks_by : {Q : Type 0} (value : Q → Fraction) (P : Problem) (L : Plan) (v : View) (action : Action) (line : ℕ) (b : Breach Q) → IsDue P L v (Instance action) → BreaksAct action line v.state b → IsSomeAnd (breach_of value v.acted b) (Stands P L v)
+act_breaks_by value P L v action line (UnknownAction n name) d s = elim s [ ]
+act_breaks_by value P L v action line (WrongArguments n name) d s = elim s [ ]
+act_breaks_by value P L v action line (Precondition n label) d s = (refl, action, d, s.fails)
+act_breaks_by value P L v action line (TimeGoesBack n) d s = elim s [ ]
+act_breaks_by value P L v action line (AfterEnd n) d s = elim s [ ]
+act_breaks_by value P L v action line (Conflict f) d s = effects_break P L v action _ d s
+act_breaks_by value P L v action line (NoValue f) d s = inl (effects_break P L v action _ d s)
+act_breaks_by value P L v action line (Repeats e) d s = elim s [ ]
+act_breaks_by value P L v action line (Unsettled p) d s = elim s [ ]
+act_breaks_by value P L v action line (Coupled p f) d s = elim s [ ]
+act_breaks_by value P L v action line (NoFirstMoment e t) d s = elim s [ ]
+act_breaks_by value P L v action line Goal d s = elim s [ ]
 
-pub act_breaks : {Q : Type 0} (value : Q → Fraction) (fits : Fraction → Type 0) → ActBreaks {Q = Q} value fits
-act_breaks value fits P L v action line b p n s = act_breaks_by value fits P L v.now action line b (record { present = p; due = n }) s.stands
+pub act_breaks : {Q : Type 0} (value : Q → Fraction) → ActBreaks {Q = Q} value
+act_breaks value P L v action line b p n s = act_breaks_by value P L v.now action line b (record { present = p; due = n }) s

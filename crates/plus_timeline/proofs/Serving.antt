@@ -25,8 +25,8 @@ advance_serves value P u old new Run r s = kept P old new (ap (λ v. v.atoms) r.
 advance_serves value P u old new (Entry t) r s = kept P old new (ap (λ v. v.atoms) r.is) (ap (λ v. v.fluents) r.is) s
 advance_serves value P u old new There r s = kept P old new (ap (λ v. v.atoms) r.is) (ap (λ v. v.fluents) r.is) s
 
-pub act_serves : (fits : Fraction → Type 0) (P : Problem) (action : Action) (old new : TimelineView) → DoesAct fits P action old new → Serves P old → Serves P new
-act_serves fits P action old new r s = kept P old new (ap (λ v. v.atoms) r.is) (ap (λ v. v.fluents) r.is) s
+pub act_serves : (P : Problem) (action : Action) (old new : TimelineView) → DoesAct P action old new → Serves P old → Serves P new
+act_serves P action old new r s = kept P old new (ap (λ v. v.atoms) r.is) (ap (λ v. v.fluents) r.is) s
 
 -- an accepted call leaves the timeline going
 pub advance_goes : {Q : Type 0} (value : Q → Fraction) (P : Problem) (u : Fraction) (old new : TimelineView) (answer : Next Q) → Advances value P u old new answer → old.ended ≡ false → new.ended ≡ false
@@ -35,7 +35,7 @@ advance_goes value P u old new Run r s = ap (λ v. v.ended) r.is ∙ s
 advance_goes value P u old new (Entry t) r s = ap (λ v. v.ended) r.is ∙ s
 advance_goes value P u old new There r s = ap (λ v. v.ended) r.is ∙ s
 
-pub act_goes : (fits : Fraction → Type 0) (P : Problem) (action : Action) (old new : TimelineView) → DoesAct fits P action old new → old.ended ≡ false → new.ended ≡ false
+pub act_goes : (fits : Fraction → Type 0) (P : Problem) (action : Action) (old new : TimelineView) → DoesAct P action old new → old.ended ≡ false → new.ended ≡ false
 act_goes fits P action old new r s = ap (λ v. v.ended) r.is ∙ s
 
 -- after `There` an action, or the test of the goal, is in place
@@ -45,7 +45,7 @@ there_pauses P u old new r = record { there = ap (λ v. v.answer) r.is; fresh = 
 pub there_rests : (P : Problem) (u : Fraction) (old new : TimelineView) → IsThere P u old new → new.now.running ≡ None
 there_rests P u old new r = ap (λ v. v.now.running) r.is ∙ r.moment
 
-pub act_rests : (fits : Fraction → Type 0) (P : Problem) (action : Action) (old new : TimelineView) → DoesAct fits P action old new → new.now.running ≡ None
+pub act_rests : (fits : Fraction → Type 0) (P : Problem) (action : Action) (old new : TimelineView) → DoesAct P action old new → new.now.running ≡ None
 act_rests fits P action old new r = ap (λ v. v.now.running) r.is
 
 -- an action that fits the problem may be handed in

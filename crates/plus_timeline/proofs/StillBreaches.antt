@@ -1,6 +1,6 @@
 -- In a still world no breach stands but those of the plan's lines.
 use Rattle.std.proofs.Common.{◌≡◌, ℕ, true, List, [], refl, ap, sym, subst, ◌∙◌, inl, inr}
-use Rattle.std.specs.Prelude.{Some, None, Ok, Err, IsSomeAnd, slice_get, ◌↔◌}
+use Rattle.std.specs.Prelude.{Some, None, Ok, IsSomeAnd, slice_get, ◌↔◌}
 use Rattle.plus_fraction.specs.Fraction.{Fraction}
 use Rattle.plus_model.specs.Terms.{Event, State, Problem}
 use Rattle.plus_model.specs.Joint.{Fault}
@@ -12,8 +12,7 @@ use Rattle.plus_model.proofs.Members.{same_exactly}
 use Rattle.plus_state.specs.declared.outcome.Breach.{Breach}
 use Rattle.plus_state.specs.declared.outcome.Breach.TheVariants.{UnknownAction, WrongArguments, Precondition, TimeGoesBack, AfterEnd, Conflict, NoValue, Repeats, Unsettled, Coupled, NoFirstMoment, Goal}
 use Rattle.plus_timeline.specs.Still.{IsStill}
-use Rattle.plus_timeline.specs.Timeline.{TimelineView}
-use Rattle.plus_timeline.specs.Advance.{RoundFails, BreaksOff, BreaksAdvance}
+use Rattle.plus_timeline.specs.Advance.{RoundFails, BreaksOff}
 use Rattle.plus_timeline.proofs.StillWorld.{zero_rates, nothing_fires, none_holds, none_goes_on, none_rated, none_coupled}
 
 no_round_fails : (P : Problem) (v : View) (why : Fault) → IsStill P → RoundFails P v why → ⊥
@@ -61,6 +60,3 @@ nothing_breaks_off value P u v (Coupled p f) h s =
     cc (e, k)
 nothing_breaks_off value P u v (NoFirstMoment e t) h s = no_event_after P _ s.rate e.0 h s.first.has
 nothing_breaks_off value P u v Goal h s = s
-
-pub nothing_breaks : {Q : Type 0} (value : Q → Fraction) (P : Problem) (until : Fraction) (v : TimelineView) → IsStill P → (b : Breach Q) → BreaksAdvance value P until v b → ⊥
-nothing_breaks value P until v h b s = nothing_breaks_off value P _ v.now b h s.stands

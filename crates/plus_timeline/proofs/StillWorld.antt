@@ -1,5 +1,5 @@
 -- A still world: nothing fires, the running set is empty, and time passes without a change.
-use Rattle.std.proofs.Common.{◌≡◌, ℕ, zero, suc, Bool, true, false, List, [], ◌∷◌, length, refl, ap, ap₂, sym, subst, ◌∙◌, pos}
+use Rattle.std.proofs.Common.{◌≡◌, ℕ, suc, Bool, true, false, List, [], ◌∷◌, length, refl, ap, ap₂, sym, subst, ◌∙◌, pos}
 use Rattle.std.specs.Prelude.{Option, Some, None, IsSomeAnd, Ok, option_map, slice_get, replicate, ◌&&◌, ◌||◌, not}
 use Rattle.std.specs.List.{list_any}
 use Rattle.plus_fraction.specs.Fraction.{Fraction, whole, compared, ◌+ℚ◌, ◌-ℚ◌, ◌*ℚ◌, ◌<ℚ◌, ◌≤ℚ◌}
@@ -8,8 +8,8 @@ use Rattle.plus_fraction.proofs.FractionRing.{ringℚ}
 use Rattle.plus_model.specs.Terms.{Same, Event, Process, Timed, State, Problem}
 use Rattle.plus_model.specs.Value.{passes, holds}
 use Rattle.plus_model.specs.Joint.{new_atoms}
-use Rattle.plus_model.specs.Firing.{numbers_of, firing, is_in}
-use Rattle.plus_model.specs.Running.{JustAfter, rates, moved_values, moved, RunsAfter, GoesOn, holding, Settled, first_coupled, Stretch}
+use Rattle.plus_model.specs.Firing.{numbers_of, firing}
+use Rattle.plus_model.specs.Running.{JustAfter, rates, moved_values, moved, GoesOn, holding, Settled, first_coupled, Stretch}
 use Rattle.plus_model.specs.History.{View}
 use Rattle.plus_model.specs.Trajectory.{at_until, literal_changes, literals, least, RunMayFollow, EnterMayFollow}
 use Rattle.plus_model.proofs.Moments.{≤ℚ_refl}

@@ -1,6 +1,6 @@
 -- What `advance` does, and why it is refused. The moment u up to which time may go is the least of the
 -- time asked for and of the later times of literals.
-use Rattle.std.specs.Prelude.{◌≡◌, ◌⊎◌, ℕ, suc, ◌<◌, Bool, true, false, List, [], ◌∷◌, Option, Some, None, Err}
+use Rattle.std.specs.Prelude.{◌≡◌, ◌⊎◌, ℕ, suc, ◌<◌, false, List, [], Option, Some, None, Result, Err}
 use Rattle.plus_fraction.specs.Fraction.{Fraction, ◌<ℚ◌, ◌≤ℚ◌}
 use Rattle.plus_model.specs.Terms.{Effect, State, Problem}
 use Rattle.plus_model.specs.Joint.{Fault, joint, NoValue as no_value, Conflict as conflict}
@@ -8,19 +8,15 @@ use Rattle.plus_model.specs.Firing.{firing, first_shared, IsRound}
 use Rattle.plus_model.specs.History as history
 use Rattle.plus_model.specs.History.{View, view_after, Enter}
 use Rattle.plus_model.specs.Trajectory.{least, RunMayFollow, EnterMayFollow}
-use Rattle.plus_model.specs.Breach.{IsOpen, RoundDue, RatesFail, IsUnsettled, IsCoupled, IsMomentless}
-use Rattle.plus_state.specs.declared.term.Sign.TheVariants.{Minus}
+use Rattle.plus_model.specs.Breach.{RoundDue, RatesFail, IsUnsettled, IsCoupled, IsMomentless}
 use Rattle.plus_state.specs.declared.outcome.Breach.{Breach}
 use Rattle.plus_state.specs.declared.outcome.Breach.TheVariants.{UnknownAction, WrongArguments, Precondition, TimeGoesBack, AfterEnd, Conflict, NoValue, Repeats, Unsettled, Coupled, NoFirstMoment, Goal}
-use Rattle.plus_state.specs.declared.outcome.Limit.{Limit}
-use Rattle.plus_state.specs.declared.outcome.Limit.TheVariants.{Happenings, Number, Nonlinear}
-use Rattle.plus_state.specs.Node.{Node}
-use Rattle.plus_state.specs.Asked.{FirstUnfit, node}
-use Rattle.plus_state.specs.View.{overflow_of}
 use Rattle.plus_timeline.specs.declared.next.Next.{Next}
 use Rattle.plus_timeline.specs.declared.next.Next.TheVariants.{Round, Run, Entry, There}
 use Rattle.plus_timeline.specs.Timeline.{TimelineView, has_literal}
-use Rattle.plus_timeline.specs.Stops.{IsGoing}
+use Rattle.plus_timeline.specs.declared.stop.Stop.{Stop}
+use Rattle.plus_timeline.specs.Asked.{advance_tests}
+use Rattle.plus_timeline.specs.Told.{Told}
 
 -- the time asked for is not below the present one, and after a `Run` it is later
 abbrev pub IsAhead : Option (List ℕ) → Fraction → Fraction → Type 0
@@ -116,37 +112,8 @@ BreaksOff value P u v (Coupled p f) = IsCoupled P u v p.0 f.0
 BreaksOff value P u v (NoFirstMoment e t) = IsMomentless P u v e.0 (value t)
 BreaksOff value P u v Goal = ⊥
 
-pub record BreaksAdvance {Q : Type 0} (value : Q → Fraction) (P : Problem) (until : Fraction) (v : TimelineView) (b : Breach Q) : Type 0 where
-  pub going : IsGoing v
-  pub stands : BreaksOff value P (least v.now.time until P.timed) v.now b
-
--- all entries that are allowed are done, nothing is due, and time is to go on
-pub record IsFull (P : Problem) (u : Fraction) (v : TimelineView) : Type 0 where
-  pub «open» : IsOpen P u v.now
-  pub done : v.entries ≡ v.most
-
--- the exact results that have to be values: once time runs on, the time that is left
-abbrev pub time_left : Option (List ℕ) → Fraction → Fraction → List Node
-time_left None time u = []
-time_left (Some running) time u = node Minus u time ∷ []
-
-abbrev pub Reaches : {Q : Type 0} → (Q → Fraction) → (Fraction → Type 0) → Problem → Fraction → TimelineView → Limit Q → Type 0
-Reaches value fits P u v (Happenings n) = (n ≡ v.most) × IsFull P u v
-Reaches value fits P u v (Number w) = FirstUnfit fits (time_left v.now.running v.now.time u) (overflow_of value w)
-Reaches value fits P u v (Nonlinear owner comparison) = ⊥
-
-pub record LimitsAdvance {Q : Type 0} (value : Q → Fraction) (fits : Fraction → Type 0) (P : Problem) (until : Fraction) (v : TimelineView) (l : Limit Q) : Type 0 where
-  pub going : IsGoing v
-  pub reached : Reaches value fits P (least v.now.time until P.timed) v l
-
--- ---- what the tests of the code find
-
--- the last part is a running set, the empty one, and a further entry is allowed; or it is none
-abbrev pub RunsBy : Bool → TimelineView → Type 0
-RunsBy true v = (v.now.running ≡ Some []) × (v.entries < v.most)
-RunsBy false v = v.now.running ≡ None
-
--- all entries that are allowed are done; or a further one is allowed
-abbrev pub FullBy : Bool → TimelineView → Type 0
-FullBy true v = v.entries ≡ v.most
-FullBy false v = v.entries < v.most
+-- what `advance` up to the time u tells: over the tests of a round, of closing an entry or of a stretch, whichever is due
+abbrev pub AdvanceTold : {Q : Type 0} → (Q → Fraction) → (Fraction → Type 0) → Problem → Fraction → TimelineView → TimelineView → Result (Next Q) (Stop Q) → Type 0
+AdvanceTold value fits P u old new result =
+    let bound = least old.now.time u P.timed in
+    Told value fits old.now.acted old.ended (advance_tests P old.most old.entries bound old.now) (Advances value P u old new) (BreaksOff value P bound old.now) result

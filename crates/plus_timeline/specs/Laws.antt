@@ -4,19 +4,19 @@
 use Rattle.std.specs.Prelude.{◌≡◌, ℕ, Some, IsSomeAnd, true, false}
 use Rattle.plus_fraction.specs.Fraction.{Fraction}
 use Rattle.plus_model.specs.Terms.{Action, Problem}
+use Rattle.plus_model.specs.Value.{holds}
 use Rattle.plus_model.specs.Plan.{Plan, ActLine, Instance}
 use Rattle.plus_model.specs.History as history
 use Rattle.plus_model.specs.History.{Part, View, view_after, Enter, Act}
-use Rattle.plus_model.specs.Trajectory.{next_line, target, until, IsEndOrNone, Next as MayFollow, IsWorked}
+use Rattle.plus_model.specs.Trajectory.{next_line, target, least, until, IsEndOrNone, Next as MayFollow, IsWorked}
 use Rattle.plus_model.specs.Breach as model
 use Rattle.plus_model.specs.Breach.{IsPresent, Stands}
 use Rattle.plus_state.specs.declared.outcome.Breach.{Breach}
 use Rattle.plus_timeline.specs.declared.next.Next.{Next}
 use Rattle.plus_timeline.specs.declared.next.Next.TheVariants.{Round, Run, Entry, There}
 use Rattle.plus_timeline.specs.Timeline.{TimelineView}
-use Rattle.plus_timeline.specs.Advance.{Advances, BreaksAdvance}
+use Rattle.plus_timeline.specs.Advance.{Advances, BreaksOff}
 use Rattle.plus_timeline.specs.Act.{DoesAct, BreaksAct}
-use Rattle.plus_timeline.specs.Finish.{GoalIs}
 use Rattle.plus_timeline.specs.Tests.{breach_of}
 
 -- the part may come next, and the history goes on with it
@@ -58,28 +58,28 @@ DoneIsWorked =
 abbrev pub AdvanceBreaks : {Q : Type 0} → (Q → Fraction) → Type 0
 AdvanceBreaks {Q} value =
     (P : Problem) (L : Plan) (v : TimelineView) (u : Fraction) (b : Breach Q)
-    → target L v.now ≡ u → BreaksAdvance value P u v b → IsSomeAnd (breach_of value v.now.acted b) (Stands P L v.now)
+    → target L v.now ≡ u → BreaksOff value P (least v.now.time u P.timed) v.now b → IsSomeAnd (breach_of value v.now.acted b) (Stands P L v.now)
 
 -- where the lines are worked and the text was read to its end, a goal that fails is a breach
-abbrev pub FinishBreaks : (Fraction → Type 0) → Type 0
-FinishBreaks fits =
-    (P : Problem) (L : Plan) (v : TimelineView)
-    → L.closed ≡ true → IsWorked P L v.now → GoalIs fits P v false → Stands P L v.now model.Goal
+abbrev pub FinishBreaks : Type 0
+FinishBreaks =
+    (P : Problem) (L : Plan) (v : View)
+    → L.closed ≡ true → IsWorked P L v → holds P.goal v.state ≡ false → Stands P L v model.Goal
 
 -- the next line has the present time and calls this action
 abbrev pub IsNextAct : Plan → View → Action → Type 0
 IsNextAct L v action = next_line L v ≡ Some (ActLine v.time (Instance action))
 
 -- an `act` with the action of the next line, at its time, adds that act
-abbrev pub ActFollows : (Fraction → Type 0) → Type 0
-ActFollows fits =
+abbrev pub ActFollows : Type 0
+ActFollows =
     (P : Problem) (L : Plan) (old new : TimelineView) (action : Action)
-    → IsNextAct L old.now action → DoesAct fits P action old new
+    → IsNextAct L old.now action → DoesAct P action old new
     → AddsChange P L old new (Act old.now.acted new.now.state)
 
 -- a breach that such an `act` names stands
-abbrev pub ActBreaks : {Q : Type 0} → (Q → Fraction) → (Fraction → Type 0) → Type 0
-ActBreaks {Q} value fits =
+abbrev pub ActBreaks : {Q : Type 0} → (Q → Fraction) → Type 0
+ActBreaks {Q} value =
     (P : Problem) (L : Plan) (v : TimelineView) (action : Action) (line : ℕ) (b : Breach Q)
-    → IsPresent P v.now → IsNextAct L v.now action → BreaksAct fits action line v b
+    → IsPresent P v.now → IsNextAct L v.now action → BreaksAct action line v.now.state b
     → IsSomeAnd (breach_of value v.now.acted b) (Stands P L v.now)

@@ -8,6 +8,7 @@ pub mod Crossings
 pub mod Asked
 pub mod AskedLaws
 pub mod Rows
+pub mod Told
 pub mod Advance
 pub mod Act
 pub mod Finish

@@ -3,8 +3,7 @@ ghost use Rattle.std.specs.Prelude.{IfOk, length};
 ghost use Rattle.plus_state.specs.View.{action_of};
 ghost use Rattle.plus_state.specs.Changes.{patched, RisesIn};
 ghost use Rattle.plus_state.specs.Fits.{ActionFits};
-ghost use Rattle.plus_timeline.specs.Stops.{BreachExactly, LimitExactly, NeverEnded};
-ghost use Rattle.plus_timeline.specs.Act.{ActsOn, StopsAct, UnfitAct};
+ghost use Rattle.plus_timeline.specs.Act.{EffectTold};
 
 use crate::stop::Stop;
 use plus_number::exact::Exact;
@@ -26,14 +25,9 @@ pub fn action_changes<Q: Exact>(
 ) -> Result<Changes<Q>, Stop<Q>>
     requires { ActionFits (length (state.now.atoms)) (length (state.now.fluents))
         (action_of Q.value action.now) }
-    ensures ok { IfOk result (λ c.
-        ActsOn Q.fits (action_of Q.value action.now) state.now (patched state.now c)) }
+    ensures told { EffectTold Q.value Q.fits (action_of Q.value action.now) line state.now
+        (λ c. patched state.now c) result }
     ensures rises { IfOk result (RisesIn state.now) }
-    ensures breach { BreachExactly
-        (StopsAct Q.fits (action_of Q.value action.now) line state.now) result }
-    ensures limit { LimitExactly
-        (UnfitAct Q.value Q.fits (action_of Q.value action.now) state.now) result }
-    ensures going { NeverEnded result }
 {
     match holds(&action.condition, state) {
         Err(overflow) => Err(Stop::Limit(Limit::Number(overflow))),

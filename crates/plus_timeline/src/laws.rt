@@ -21,18 +21,18 @@ pub fn advance_breaks<Q: Exact>()
 {}
 
 // Where the lines are worked, so does a goal that fails.
-pub fn finish_breaks<Q: Exact>()
-    ensures { FinishBreaks Q.fits }
+pub fn finish_breaks()
+    ensures { FinishBreaks }
 {}
 
 // An `act` with the action of the next line, at its time, adds that act.
-pub fn act_follows<Q: Exact>()
-    ensures { ActFollows Q.fits }
+pub fn act_follows()
+    ensures { ActFollows }
 {}
 
 // A breach that such an `act` names stands in the history.
 pub fn act_breaks<Q: Exact>()
-    ensures { ActBreaks Q.value Q.fits }
+    ensures { ActBreaks Q.value }
 {}
 
 // The roots of a condition are those in its list, and all lie above 0.

@@ -1,5 +1,5 @@
 //! A timeline: a history that is played one part at a time, and of which only the view is kept.
-ghost use Rattle.std.specs.Prelude.{◌≡◌, ◌≤◌, ◌<◌, ◌↔◌, IsTrue, ℕ, suc, Bool, true, false, Option, Some, None, List, [], length, map, option_map, unwrap_or, IfOk, OnOk, OnErr};
+ghost use Rattle.std.specs.Prelude.{◌≡◌, ◌≤◌, ◌<◌, ◌↔◌, IsTrue, ℕ, suc, Bool, true, false, Option, Some, None, List, [], length, map, option_map, unwrap_or, IfOk, OnOk, OnErr, if◌then◌else◌};
 ghost use Rattle.plus_fraction.specs.Fraction.{◌<ℚ◌};
 ghost use Rattle.plus_model.specs.History.{view_after, Enter, Act, Run as Runs};
 ghost use Rattle.plus_model.specs.Trajectory.{is_below};
@@ -8,10 +8,10 @@ ghost use Rattle.plus_state.specs.Changes.{patched, RisesIn, LeadsTo};
 ghost use Rattle.plus_state.specs.Fits.{StateFits, ProblemFits, ActionFits};
 ghost use Rattle.plus_timeline.specs.Still.{IsStill, Serves};
 ghost use Rattle.plus_timeline.specs.Timeline.{TimelineView, begun, next_of, event_numbers, process_numbers};
-ghost use Rattle.plus_timeline.specs.Stops.{IsGoing, BreachExactly, LimitExactly, EndedExactly};
-ghost use Rattle.plus_timeline.specs.Act.{DoesAct, BreaksAct, LimitsAct};
-ghost use Rattle.plus_timeline.specs.Finish.{IsPaused, GoalIs, BreaksFinish, LimitsFinish, TakesNoMemory};
-ghost use Rattle.plus_timeline.specs.Advance.{IsAhead, Advances, BreaksAdvance, LimitsAdvance, RunsBy, FullBy};
+ghost use Rattle.plus_timeline.specs.Stops.{IsGoing};
+ghost use Rattle.plus_timeline.specs.Act.{ActTold};
+ghost use Rattle.plus_timeline.specs.Finish.{IsPaused, FinishTold, TakesNoMemory};
+ghost use Rattle.plus_timeline.specs.Advance.{IsAhead, AdvanceTold};
 
 use crate::effect::action_changes;
 use crate::entry::EntryStates;
@@ -129,15 +129,8 @@ impl<Q: Exact> Timeline<Q> {
         requires serves { IsGoing self.old → Serves (problem_of Q.value ground.now) self.old }
         requires ahead { IsGoing self.old →
             IsAhead (self.old.now.running) (self.old.now.time) (Q.value until) }
-        ensures ok { IfOk result
-            (Advances Q.value (problem_of Q.value ground.now) (Q.value until) self.old self.new) }
-        ensures breach { BreachExactly
-            (BreaksAdvance Q.value (problem_of Q.value ground.now) (Q.value until) self.old)
-            result }
-        ensures limit { LimitExactly
-            (LimitsAdvance Q.value Q.fits (problem_of Q.value ground.now) (Q.value until) self.old)
-            result }
-        ensures ended { EndedExactly self.old result }
+        ensures told { AdvanceTold Q.value Q.fits (problem_of Q.value ground.now) (Q.value until)
+            self.old self.new result }
         ensures refused { OnErr result (self.new ≡ record (self.old) { ended = true }) }
     {
         if self.has_ended() {
@@ -180,14 +173,8 @@ impl<Q: Exact> Timeline<Q> {
         requires paused { IsGoing self.old → IsPaused self.old }
         requires action { IsGoing self.old →
             ActionFits (self.old.atoms) (self.old.fluents) (action_of Q.value action.now) }
-        ensures ok { OnOk result
-            (DoesAct Q.fits (problem_of Q.value ground.now) (action_of Q.value action.now)
-            self.old self.new) }
-        ensures breach { BreachExactly
-            (BreaksAct Q.fits (action_of Q.value action.now) line self.old) result }
-        ensures limit { LimitExactly
-            (LimitsAct Q.value Q.fits (action_of Q.value action.now) self.old) result }
-        ensures ended { EndedExactly self.old result }
+        ensures told { ActTold Q.value Q.fits (problem_of Q.value ground.now)
+            (action_of Q.value action.now) line self.old self.new result }
         ensures refused { OnErr result (self.new ≡ record (self.old) { ended = true }) }
     {
         if self.has_ended() {
@@ -216,12 +203,7 @@ impl<Q: Exact> Timeline<Q> {
     pub fn finish(&mut self, ground: &Ground<Q>) -> Result<(), Stop<Q>>
         requires serves { IsGoing self.old → Serves (problem_of Q.value ground.now) self.old }
         requires paused { IsGoing self.old → IsPaused self.old }
-        ensures ok { OnOk result (GoalIs Q.fits (problem_of Q.value ground.now) self.old true) }
-        ensures breach { BreachExactly
-            (BreaksFinish Q.fits (problem_of Q.value ground.now) self.old) result }
-        ensures limit { LimitExactly
-            (LimitsFinish Q.value Q.fits (problem_of Q.value ground.now) self.old) result }
-        ensures ended { EndedExactly self.old result }
+        ensures told { FinishTold Q.value Q.fits (problem_of Q.value ground.now) self.old result }
         ensures memory { TakesNoMemory result }
         ensures after { self.new ≡ record (self.old) { ended = true } }
     {
@@ -325,14 +307,16 @@ impl<Q: Exact> Timeline<Q> {
 
     // Whether the last part is a running set; it is empty then, and a further entry is allowed.
     fn is_running(&self) -> bool
-        ensures { RunsBy result self.now }
+        ensures running { self.now.now.running ≡ (if result then Some [] else None) }
+        ensures room { result ≡ true → self.now.entries < self.now.most }
     {
         matches!(self.answer, Some(Next::Run))
     }
 
     // Whether all entries that are allowed are done.
     fn is_full(&self) -> bool
-        ensures { FullBy result self.now }
+        ensures full { result ≡ true → self.now.entries ≡ self.now.most }
+        ensures room { result ≡ false → self.now.entries < self.now.most }
     {
         self.entries == self.most
     }

@@ -16,7 +16,6 @@ use Rattle.plus_timeline.specs.Timeline as timeline
 use Rattle.plus_timeline.specs.Timeline.{TimelineView, begun}
 use Rattle.plus_timeline.specs.Still.{IsStill}
 use Rattle.plus_timeline.specs.Advance.{IsAhead}
-use Rattle.plus_timeline.specs.Finish.{GoalIs}
 use Rattle.plus_timeline.specs.declared.next.Next.TheVariants.{Entry}
 use Rattle.plus_report.specs.Report.{report_of, report_from}
 use Rattle.plus_report.specs.Text.{entry_text, literals_text}
@@ -25,8 +24,12 @@ use Rattle.plus_validator.specs.Running.{IsOnWay, Reaches}
 use Rattle.plus_validator.specs.Playing.{Closes, Begins, closed}
 use Rattle.plus_validator.specs.declared.run.Run.{Run}
 use Rattle.plus_validator.proofs.Clear.{clear_first}
-use Rattle.plus_validator.proofs.Steps.{literals_shown}
+use Rattle.plus_validator.proofs.Steps.{literals_shown, asked_is}
 use Rattle.plus_validator.proofs.Lines.{close_played, close_target, close_worked}
+use Rattle.plus_timeline.specs.Tests.{AllPass}
+use Rattle.plus_validator.specs.Asking.{IsClear, NoneFails}
+use Rattle.plus_validator.proofs.Asking.{goal_passes}
+use Rattle.plus_timeline.specs.Asked.{goal_tests}
 
 -- at a moment a time that is not below the present one may be reached
 pub can_reach : (P : Problem) (u : Fraction) (t : TimelineView) → CanGoOn P t → t.now.running ≡ None → IsAhead None t.now.time u → CanReach P u t
@@ -61,7 +64,7 @@ begins N P most time run f s some e n t r =
         moment = ap (λ v. v.now.running) e;
         most_is = ap (λ v. v.most) e;
       };
-      ready = λ L none open_yet. (
+      ready = λ L instance none open_yet. (
         first_part P ∷ [],
         record {
           played = record {
@@ -69,7 +72,7 @@ begins N P most time run f s some e n t r =
             now = ap (λ v. v.now) e;
             entries = ap (λ v. v.entries) e;
             written = r ∙ ap (λ v. next_text fraction_of N P v (Entry time)) e ∙ first_report N P L most time now;
-            clear = clear_first P L run.timeline.most;
+            clear = clear_first P L run.timeline.most instance;
           };
           not_closed = open_yet;
           last = subst (λ b. EndsBy L.lines b run.timeline.now.time) (sym n) (inl (none, ap (λ v. v.now.time) e));
@@ -81,17 +84,21 @@ begins N P most time run f s some e n t r =
     }
 
 -- the text is at its end, and the goal holds
-pub closes : (N : Labels) (P : Problem) (old mid new : Run) (now : Fraction) → now ≡ old.timeline.now.time → CanGoOn P old.timeline → Reaches N P now old mid → GoalIs IsFrac64 P mid.timeline true → new.report.bytes.items ≡ mid.report.bytes.items → Closes N P old new
-closes N P old mid new now e c r g w = record {
-  ends = λ L h ready.
-      let on_way : IsOnWay N P (closed L) now old.timeline.now.acted h old = record {
-        played = close_played N P L old.ended h old.timeline old.report.bytes.items ready;
-        target_is = close_target N P L old.ended h old.timeline old.report.bytes.items ready ∙ sym e;
+pub closes : (N : Labels) (P : Problem) (old mid new : Run) (now : Fraction) → now ≡ old.timeline.now.time → CanGoOn P old.timeline → Reaches N P now old mid → AllPass IsFrac64 (goal_tests P mid.timeline.now.state) → holds P.goal mid.timeline.now.state ≡ true → new.report.bytes.items ≡ mid.report.bytes.items → Closes N P old new
+closes N P old mid new now e c r a g w = record {
+  ends = λ L instance h ready.
+      let on_way : IsOnWay N P (closed L) instance now old.timeline.now.acted h old = record {
+        played = close_played N P L instance old.ended h old.timeline old.report.bytes.items ready;
+        target_is = close_target N P L instance old.ended h old.timeline old.report.bytes.items ready ∙ sym e;
         acted_is = refl;
       } in
-      let there = r.reached (closed L) old.timeline.now.acted h (inr refl) on_way in
-      let there_now : IsReached N P (closed L) old.timeline.now.acted old.timeline.now.time there.0 mid.timeline mid.report.bytes.items =
-      subst (λ x. IsReached N P (closed L) old.timeline.now.acted x there.0 mid.timeline mid.report.bytes.items) e there.1 in
+      let there = r.reached (closed L) instance old.timeline.now.acted h (inr refl) on_way in
+      let there_now : IsReached N P (closed L) instance old.timeline.now.acted old.timeline.now.time there.0 mid.timeline mid.report.bytes.items =
+      subst (λ x. IsReached N P (closed L) instance old.timeline.now.acted x there.0 mid.timeline mid.report.bytes.items) e there.1 in
+      let worked : IsWorked P (closed L) mid.timeline.now = close_worked N P L instance old.ended h there.0 old.timeline mid.timeline old.report.bytes.items mid.report.bytes.items ready there_now in
+      let passed : NoneFails P (closed L) mid.timeline.most instance there.0 =
+      subst (AllPass IsFrac64) (asked_is N P (closed L) instance there.0 mid.timeline mid.report.bytes.items there.1.played)
+      (goal_passes P (closed L) mid.timeline.most instance mid.timeline.entries mid.timeline.now refl worked.acted there.1.present there.1.over there.1.passed a) in
       let within = r.can.within in
       let most = r.most in
       let entries = there.1.played.entries in (
@@ -100,10 +107,12 @@ closes N P old mid new now e c r g w = record {
           happens = record {
             prefix = there.1.played.prefix;
             closed = refl;
-            worked = subst (IsWorked P (closed L)) there.1.played.now (close_worked N P L old.ended h there.0 old.timeline mid.timeline old.report.bytes.items mid.report.bytes.items ready there_now);
-            goal = subst (λ v. holds P.goal v.state ≡ true) there.1.played.now g.truth_is;
+            worked = subst (IsWorked P (closed L)) there.1.played.now worked;
+            goal = subst (λ v. holds P.goal v.state ≡ true) there.1.played.now g;
           };
           few = omega arith;
+          clear = subst (λ (m : ℕ). IsClear P (closed L) m instance there.0) r.most there.1.played.clear;
+          passed = subst (λ (m : ℕ). NoneFails P (closed L) m instance there.0) r.most passed;
           written = w ∙ there.1.played.written;
         },
       );

@@ -12,7 +12,7 @@ use Rattle.plus_ground.specs.declared.faults.GroundFault.{GroundFault}
 use Rattle.plus_ground.specs.declared.faults.GroundFault.TheVariants as faults
 use Rattle.plus_ground.specs.Refusals.{RefusesGround}
 use Rattle.plus_expansion.specs.Counting.{IsGroundable}
-use Rattle.plus_validator.specs.Validates.{TellsFault, IsUngrounded}
+use Rattle.plus_validator.specs.Validates.{TellsFault}
 use Rattle.plus_validator.specs.Laws.{IsJudgedFor, accepted, refused, PairOrPlan}
 
 -- one of a list

@@ -28,6 +28,7 @@ use Rattle.plus_validator.specs.Refused.{IsRefused}
 use Rattle.plus_validator.specs.Stopped.{IsStoppedInText, HaltsInPlan}
 use Rattle.plus_validator.specs.Judged.{GivesVerdict, AcceptsWhole, IsPlain, IsJudged}
 use Rattle.plus_validator.proofs.Played.{accepted}
+use Rattle.plus_validator.specs.Asking.{instances_of}
 
 -- the verdict names what the problem has
 pub verdict_fits : (P : Problem) (played : Result (Unit {0}) Halt) (v : Verdict Frac64) → IfErr played (HaltFits P) → GivesVerdict played v → VerdictFits P v
@@ -91,7 +92,7 @@ module _ (d : Domain) (p : tree.Problem) (N : Labels) (P : Problem) (most : ℕ)
   says_why bytes (Ok u) v e n b s g o k = absurd (o (ap outcome_of g))
   says_why bytes (Err Memory) v e n b s g o k = absurd g
   says_why bytes (Err (Refused w)) v e n b s g o k =
-      let start = b.ready (plan_of (pair d p) [] false) refl refl in
+      let start = b.ready (plan_of (pair d p) [] false) (instances_of (pair d p) []) refl refl in
       let here : IsStoppedInText (pair d p) N P old.timeline.most goes_on s.whole s.piece new.report.bytes.items w = s.halts.stops start.0 start.1 in
       let there : IsStoppedInText (pair d p) (labels_meant d p) (expanded d p) most goes_on s.whole s.piece new.report.bytes.items v =
       subst (λ M. IsStoppedInText (pair d p) M (expanded d p) most goes_on s.whole s.piece new.report.bytes.items v) n

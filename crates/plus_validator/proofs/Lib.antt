@@ -1,3 +1,5 @@
+pub mod Asking
+pub mod CalledTests
 pub mod Clear
 pub mod Steps
 pub mod Lines
@@ -8,12 +10,20 @@ pub mod Played
 pub mod Shown
 pub mod Faults
 mod Grounded
+pub mod Owned
 pub mod Halting
 pub mod Stopping
 pub mod Waiting
 pub mod LineStops
 pub mod TextStops
 pub mod Cutting
+pub mod Longer
+pub mod Telling
+pub mod Between
+pub mod OneAnswer
+pub mod OneLine
+pub mod OneRefusal
+pub mod OneText
 pub mod Judging
 pub mod Validating
 pub mod Making

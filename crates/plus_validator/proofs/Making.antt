@@ -1,6 +1,6 @@
 -- An instance that is kept is that of its call.
-use Rattle.std.proofs.Common.{◌≡◌, ◌≤◌, ◌<◌, ◌-◌, true, take, drop, get_or, arith, ℕ, zero, suc, List, [], ◌∷◌, ◌++◌, length, refl, ap, sym, subst, ◌∙◌}
-use Rattle.std.specs.Prelude.{Option, Some, None, All, IsSome, option_map, slice_get}
+use Rattle.std.proofs.Common.{◌≡◌, ◌≤◌, ◌<◌, ◌-◌, true, take, drop, get_or, arith, ℕ, List, [], ◌∷◌, ◌++◌, length, refl, ap, sym, subst, ◌∙◌}
+use Rattle.std.specs.Prelude.{Option, Some, All, option_map, slice_get}
 use Rattle.std.proofs.lemmas.List.Elements.{All-append, All-cons}
 use Rattle.std.proofs.lemmas.Option.{slice_get_read}
 use Rattle.std.specs.Str.{bytes_eq}
@@ -11,16 +11,18 @@ use Rattle.plus_number.specs.Frac.{fraction_of}
 use Rattle.plus_state.specs.View.{action_of}
 use Rattle.plus_types.specs.declared.typed.Typed.{Typed}
 use Rattle.plus_validator.specs.declared.instances.Kept.{Kept}
+use Rattle.plus_validator.specs.declared.instances.Place.{Place}
+use Rattle.plus_validator.specs.declared.instances.Place.TheVariants.{Listed}
 use Rattle.plus_validator.specs.declared.instances.Instances.{Instances}
-use Rattle.plus_validator.specs.Made.{IsMade, IsKept, AreMade, kept_at, HasMade}
+use Rattle.plus_validator.specs.Made.{IsMade, IsKept, made_at, HasMade}
 
 same_some : {A : Type 0} (x y : A) (o : Option A) → o ≡ Some x → o ≡ Some y → x ≡ y
 same_some x y o e d = cc
 
 -- what stands at the place of a call is its instance
-pub made_at : (t : Typed) (i : Instances) (name : List ℕ) (args : List (List ℕ)) (place : ℕ) (a : model.Action)
-    → HasMade t i name args place → kept_at i place ≡ Some a → IsMade t name args a
-made_at t i name args place a h e = subst (IsMade t name args) (same_some h.action a (kept_at i place) h.is e) h.made
+pub made_here : (t : Typed) (i : Instances) (name : List ℕ) (args : List (List ℕ)) (place : Place) (a : model.Action)
+    → HasMade t i name args place → made_at i place ≡ Some a → IsMade t name args a
+made_here t i name args place a h e = subst (IsMade t name args) (same_some h.action a (made_at i place) h.is e) h.made
 
 all_at : {A : Type 0} (P : A → Type 0) (xs : List A) (i : ℕ) (x : A) → All P xs → i < length xs → x ≡ get_or xs i x → P x
 all_at P xs i x a l e = subst P (sym e) (a i x l)
@@ -32,7 +34,7 @@ slice_get_end (y ∷ ys) x = slice_get_end ys x
 -- a kept instance of the same call is that of this call
 pub kept_here : (t : Typed) (i : Instances) (name : List ℕ) (args : List (List ℕ)) (place : ℕ) (k : Kept)
     → All (IsKept t) i.kept.items → place < length i.kept.items → k ≡ get_or i.kept.items place k → k.call.name ≡ name
-    → k.call.args ≡ args → HasMade t i name args place
+    → k.call.args ≡ args → HasMade t i name args (Listed place)
 kept_here t i name args place k a l e n b = record {
   action = action_of fraction_of k.action;
   is = ap (option_map (λ (k : Kept). action_of fraction_of k.action)) (slice_get_read i.kept.items (length i.kept.items) place k refl l e);

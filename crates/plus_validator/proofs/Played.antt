@@ -1,26 +1,22 @@
 -- What an action and a line do to a run.
 use Rattle.std.proofs.Common.{◌≡◌, ℕ, suc, ◌+◌, ◌≤◌, true, false, List, [], ◌∷◌, ◌++◌, refl, ap, sym, subst, ◌∙◌, append-nil, add-zero, arith, drop}
-use Rattle.std.specs.Prelude.{Option, Some, None, IfSome, length, map, Ok, codes}
+use Rattle.std.specs.Prelude.{Option, Some, None, IfSome, length, map, Ok, codes, All}
 use Rattle.std.proofs.Math.Seq.{drop-length}
 use Rattle.plus_fraction.specs.Fraction.{Fraction, ◌≤ℚ◌}
 use Rattle.plus_model.specs.Terms.{Action, Problem}
 use Rattle.plus_model.specs.Plan as model
 use Rattle.plus_model.specs.Plan.{Called, Instance, ActLine, EndLine, Plan}
-use Rattle.plus_model.specs.History.{Part, Act, View}
-use Rattle.plus_model.specs.Trajectory.{next_line, NextBy, view_of}
+use Rattle.plus_model.specs.History.{Part, Act}
+use Rattle.plus_model.specs.Trajectory.{next_line, NextBy}
 use Rattle.plus_number.specs.declared.frac.Frac64.{Frac64}
 use Rattle.plus_number.specs.Frac.{fraction_of, IsFrac64}
-use Rattle.plus_state.specs.View.{Labels, overflow_of}
-use Rattle.plus_state.specs.declared.outcome.Limit.{Limit}
-use Rattle.plus_state.specs.declared.outcome.Limit.TheVariants.{Number}
-use Rattle.plus_state.specs.Steps.{asks, FirstStop}
-use Rattle.plus_timeline.specs.Stops.{IsGoing}
+use Rattle.plus_state.specs.View.{Labels}
 use Rattle.plus_tree.specs.declared.trees.Call.{Call}
 use Rattle.plus_tree.specs.declared.trees.Domain.{Domain}
 use Rattle.plus_tree.specs.declared.trees.Problem as tree
 use Rattle.plus_model.proofs.Paths.{one_trajectory}
 use Rattle.plus_timeline.specs.Timeline.{TimelineView}
-use Rattle.plus_timeline.specs.Act.{act_steps, DoesAct, LimitsAct}
+use Rattle.plus_timeline.specs.Act.{DoesAct}
 use Rattle.plus_timeline.specs.Laws.{AddsPart}
 use Rattle.plus_report.specs.Report.{called_label}
 use Rattle.plus_report.specs.Text.{act_text}
@@ -35,47 +31,40 @@ use Rattle.plus_plan.specs.TimeValue.{value_of}
 use Rattle.plus_expansion.specs.Counting.{IsGroundable}
 use Rattle.plus_expansion.specs.Expansion.{expanded, labels_meant}
 use Rattle.plus_expansion.specs.Calls.{called_of}
-use Rattle.plus_validator.specs.Accepted.{entries_of, IsAccepted}
-use Rattle.plus_validator.specs.Plans.{Pair, pair, line_meant, plan_of}
-use Rattle.plus_validator.specs.Refused.{NoLimit}
-use Rattle.plus_validator.proofs.Clear.{clear_at_due}
+use Rattle.plus_validator.specs.Accepted.{IsAccepted}
+use Rattle.plus_validator.specs.Plans.{Pair, pair, line_meant, plan_of, HasTime, HasValue, lines_meant}
 use Rattle.plus_validator.specs.Standing.{IsPlayed, CanGoOn, IsReady, IsReached}
 use Rattle.plus_validator.specs.Running.{IsOnWay, Reaches}
-use Rattle.plus_validator.specs.Playing.{Readied, IsResting, ActsOnce, PlaysLine, IsInTime, ReadsAll, Closes, PlaysAll, Ends, Begins}
+use Rattle.plus_validator.specs.Playing.{Readied, IsResting, ActsOnce, PlaysLine, IsInTime, ReadsAll, Closes, PlaysAll, Ends, Begins, ReadiedFor}
 use Rattle.plus_validator.specs.declared.memory.Report.{Report}
 use Rattle.plus_validator.proofs.Texts.{said_more, plan_of-append}
 use Rattle.plus_validator.specs.declared.run.Run.{Run}
-use Rattle.plus_validator.proofs.Steps.{played_on, serves_still, entries_of-append}
-use Rattle.plus_validator.proofs.Lines.{with_line, has_begun, read_on, read_target, act_due, acted_target, act_ready, end_ready}
+use Rattle.plus_validator.proofs.Steps.{played_on, serves_still, entries_of-append, asked_is}
+use Rattle.plus_validator.proofs.Lines.{with_line, has_begun, read_on, read_target, act_due, acted_target, act_ready, end_ready, Agree}
+use Rattle.std.proofs.lemmas.List.Elements.{All-cons, All-head, All-nil, All-tail}
+use Rattle.plus_timeline.specs.Tests.{AllPass, Test}
+use Rattle.plus_ground.specs.Refusals.{IsInstance}
+use Rattle.plus_validator.specs.Asking.{NoneFails, call_tests, entries_of, instances_of, line_instances}
+use Rattle.plus_timeline.specs.Asked.{act_tests}
+use Rattle.plus_validator.proofs.Asking.{all_pass, line_passes}
+use Rattle.plus_validator.proofs.CalledTests.{call_passes, instance_is, instances_agree, same_instances}
 
 -- the action of the next line may come next
-act_adds : (P : Problem) (L : Plan) (fits : Fraction → Type 0) (action : Action) (old new : TimelineView) → next_line L old.now ≡ Some (ActLine old.now.time (Instance action)) → (a : DoesAct fits P action old new) → AddsPart P L old new (Act old.now.acted a.after)
-act_adds P L fits action old new n a = record {
+act_adds : (P : Problem) (L : Plan) (action : Action) (old new : TimelineView) → next_line L old.now ≡ Some (ActLine old.now.time (Instance action)) → (a : DoesAct P action old new) → AddsPart P L old new (Act old.now.acted a.after)
+act_adds P L action old new n a = record {
   next = subst (λ (o : Option (List ℕ)). NextBy P L old.now o (Act old.now.acted a.after)) (sym a.moment) (record { action = action; line = refl; due = n; acts = a.acts });
   now = ap (λ v. v.now) a.is;
 }
 
-injective : (a b : Action) → Instance a ≡ Instance b → a ≡ b
-injective a b e = cc e
+-- where the action that is due is done, all that is asked passes
+act_passes : (d : Pair) (N : Labels) (P : Problem) (L : Plan) (instance : ℕ → List Test) (h : List Part) (call : Call) (action : Action) (v : TimelineView) (report : List ℕ) → IsInstance IsFrac64 d.domain call.name (called_of d.domain d.problem call.name call.args) action → instance v.now.acted ≡ call_tests d call → IsReached N P L instance v.now.acted v.now.time h v report → next_line L v.now ≡ Some (ActLine v.now.time (Instance action)) → AllPass IsFrac64 (act_tests v.now.acted action v.now.state) → NoneFails P L v.most instance h
+act_passes d N P L instance h call action v report i n s due x =
+    subst (AllPass IsFrac64) (asked_is N P L instance h v report s.played)
+    (line_passes P L v.most instance v.entries v.now (Some (ActLine v.now.time (Instance action))) due s.present s.over s.passed
+    (all_pass (instance v.now.acted) (act_tests v.now.acted action v.now.state) (subst (AllPass IsFrac64) (sym n) (call_passes d call action i)) x))
 
-same_call : (t : Fraction) (a b : Called) → Some (ActLine t a) ≡ Some (ActLine t b) → a ≡ b
-same_call t a b e = cc e
-
--- where the action that is due is done, no limit stands
-pub act_clear : (N : Labels) (P : Problem) (L : Plan) (h : List Part) (action : Action) (v : TimelineView) (report : List ℕ) → IsGoing v → IsPlayed N P L h v report → v.now.running ≡ None → next_line L v.now ≡ Some (ActLine v.now.time (Instance action)) → ((l : Limit Frac64) → LimitsAct fraction_of IsFrac64 action v l → ⊥) → NoLimit P L v.most h
-act_clear N P L h action v report g p m d x =
-    let d' : next_line L (view_of P h) ≡ Some (ActLine (view_of P h).time (Instance action)) = subst (λ (w : View). next_line L w ≡ Some (ActLine w.time (Instance action))) p.now d in
-    clear_at_due P L v.most h (Instance action) (ap (λ (w : View). w.running) (sym p.now) ∙ m) d'
-    (λ w u.
-    let same : u.action ≡ action = injective u.action action (same_call (view_of P h).time (Instance u.action) (Instance action) (sym u.due.due ∙ d')) in
-    x (Number w) (record {
-      going = g;
-      reached = subst (λ (y : View). FirstStop IsFrac64 (act_steps action y.state) (asks (overflow_of fraction_of w))) (sym p.now)
-          (subst (λ (b : Action). FirstStop IsFrac64 (act_steps b (view_of P h).state) (asks (overflow_of fraction_of w))) same u.first);
-    }))
-
-pub acts_once : (N : Labels) (P : Problem) (call : Called) (action : Action) (old new : Run) → CanGoOn P old.timeline → call ≡ Instance action → DoesAct IsFrac64 P action old.timeline new.timeline → ((l : Limit Frac64) → LimitsAct fraction_of IsFrac64 action old.timeline l → ⊥) → new.ended ≡ old.ended → new.report.bytes.items ≡ old.report.bytes.items ++ act_text N action.label new.timeline.before new.timeline.now.state → ActsOnce N P call old new
-acts_once N P call action old new c i a x e r = record {
+pub acts_once : (d : Pair) (N : Labels) (P : Problem) (call : Call) (action : Action) (old new : Run) → CanGoOn P old.timeline → IsInstance IsFrac64 d.domain call.name (called_of d.domain d.problem call.name call.args) action → AllPass IsFrac64 (act_tests old.timeline.now.acted action old.timeline.now.state) → DoesAct P action old.timeline new.timeline → new.ended ≡ old.ended → new.report.bytes.items ≡ old.report.bytes.items ++ act_text N action.label new.timeline.before new.timeline.now.state → ActsOnce d N P call old new
+acts_once d N P call action old new c i x a e r = record {
   can = record {
     serves = serves_still P old.timeline new.timeline (ap (λ v. v.atoms) a.is) (ap (λ v. v.fluents) a.is) c.serves;
     going = ap (λ v. v.ended) a.is ∙ c.going;
@@ -86,14 +75,14 @@ acts_once N P call action old new c i a x e r = record {
   ended = e;
   time = ap (λ v. v.now.time) a.is;
   acted_is = ap (λ v. v.now.acted) a.is;
-  acted = λ L h b p due.
-      let due' : next_line L old.timeline.now ≡ Some (ActLine old.timeline.now.time (Instance action)) = due ∙ ap (λ x. Some (ActLine old.timeline.now.time x)) i in
+  acted = λ L instance h b n s due.
+      let due' : next_line L old.timeline.now ≡ Some (ActLine old.timeline.now.time (Instance action)) = due ∙ ap (λ x. Some (ActLine old.timeline.now.time x)) i.is in
       let part : Part = Act old.timeline.now.acted a.after in (
         h ++ part ∷ [],
-        played_on N P L h old.timeline new.timeline old.report.bytes.items new.report.bytes.items part b p
-            (act_clear N P L h action old.timeline old.report.bytes.items c.going p a.moment due' x) (ap (λ v. v.most) a.is)
-            (act_adds P L IsFrac64 action old.timeline new.timeline due' a)
-            (ap (λ v. v.entries) a.is ∙ p.entries ∙ sym (add-zero (entries_of h)) ∙ sym (entries_of-append h part))
+        played_on N P L instance h old.timeline new.timeline old.report.bytes.items new.report.bytes.items part b s.played
+            (act_passes d N P L instance h call action old.timeline old.report.bytes.items i n s due' x) (ap (λ v. v.most) a.is)
+            (act_adds P L action old.timeline new.timeline due' a)
+            (ap (λ v. v.entries) a.is ∙ s.played.entries ∙ sym (add-zero (entries_of h)) ∙ sym (entries_of-append h part))
             (r ∙ ap (λ x. old.report.bytes.items ++ act_text N action.label x new.timeline.now.state) (ap (λ v. v.before) a.is)
             ∙ ap (λ x. old.report.bytes.items ++ act_text N action.label old.timeline.now.state x) (ap (λ v. v.now.state) a.is)
             ∙ ap (λ x. old.report.bytes.items ++ act_text N (called_label x) old.timeline.now.state a.after) (sym due')),
@@ -102,65 +91,128 @@ acts_once N P call action old new c i a x e r = record {
 
 -- ---- lines
 
+-- the plan with one more line of the text
+pub with_meant : (d : Pair) (ls : List Line) (line : Line) (meant : model.Line) → line_meant d line ≡ meant ∷ [] → with_line (plan_of d ls false) meant ≡ plan_of d (ls ++ line ∷ []) false
+with_meant d ls line meant e =
+    ap (λ (ks : List model.Line). let L : Plan = record { lines = lines_meant d ls ++ ks; closed = false } in L) (sym e) ∙ sym (plan_of-append d ls line false)
+
 -- a line that is no line of the plan leaves the run as it is
-pub no_line : (d : Pair) (N : Labels) (P : Problem) (line : Line) (run : Run) → line_meant d line ≡ [] → CanGoOn P run.timeline → run.timeline.now.running ≡ None → PlaysLine d N P line run run
-no_line d N P line run e c m = record {
+pub no_line : (d : Pair) (N : Labels) (P : Problem) (line : Line) (run : Run) → line_meant d line ≡ [] → line_instances d line ≡ [] → HasValue line → CanGoOn P run.timeline → run.timeline.now.running ≡ None → PlaysLine d N P line run run
+no_line d N P line run e f w c m = record {
   rests = record { can = c; moment = m; most_is = refl };
-  ready = λ L h r. (h, subst (λ ls. Readied N P (record { lines = ls; closed = L.closed }) h run) (sym (ap (λ x. L.lines ++ x) e ∙ append-nil L.lines)) r);
+  value = w;
+  ready = λ ls h r. (
+    h,
+    subst (λ (L : Plan). Readied N P L (instances_of d (ls ++ line ∷ [])) h run)
+        (ap (λ (ks : List model.Line). let L : Plan = record { lines = ks; closed = false } in L) (sym (append-nil (lines_meant d ls)) ∙ ap (λ ks. lines_meant d ls ++ ks) (sym e)) ∙ sym (plan_of-append d ls line false))
+        (subst (λ (x : ℕ → List Test). Readied N P (plan_of d ls false) x h run) (same_instances d ls line f) r),
+  );
+}
+
+-- a blank line, or one with no time
+abbrev pub IsNoLine : Line → Type 0
+IsNoLine lines.Blank = Unit {0}
+IsNoLine (lines.Act n t c) = ⊥
+IsNoLine (lines.End n t) = ⊥
+IsNoLine (lines.Step n c) = Unit {0}
+
+pub nothing_played : (d : Pair) (N : Labels) (P : Problem) (line : Line) (run : Run) → IsNoLine line → CanGoOn P run.timeline → run.timeline.now.running ≡ None → PlaysLine d N P line run run
+nothing_played d N P lines.Blank run q c m = no_line d N P lines.Blank run refl refl (record { fits = λ t h. absurd h }) c m
+nothing_played d N P (lines.Act n t k) run q c m = absurd q
+nothing_played d N P (lines.End n t) run q c m = absurd q
+nothing_played d N P (lines.Step n k) run q c m = no_line d N P (lines.Step n k) run refl refl (record { fits = λ t h. absurd h }) c m
+
+-- the time of a line that may be played is a value
+pub has_value : (line : Line) (time : Time) (at : Frac64) → ((t : Time) → HasTime line t → time ≡ t) → fraction_of at ≡ value_of time → HasValue line
+has_value line time at is e = record {
+  fits = λ t h. subst (λ (x : Time). IsFrac64 (value_of x)) (is t h) (subst IsFrac64 e (at.top_fits, at.bottom_fits));
 }
 
 -- the run stands ready for a line at this time
-pub not_ended : (N : Labels) (P : Problem) (L : Plan) (h : List Part) (run : Run) → run.ended ≡ false → Readied N P L h run → IsReady N P L false h run.timeline run.report.bytes.items
-not_ended N P L h run e r = subst (λ b. IsReady N P L b h run.timeline run.report.bytes.items) e r
+pub not_ended : (N : Labels) (P : Problem) (L : Plan) (instance : ℕ → List Test) (h : List Part) (run : Run) → run.ended ≡ false → Readied N P L instance h run → IsReady N P L instance false h run.timeline run.report.bytes.items
+not_ended N P L instance h run e r = subst (λ b. IsReady N P L instance b h run.timeline run.report.bytes.items) e r
 
 -- and is then on its way to it
-pub on_way : (N : Labels) (P : Problem) (L : Plan) (h : List Part) (run : Run) (line : model.Line) (u : Fraction) → u ≡ model.time_of line → run.timeline.now.time ≤ℚ u → IsReady N P L false h run.timeline run.report.bytes.items → IsOnWay N P (with_line L line) u (length L.lines) h run
-on_way N P L h run line u e le r = record {
-  played = read_on N P L h run.timeline run.report.bytes.items line r (subst (λ x. run.timeline.now.time ≤ℚ x) e le);
-  target_is = read_target N P L h run.timeline run.report.bytes.items line r ∙ sym e;
+pub on_way : (N : Labels) (P : Problem) (L : Plan) (instance instance' : ℕ → List Test) (h : List Part) (run : Run) (line : model.Line) (u : Fraction) → Agree L instance instance' → u ≡ model.time_of line → run.timeline.now.time ≤ℚ u → IsReady N P L instance false h run.timeline run.report.bytes.items → IsOnWay N P (with_line L line) instance' u (length L.lines) h run
+on_way N P L instance instance' h run line u a e le r = record {
+  played = read_on N P L instance instance' h run.timeline run.report.bytes.items line a r (subst (λ x. run.timeline.now.time ≤ℚ x) e le);
+  target_is = read_target N P L instance h run.timeline run.report.bytes.items line r ∙ sym e;
   acted_is = r.acted;
 }
+
+-- the same for a line of the text
+pub line_on_way : (d : Pair) (N : Labels) (P : Problem) (ls : List Line) (line : Line) (h : List Part) (run : Run) (meant : model.Line) (time : Time) (at : Frac64) → value_of time ≡ model.time_of meant → IsInTime run time at → ReadiedFor d N P ls h run → IsOnWay N P (with_line (plan_of d ls false) meant) (instances_of d (ls ++ line ∷ [])) (fraction_of at) (length (lines_meant d ls)) h run
+line_on_way d N P ls line h run meant time at e i r =
+    on_way N P (plan_of d ls false) (instances_of d ls) (instances_of d (ls ++ line ∷ [])) h run meant (fraction_of at) (instances_agree d ls (line ∷ [])) (i.is ∙ e) i.ahead
+    (not_ended N P (plan_of d ls false) (instances_of d ls) h run i.not_ended r)
+
+-- the action of a line is due
+pub act_reached : (d : Pair) (N : Labels) (P : Problem) (n : ℕ) (time : Time) (call : Call) (at : Frac64) (old there : Run) → IsInTime old time at → Reaches N P (fraction_of at) old there → (ls : List Line) (h : List Part) → ReadiedFor d N P ls h old → (x : List Part) × IsReached N P (with_line (plan_of d ls false) (ActLine (value_of time) (called_of d.domain d.problem call.name call.args))) (instances_of d (ls ++ lines.Act n time call ∷ [])) (length (lines_meant d ls)) (value_of time) x there.timeline there.report.bytes.items
+act_reached d N P n time call at old there i r ls h ready =
+    let line : model.Line = ActLine (value_of time) (called_of d.domain d.problem call.name call.args) in
+    let instance : ℕ → List Test = instances_of d (ls ++ lines.Act n time call ∷ []) in
+    let x = r.reached (with_line (plan_of d ls false) line) instance (length (lines_meant d ls)) h (has_begun (plan_of d ls false) line) (line_on_way d N P ls (lines.Act n time call) h old line time at refl i ready) in
+    (x.0, subst (λ u. IsReached N P (with_line (plan_of d ls false) line) instance (length (lines_meant d ls)) u x.0 there.timeline there.report.bytes.items) i.is x.1)
+
+-- the same over the present time
+pub reached_now : (N : Labels) (P : Problem) (L : Plan) (instance : ℕ → List Test) (acted : ℕ) (time : Fraction) (h : List Part) (t : TimelineView) (report : List ℕ) → IsReached N P L instance acted time h t report → IsReached N P L instance t.now.acted t.now.time h t report
+reached_now N P L instance acted time h t report r = record { played = r.played; present = r.present; over = r.over; passed = r.passed; acted_is = refl; time_is = refl }
+
+-- and is done
+pub act_once : (d : Pair) (N : Labels) (P : Problem) (n : ℕ) (time : Time) (call : Call) (there acted : Run) (ls : List Line) (x : List Part) → ActsOnce d N P call there acted → IsReached N P (with_line (plan_of d ls false) (ActLine (value_of time) (called_of d.domain d.problem call.name call.args))) (instances_of d (ls ++ lines.Act n time call ∷ [])) (length (lines_meant d ls)) (value_of time) x there.timeline there.report.bytes.items → (y : List Part) × IsPlayed N P (with_line (plan_of d ls false) (ActLine (value_of time) (called_of d.domain d.problem call.name call.args))) (instances_of d (ls ++ lines.Act n time call ∷ [])) y acted.timeline acted.report.bytes.items
+act_once d N P n time call there acted ls x a k =
+    let called : Called = called_of d.domain d.problem call.name call.args in
+    let L : Plan = plan_of d ls false in
+    let line : model.Line = ActLine (value_of time) called in
+    let instance : ℕ → List Test = instances_of d (ls ++ lines.Act n time call ∷ []) in
+    a.acted (with_line L line) instance x (has_begun L line) (instance_is d ls n time call there.timeline.now.acted k.acted_is)
+    (reached_now N P (with_line L line) instance (length (lines_meant d ls)) (value_of time) x there.timeline there.report.bytes.items k)
+    (act_due N P L instance x there.timeline there.report.bytes.items called (value_of time) k)
 
 -- the end of the plan is played
 pub end_played : (d : Pair) (N : Labels) (P : Problem) (n : ℕ) (time : Time) (at : Frac64) (old mid new : Run) → IsInTime old time at → Reaches N P (fraction_of at) old mid → new.timeline ≡ mid.timeline → new.report ≡ mid.report → new.ended ≡ true → PlaysLine d N P (lines.End n time) old new
 end_played d N P n time at old mid new i r t w e = record {
   rests = record { can = subst (CanGoOn P) (sym t) r.can; moment = ap (λ v. v.now.running) t ∙ r.moment; most_is = ap (λ v. v.most) t ∙ r.most };
-  ready = λ L h ready.
-      let k = not_ended N P L h old i.not_ended ready in
+  value = has_value (lines.End n time) time at (λ x h. h) i.is;
+  ready = λ ls h ready.
+      let L : Plan = plan_of d ls false in
+      let instance : ℕ → List Test = instances_of d (ls ++ lines.End n time ∷ []) in
       let line : model.Line = EndLine (value_of time) in
-      let there = r.reached (with_line L line) (length L.lines) h (has_begun L line) (on_way N P L h old line (fraction_of at) i.is i.ahead k) in
-      let there_at : IsReached N P (with_line L line) (length L.lines) (value_of time) there.0 mid.timeline mid.report.bytes.items =
-      subst (λ x. IsReached N P (with_line L line) (length L.lines) x there.0 mid.timeline mid.report.bytes.items) i.is there.1 in
-      let done = end_ready N P L there.0 mid.timeline mid.report.bytes.items (value_of time) ready.not_closed there_at in
-      let moved : IsReady N P (with_line L line) true there.0 new.timeline new.report.bytes.items =
-      subst (λ v. IsReady N P (with_line L line) true there.0 v new.report.bytes.items) (sym t)
-      (subst (λ (x : Report). IsReady N P (with_line L line) true there.0 mid.timeline x.bytes.items) (sym w) done) in
-      (there.0, subst (λ b. IsReady N P (with_line L line) b there.0 new.timeline new.report.bytes.items) (sym e) moved);
+      let there = r.reached (with_line L line) instance (length L.lines) h (has_begun L line) (line_on_way d N P ls (lines.End n time) h old line time at refl i ready) in
+      let there_at : IsReached N P (with_line L line) instance (length L.lines) (value_of time) there.0 mid.timeline mid.report.bytes.items =
+      subst (λ x. IsReached N P (with_line L line) instance (length L.lines) x there.0 mid.timeline mid.report.bytes.items) i.is there.1 in
+      let done = end_ready N P L instance there.0 mid.timeline mid.report.bytes.items (value_of time) refl there_at in
+      let moved : IsReady N P (with_line L line) instance true there.0 new.timeline new.report.bytes.items =
+      subst (λ v. IsReady N P (with_line L line) instance true there.0 v new.report.bytes.items) (sym t)
+      (subst (λ (x : Report). IsReady N P (with_line L line) instance true there.0 mid.timeline x.bytes.items) (sym w) done) in
+      let ended : Readied N P (with_line L line) instance there.0 new = subst (λ b. IsReady N P (with_line L line) instance b there.0 new.timeline new.report.bytes.items) (sym e) moved in
+      (there.0, subst (λ (M : Plan). Readied N P M instance there.0 new) (with_meant d ls (lines.End n time) line refl) ended);
 }
 
 -- an action is played
-pub act_played : (d : Pair) (N : Labels) (P : Problem) (n : ℕ) (time : Time) (call : Call) (at : Frac64) (now : Fraction) (old there acted new : Run) → IsInTime old time at → Reaches N P (fraction_of at) old there → ActsOnce N P (called_of d.domain d.problem call.name call.args) there acted → now ≡ acted.timeline.now.time → Reaches N P now acted new → PlaysLine d N P (lines.Act n time call) old new
+pub act_played : (d : Pair) (N : Labels) (P : Problem) (n : ℕ) (time : Time) (call : Call) (at : Frac64) (now : Fraction) (old there acted new : Run) → IsInTime old time at → Reaches N P (fraction_of at) old there → ActsOnce d N P call there acted → now ≡ acted.timeline.now.time → Reaches N P now acted new → PlaysLine d N P (lines.Act n time call) old new
 act_played d N P n time call at now old there acted new i r a e s = record {
   rests = record { can = s.can; moment = s.moment; most_is = s.most ∙ a.most ∙ r.most };
-  ready = λ L h ready.
-      let k = not_ended N P L h old i.not_ended ready in
+  value = has_value (lines.Act n time call) time at (λ x h. h) i.is;
+  ready = λ ls h ready.
       let called : Called = called_of d.domain d.problem call.name call.args in
       let line : model.Line = ActLine (value_of time) called in
+      let L : Plan = plan_of d ls false in
       let L' : Plan = with_line L line in
-      let x = r.reached L' (length L.lines) h (has_begun L line) (on_way N P L h old line (fraction_of at) i.is i.ahead k) in
-      let x_at : IsReached N P L' (length L.lines) (value_of time) x.0 there.timeline there.report.bytes.items =
-      subst (λ u. IsReached N P L' (length L.lines) u x.0 there.timeline there.report.bytes.items) i.is x.1 in
-      let y = a.acted L' x.0 (has_begun L line) x_at.played (act_due N P L x.0 there.timeline there.report.bytes.items called (value_of time) x_at) in
-      let many : acted.timeline.now.acted ≡ suc (length L.lines) = a.acted_is ∙ ap suc x_at.acted_is in
-      let z = s.reached L' (suc (length L.lines)) y.0 (has_begun L line) (record {
+      let instance : ℕ → List Test = instances_of d (ls ++ lines.Act n time call ∷ []) in
+      let x = act_reached d N P n time call at old there i r ls h ready in
+      let y = act_once d N P n time call there acted ls x.0 a x.1 in
+      let many : acted.timeline.now.acted ≡ suc (length L.lines) = a.acted_is ∙ ap suc x.1.acted_is in
+      let z = s.reached L' instance (suc (length L.lines)) y.0 (has_begun L line) (record {
         played = y.1;
         target_is = acted_target L line acted.timeline.now many ∙ sym e;
         acted_is = many;
       }) in
-      let z_at : IsReached N P L' (suc (length L.lines)) (value_of time) z.0 new.timeline new.report.bytes.items =
-      subst (λ u. IsReached N P L' (suc (length L.lines)) u z.0 new.timeline new.report.bytes.items) (e ∙ a.time ∙ x_at.time_is) z.1 in
-      let done = act_ready N P L z.0 new.timeline new.report.bytes.items called (value_of time) ready.not_closed z_at in
-      (z.0, subst (λ b. IsReady N P L' b z.0 new.timeline new.report.bytes.items) (sym (s.ended ∙ a.ended ∙ r.ended ∙ i.not_ended)) done);
+      let z_at : IsReached N P L' instance (suc (length L.lines)) (value_of time) z.0 new.timeline new.report.bytes.items =
+      subst (λ u. IsReached N P L' instance (suc (length L.lines)) u z.0 new.timeline new.report.bytes.items) (e ∙ a.time ∙ x.1.time_is) z.1 in
+      let done = act_ready N P L instance z.0 new.timeline new.report.bytes.items called (value_of time) refl z_at in
+      let ended : Readied N P L' instance z.0 new = subst (λ b. IsReady N P L' instance b z.0 new.timeline new.report.bytes.items) (sym (s.ended ∙ a.ended ∙ r.ended ∙ i.not_ended)) done in
+      (z.0, subst (λ (M : Plan). Readied N P M instance z.0 new) (with_meant d ls (lines.Act n time call) line refl) ended);
 }
 
 -- ---- the lines of a text
@@ -170,9 +222,8 @@ pub record ReadsTo (d : Pair) (N : Labels) (P : Problem) (text : List ℕ) (star
   pub rests : IsResting P start.timeline.most run
   pub lines_read : List Line
   pub said : plan_lines Timed text ≡ map Ok lines_read ++ numbered Timed number (lines_of (drop from text))
-  pub ready :
-      (h : List Part) → Readied N P (plan_of d [] false) h start
-      → (h' : List Part) × Readied N P (plan_of d lines_read false) h' run
+  pub times : All HasValue lines_read
+  pub ready : (h : List Part) → ReadiedFor d N P [] h start → (h' : List Part) × ReadiedFor d N P lines_read h' run
   pub inside : from ≤ length text
   pub few : number ≤ from + 1
   pub counted : number ≡ length lines_read + 1
@@ -182,11 +233,16 @@ reads_none d N P text run c m = record {
   rests = record { can = c; moment = m; most_is = refl };
   lines_read = [];
   said = refl;
+  times = All-nil HasValue;
   ready = λ h r. (h, r);
   inside = omega arith;
   few = omega arith;
   counted = refl;
 }
+
+all_more : {A : Type 0} (P : A → Type 0) (xs : List A) (x : A) → All P xs → P x → All P (xs ++ x ∷ [])
+all_more P [] x a h = All-cons P x [] h a
+all_more P (y ∷ xs) x a h = All-cons P y (xs ++ x ∷ []) (All-head P y xs a) (all_more P xs x (All-tail P y xs a) h)
 
 lines_with : (ls : List Line) (l : Line) → length (ls ++ l ∷ []) ≡ length ls + 1
 lines_with [] l = refl
@@ -197,10 +253,10 @@ reads_more d N P text start run new number from x r l p = record {
   rests = record { can = p.rests.can; moment = p.rests.moment; most_is = p.rests.most_is ∙ r.rests.most_is };
   lines_read = r.lines_read ++ x.0 ∷ [];
   said = said_more text r.lines_read x.0 number from x.1 r.said l.said;
+  times = all_more HasValue r.lines_read x.0 r.times p.value;
   ready = λ h k.
       let a = r.ready h k in
-      let b = p.ready (plan_of d r.lines_read false) a.0 a.1 in
-      (b.0, subst (λ M. Readied N P M b.0 new) (sym (plan_of-append d r.lines_read x.0 false)) b.1);
+      p.ready r.lines_read a.0 a.1;
   inside = l.inside;
   few = (let a = l.rises in let b = r.few in omega arith);
   counted = (let k = lines_with r.lines_read x.0 in let c = r.counted in omega arith);
@@ -215,6 +271,7 @@ reads_all d N P text start run number from r e = record {
   rests = r.rests;
   lines = r.lines_read;
   number_is = r.counted;
+  times = r.times;
   read = r.said ∙ ap (λ k. map Ok r.lines_read ++ numbered Timed number (lines_of (drop k text))) e
       ∙ ap (λ t. map Ok r.lines_read ++ numbered Timed number (lines_of t)) (drop-length text) ∙ append-nil (map Ok r.lines_read);
   ready = r.ready;
@@ -225,21 +282,23 @@ pub plays_all : (d : Pair) (N : Labels) (P : Problem) (text : List ℕ) (old mid
 plays_all d N P text old mid new number r c = record {
   lines = r.lines;
   read = r.read;
+  times = r.times;
   ends = λ h k.
       let a = r.ready h k in
-      let b = c.ends (plan_of d r.lines false) a.0 a.1 in
-      (b.0, subst (λ m. Ends N P (plan_of d r.lines true) m b.0 new.report.bytes.items) r.rests.most_is b.1);
+      let b = c.ends (plan_of d r.lines false) (instances_of d r.lines) a.0 a.1 in
+      (b.0, subst (λ m. Ends N P (plan_of d r.lines true) m (instances_of d r.lines) b.0 new.report.bytes.items) r.rests.most_is b.1);
 }
 
 -- and accepted
 pub accepted : (d : Domain) (p : tree.Problem) (N : Labels) (P : Problem) (most : ℕ) (text bytes : List ℕ) (old new : Run) → IsGroundable IsFrac64 d p → length text ≤ 1048576 → P ≡ expanded d p → N ≡ labels_meant d p → Begins N P most old → PlaysAll (pair d p) N P text old new → bytes ≡ new.report.bytes.items ++ codes "valid\n" → IsAccepted d p most text bytes
 accepted d p N P most text bytes old new z w e f b a k =
-    let start = b.ready (plan_of (pair d p) [] false) refl refl in
+    let start = b.ready (plan_of (pair d p) [] false) (instances_of (pair d p) []) refl refl in
     let finish = a.ends start.0 start.1 in
-    let ends : Ends (labels_meant d p) (expanded d p) (plan_of (pair d p) a.lines true) most finish.0 new.report.bytes.items =
-    subst (λ M. Ends M (expanded d p) (plan_of (pair d p) a.lines true) most finish.0 new.report.bytes.items) f
-    (subst (λ Q. Ends N Q (plan_of (pair d p) a.lines true) most finish.0 new.report.bytes.items) e
-    (subst (λ m. Ends N P (plan_of (pair d p) a.lines true) m finish.0 new.report.bytes.items) b.rests.most_is finish.1)) in
+    let i = instances_of (pair d p) a.lines in
+    let ends : Ends (labels_meant d p) (expanded d p) (plan_of (pair d p) a.lines true) most i finish.0 new.report.bytes.items =
+    subst (λ M. Ends M (expanded d p) (plan_of (pair d p) a.lines true) most i finish.0 new.report.bytes.items) f
+    (subst (λ Q. Ends N Q (plan_of (pair d p) a.lines true) most i finish.0 new.report.bytes.items) e
+    (subst (λ m. Ends N P (plan_of (pair d p) a.lines true) m i finish.0 new.report.bytes.items) b.rests.most_is finish.1)) in
     record {
       groundable = z;
       within = w;
@@ -249,5 +308,8 @@ accepted d p N P most text bytes old new z w e f b a k =
       happens = ends.happens;
       only = λ other t. one_trajectory (expanded d p) (plan_of (pair d p) a.lines true) other finish.0 t ends.happens;
       few = ends.few;
+      times = a.times;
+      clear = ends.clear;
+      passed = ends.passed;
       written = k ∙ ap (λ t. t ++ codes "valid\n") ends.written;
     }

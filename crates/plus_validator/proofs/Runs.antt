@@ -7,53 +7,53 @@ use Rattle.plus_model.specs.History.{Part}
 use Rattle.plus_model.specs.Trajectory.{HasBegun}
 use Rattle.plus_number.specs.declared.frac.Frac64.{Frac64}
 use Rattle.plus_number.specs.Frac.{fraction_of, IsFrac64}
-use Rattle.plus_state.specs.declared.outcome.Limit.{Limit}
 use Rattle.plus_state.specs.View.{Labels}
-use Rattle.plus_timeline.specs.Advance.{Advances, IsThere, LimitsAdvance}
+use Rattle.plus_timeline.specs.Tests.{Test, AllPass}
+use Rattle.plus_timeline.specs.Advance.{Advances, IsThere}
 use Rattle.plus_timeline.specs.declared.next.Next.{Next}
 use Rattle.plus_timeline.specs.declared.next.Next.TheVariants.{Round, Run as run_answer, Entry, There}
 use Rattle.plus_validator.specs.Standing.{CanReach, IsReached, IsMore, a_round, a_run, an_entry, is_there, next_text}
 use Rattle.plus_validator.specs.Running.{IsOnWay, StepsOn, Reaches, Steps}
 use Rattle.plus_validator.specs.declared.run.Run.{Run}
-use Rattle.plus_validator.proofs.Steps.{part_of, step_goes, step_most, step_less, step_played, step_clear, step_target, step_acted, step_done}
+use Rattle.plus_validator.proofs.Steps.{part_of, way_tests, step_goes, step_most, step_less, step_played, step_clear, step_target, step_acted, step_done}
 
 -- what a step says by its answer
-step_more : (N : Labels) (P : Problem) (u : Fraction) (old new : Run) (answer : Next Frac64) → IsMore answer → CanReach P u old.timeline → Advances fraction_of P u old.timeline new.timeline answer → ((l : Limit Frac64) → LimitsAdvance fraction_of IsFrac64 P u old.timeline l → ⊥) → new.ended ≡ old.ended → new.report.bytes.items ≡ old.report.bytes.items ++ next_text fraction_of N P new.timeline answer → StepsOn N P u old new
+step_more : (N : Labels) (P : Problem) (u : Fraction) (old new : Run) (answer : Next Frac64) → IsMore answer → CanReach P u old.timeline → Advances fraction_of P u old.timeline new.timeline answer → AllPass IsFrac64 (way_tests P u old.timeline) → new.ended ≡ old.ended → new.report.bytes.items ≡ old.report.bytes.items ++ next_text fraction_of N P new.timeline answer → StepsOn N P u old new
 step_more N P u old new answer m c a x e r = record {
   can = step_goes fraction_of P u old.timeline new.timeline answer c a;
   less = step_less fraction_of P u old.timeline new.timeline answer c m a;
   most = step_most fraction_of P u old.timeline new.timeline answer a;
   ended = e;
-  on_way = λ L acted h b w. (
+  on_way = λ L instance acted h b w. (
     h ++ part_of new.timeline answer ∷ [],
     record {
-      played = step_played fraction_of N P L h u old.timeline new.timeline answer old.report.bytes.items new.report.bytes.items m b w.played
-          (step_clear N P L h u old.timeline new.timeline answer old.report.bytes.items m c.goes.going w.played w.target_is a x) w.target_is a r;
+      played = step_played fraction_of N P L instance h u old.timeline new.timeline answer old.report.bytes.items new.report.bytes.items m b w.played
+          (step_clear fraction_of N P L instance h u old.timeline new.timeline answer old.report.bytes.items m w.played w.target_is a x) w.target_is a r;
       target_is = step_target fraction_of P L u old.timeline new.timeline answer w.target_is a;
       acted_is = step_acted fraction_of P u old.timeline new.timeline answer a ∙ w.acted_is;
     },
   );
 }
 
-step_there : (N : Labels) (P : Problem) (u : Fraction) (old new : Run) → CanReach P u old.timeline → IsThere P u old.timeline new.timeline → new.ended ≡ old.ended → new.report.bytes.items ≡ old.report.bytes.items ++ [] → Reaches N P u old new
-step_there N P u old new c a e r = record {
+step_there : (N : Labels) (P : Problem) (u : Fraction) (old new : Run) → CanReach P u old.timeline → IsThere P u old.timeline new.timeline → AllPass IsFrac64 (way_tests P u old.timeline) → new.ended ≡ old.ended → new.report.bytes.items ≡ old.report.bytes.items ++ [] → Reaches N P u old new
+step_there N P u old new c a x e r = record {
   can = (step_goes fraction_of P u old.timeline new.timeline There c a).goes;
   paused = record { there = ap (λ v. v.answer) a.is; fresh = ap (λ v. v.acted) a.is };
   moment = ap (λ v. v.now.running) a.is ∙ a.moment;
   most = ap (λ v. v.most) a.is;
   ended = e;
-  reached = λ L acted h b w. (
+  reached = λ L instance acted h b w. (
     h,
-    subst (λ k. IsReached N P L k u h new.timeline new.report.bytes.items) w.acted_is
-        (step_done fraction_of N P L h u old.timeline new.timeline old.report.bytes.items new.report.bytes.items w.played w.target_is a (r ∙ append-nil old.report.bytes.items)),
+    subst (λ k. IsReached N P L instance k u h new.timeline new.report.bytes.items) w.acted_is
+        (step_done fraction_of N P L instance h u old.timeline new.timeline old.report.bytes.items new.report.bytes.items w.played w.target_is a x (r ∙ append-nil old.report.bytes.items)),
   );
 }
 
-pub step_says : (N : Labels) (P : Problem) (u : Fraction) (old new : Run) (answer : Next Frac64) → CanReach P u old.timeline → Advances fraction_of P u old.timeline new.timeline answer → ((l : Limit Frac64) → LimitsAdvance fraction_of IsFrac64 P u old.timeline l → ⊥) → new.ended ≡ old.ended → new.report.bytes.items ≡ old.report.bytes.items ++ next_text fraction_of N P new.timeline answer → Steps N P u old new (is_there answer)
+pub step_says : (N : Labels) (P : Problem) (u : Fraction) (old new : Run) (answer : Next Frac64) → CanReach P u old.timeline → Advances fraction_of P u old.timeline new.timeline answer → AllPass IsFrac64 (way_tests P u old.timeline) → new.ended ≡ old.ended → new.report.bytes.items ≡ old.report.bytes.items ++ next_text fraction_of N P new.timeline answer → Steps N P u old new (is_there answer)
 step_says N P u old new Round c a x e r = step_more N P u old new Round a_round c a x e r
 step_says N P u old new run_answer c a x e r = step_more N P u old new run_answer a_run c a x e r
 step_says N P u old new (Entry t) c a x e r = step_more N P u old new (Entry t) (an_entry t) c a x e r
-step_says N P u old new There c a x e r = step_there N P u old new c a e r
+step_says N P u old new There c a x e r = step_there N P u old new c a x e r
 
 -- ---- several steps
 
@@ -62,18 +62,18 @@ pub record Along (N : Labels) (P : Problem) (u : Fraction) (start run : Run) : T
   pub most : run.timeline.most ≡ start.timeline.most
   pub ended : run.ended ≡ start.ended
   pub on_way :
-      (L : Plan) (acted : ℕ) (h : List Part) → HasBegun L → IsOnWay N P L u acted h start
-      → (h' : List Part) × IsOnWay N P L u acted h' run
+      (L : Plan) (instance : ℕ → List Test) (acted : ℕ) (h : List Part) → HasBegun L → IsOnWay N P L instance u acted h start
+      → (h' : List Part) × IsOnWay N P L instance u acted h' run
 
 pub along_start : (N : Labels) (P : Problem) (u : Fraction) (run : Run) → CanReach P u run.timeline → Along N P u run run
-along_start N P u run c = record { can = c; most = refl; ended = refl; on_way = λ L acted h b w. (h, w) }
+along_start N P u run c = record { can = c; most = refl; ended = refl; on_way = λ L instance acted h b w. (h, w) }
 
 pub along_step : (N : Labels) (P : Problem) (u : Fraction) (start run new : Run) → Along N P u start run → StepsOn N P u run new → Along N P u start new
 along_step N P u start run new a s = record {
   can = s.can;
   most = s.most ∙ a.most;
   ended = s.ended ∙ a.ended;
-  on_way = λ L acted h b w. (let x = a.on_way L acted h b w in s.on_way L acted x.0 b x.1);
+  on_way = λ L instance acted h b w. (let x = a.on_way L instance acted h b w in s.on_way L instance acted x.0 b x.1);
 }
 
 pub along_done : (N : Labels) (P : Problem) (u : Fraction) (start run new : Run) → Along N P u start run → Reaches N P u run new → Reaches N P u start new
@@ -83,5 +83,5 @@ along_done N P u start run new a s = record {
   moment = s.moment;
   most = s.most ∙ a.most;
   ended = s.ended ∙ a.ended;
-  reached = λ L acted h b w. (let x = a.on_way L acted h b w in s.reached L acted x.0 b x.1);
+  reached = λ L instance acted h b w. (let x = a.on_way L instance acted h b w in s.reached L instance acted x.0 b x.1);
 }

@@ -1,44 +1,40 @@
 -- What one step of the timeline does to a run of a plan.
-use Rattle.std.proofs.Common.{◌≡◌, ℕ, suc, ◌+◌, ◌<◌, Bool, List, [], ◌∷◌, ◌++◌, refl, ap, sym, subst, ◌∙◌, arith, zero-add, add-zero}
+use Rattle.std.proofs.Common.{◌≡◌, ℕ, suc, ◌+◌, ◌<◌, pos, Bool, List, [], ◌∷◌, ◌++◌, refl, ap, sym, subst, ◌∙◌, arith, zero-add, add-zero}
 use Rattle.std.specs.Prelude.{Option, Some, None, length, All, slice_get, ◌||◌, if◌then◌else◌}
 use Rattle.std.specs.List.{list_any}
 use Rattle.std.proofs.lemmas.List.Elements.{All-nil}
-use Rattle.plus_fraction.specs.Fraction.{Fraction, ◌<ℚ◌, ◌≤ℚ◌, compared}
+use Rattle.plus_fraction.specs.Fraction.{Fraction, ◌<ℚ◌, ◌≤ℚ◌, compared, whole}
 use Rattle.plus_fraction.proofs.FractionAtMost.{<ℚ-≤ℚ_trans}
 use Rattle.plus_model.specs.Terms.{Same, Timed, State, Problem}
 use Rattle.plus_model.specs.Value.{passes}
 use Rattle.plus_model.specs.Plan.{Line, Plan}
 use Rattle.plus_model.specs.History as history
 use Rattle.plus_model.specs.History.{Part, Enter, Act, View, view_after}
-use Rattle.plus_model.specs.Trajectory.{next_line, time_or, target, least, until, HasBegun, Next as MayFollow, view_of}
-use Rattle.plus_model.specs.Breach.{IsOpen}
-use Rattle.plus_number.specs.declared.frac.Frac64.{Frac64}
-use Rattle.plus_number.specs.Frac.{fraction_of, IsFrac64}
-use Rattle.plus_state.specs.declared.outcome.Limit.{Limit}
-use Rattle.plus_state.specs.declared.outcome.Limit.TheVariants.{Happenings, Number}
-use Rattle.plus_state.specs.Asked.{FirstUnfit}
+use Rattle.plus_model.specs.Trajectory.{next_line, time_or, target, least, until, HasBegun, Next as MayFollow}
+use Rattle.plus_number.specs.Frac.{IsFrac64}
 use Rattle.plus_model.proofs.Moments.{not_below, ≤ℚ_refl, ≤ℚ_trans, least_within}
 use Rattle.plus_model.proofs.Paths.{prefix_grows}
 use Rattle.plus_model.proofs.Members.{same_exactly}
 use Rattle.plus_model.specs.Running.{RunsAfter}
-use Rattle.plus_state.specs.View.{Labels, overflow_of}
+use Rattle.plus_state.specs.View.{Labels}
 use Rattle.plus_timeline.specs.Timeline as timeline
-use Rattle.plus_timeline.specs.Timeline.{TimelineView}
-use Rattle.plus_timeline.specs.Still.{Serves}
-use Rattle.plus_timeline.specs.Stops.{IsGoing}
-use Rattle.plus_timeline.specs.Advance.{IsAhead, time_left, LimitsAdvance, Advances, FiresRound, ClosesEntry, BeginsEntry, IsThere}
+use Rattle.plus_timeline.specs.Timeline.{TimelineView, begun}
+use Rattle.plus_timeline.specs.Still.{Serves, IsStill}
+use Rattle.plus_timeline.specs.Advance.{IsAhead, Advances, FiresRound, ClosesEntry, BeginsEntry, IsThere}
 use Rattle.plus_timeline.specs.Laws.{AddsPart, IsDone}
 use Rattle.plus_timeline.proofs.Follows.{advance_follows}
-use Rattle.plus_timeline.proofs.StillWorld.{nothing_fires, none_goes_on}
+use Rattle.plus_timeline.proofs.StillWorld.{nothing_fires, none_goes_on, no_literals}
 use Rattle.plus_timeline.specs.declared.next.Next.{Next}
 use Rattle.plus_timeline.specs.declared.next.Next.TheVariants.{Round, Run, Entry, There}
 use Rattle.plus_report.specs.Text.{entry_text, literals_text, round_text}
 use Rattle.plus_report.specs.Report as reports
 use Rattle.plus_report.specs.Report.{part_text, report_of, literals_part}
 use Rattle.plus_report.proofs.ReportLemmas.{report_of-append}
-use Rattle.plus_validator.specs.Accepted.{entries_of}
-use Rattle.plus_validator.specs.Refused.{NoLimit, IsClear}
-use Rattle.plus_validator.proofs.Clear.{IsNoAct, clear_part, clear_on_way}
+use Rattle.plus_timeline.specs.Tests.{Test, AllPass}
+use Rattle.plus_timeline.specs.Asked.{advance_tests, asked}
+use Rattle.plus_validator.specs.Asking.{entries_of, asked_at, NoneFails, IsClear}
+use Rattle.plus_validator.proofs.Asking.{IsNoAct, asked_on}
+use Rattle.plus_validator.proofs.Clear.{clear_part}
 use Rattle.plus_validator.specs.Standing.{IsPlayed, CanReach, IsReached, HasRoom, pending, steps_left, next_text, IsMore, IsShown}
 
 -- ---- the timeline may go on after a step
@@ -183,8 +179,8 @@ adds_part value P L u old new (Entry t) m e a = (advance_follows value P L old n
 adds_part value P L u old new There m e a = elim m [ ]
 
 -- a history that the timeline and the report follow, grown by a part
-pub played_on : (N : Labels) (P : Problem) (L : Plan) (h : List Part) (old new : TimelineView) (report report' : List ℕ) (part : Part) → HasBegun L → IsPlayed N P L h old report → NoLimit P L old.most h → new.most ≡ old.most → AddsPart P L old new part → new.entries ≡ entries_of (h ++ part ∷ []) → report' ≡ report ++ part_text N P L old.now.state part → IsPlayed N P L (h ++ part ∷ []) new report'
-played_on N P L h old new report report' part b p q m a n r =
+pub played_on : (N : Labels) (P : Problem) (L : Plan) (instance : ℕ → List Test) (h : List Part) (old new : TimelineView) (report report' : List ℕ) (part : Part) → HasBegun L → IsPlayed N P L instance h old report → NoneFails P L old.most instance h → new.most ≡ old.most → AddsPart P L old new part → new.entries ≡ entries_of (h ++ part ∷ []) → report' ≡ report ++ part_text N P L old.now.state part → IsPlayed N P L instance (h ++ part ∷ []) new report'
+played_on N P L instance h old new report report' part b p q m a n r =
     let g = prefix_grows P L h part b p.prefix (subst (λ v. MayFollow P L v part) p.now a.next) in
     record {
       prefix = g.0;
@@ -193,7 +189,7 @@ played_on N P L h old new report report' part b p q m a n r =
       written = r ∙ ap (λ t. t ++ part_text N P L old.now.state part) p.written
           ∙ ap (λ (v : View). report_of N P L h ++ part_text N P L v.state part) p.now
           ∙ sym (report_of-append N P L h part p.prefix);
-      clear = subst (λ k. IsClear P L k (h ++ part ∷ [])) (sym m) (clear_part P L old.most h part p.clear q);
+      clear = subst (λ k. IsClear P L k instance (h ++ part ∷ [])) (sym m) (clear_part P L old.most instance h part p.clear q);
     }
 
 pub entries_of-append : (h : List Part) (part : Part) → entries_of (h ++ part ∷ []) ≡ entries_of h + entries_of (part ∷ [])
@@ -210,14 +206,23 @@ next_entries value P u old new (Entry t) m a = let e : new.entries ≡ suc old.e
 next_entries value P u old new There m a = elim m [ ]
 
 -- a step that adds a part
-pub step_played : {Q : Type 0} (value : Q → Fraction) (N : Labels) (P : Problem) (L : Plan) (h : List Part) (u : Fraction) (old new : TimelineView) (answer : Next Q) (report report' : List ℕ) → IsMore answer → HasBegun L → IsPlayed N P L h old report → NoLimit P L old.most h → target L old.now ≡ u → Advances value P u old new answer → report' ≡ report ++ next_text value N P new answer → IsPlayed N P L (h ++ part_of new answer ∷ []) new report'
-step_played value N P L h u old new answer report report' m b p q t a r =
-    played_on N P L h old new report report' (part_of new answer) b p q (step_most value P u old new answer a)
+pub step_played : {Q : Type 0} (value : Q → Fraction) (N : Labels) (P : Problem) (L : Plan) (instance : ℕ → List Test) (h : List Part) (u : Fraction) (old new : TimelineView) (answer : Next Q) (report report' : List ℕ) → IsMore answer → HasBegun L → IsPlayed N P L instance h old report → NoneFails P L old.most instance h → target L old.now ≡ u → Advances value P u old new answer → report' ≡ report ++ next_text value N P new answer → IsPlayed N P L instance (h ++ part_of new answer ∷ []) new report'
+step_played value N P L instance h u old new answer report report' m b p q t a r =
+    played_on N P L instance h old new report report' (part_of new answer) b p q (step_most value P u old new answer a)
     (adds_part value P L u old new answer m t a)
     (next_entries value P u old new answer m a ∙ ap (λ n. n + entries_of (part_of new answer ∷ [])) p.entries ∙ sym (entries_of-append h (part_of new answer)))
     (r ∙ ap (λ x. report ++ x) (next_is_part value N P L u old new answer m t a))
 
--- ---- where a step is taken, no limit stands
+-- ---- where a step is taken, all that is asked passes
+
+-- what `advance` asks on the way to the time u
+abbrev pub way_tests : Problem → Fraction → TimelineView → List Test
+way_tests P u t = advance_tests P t.most t.entries (least t.now.time u P.timed) t.now
+
+-- what is asked at the history that is played
+pub asked_is : (N : Labels) (P : Problem) (L : Plan) (instance : ℕ → List Test) (h : List Part) (t : TimelineView) (report : List ℕ) → IsPlayed N P L instance h t report → asked P L t.most instance t.entries t.now ≡ asked_at P L t.most instance h
+asked_is N P L instance h t report p =
+    ap (λ (n : ℕ). asked P L t.most instance n t.now) p.entries ∙ ap (λ (v : View). asked P L t.most instance (entries_of h) v) p.now
 
 no_act : {Q : Type 0} (new : TimelineView) (answer : Next Q) → IsNoAct (part_of new answer)
 no_act new Round = tt
@@ -225,30 +230,16 @@ no_act new Run = tt
 no_act new (Entry t) = tt
 no_act new There = tt
 
-step_next : {Q : Type 0} (value : Q → Fraction) (P : Problem) (L : Plan) (h : List Part) (u : Fraction) (old new : TimelineView) (answer : Next Q) → IsMore answer → target L old.now ≡ u → Advances value P u old new answer → old.now ≡ view_of P h → MayFollow P L (view_of P h) (part_of new answer)
-step_next value P L h u old new answer m t a e = subst (λ v. MayFollow P L v (part_of new answer)) e (adds_part value P L u old new answer m t a).next
+-- the tests of the way are those up to the next line
+pub way_is : (P : Problem) (L : Plan) (u : Fraction) (t : TimelineView) → target L t.now ≡ u → way_tests P u t ≡ advance_tests P t.most t.entries (until P L t.now) t.now
+way_is P L u t e = ap (λ (x : Fraction). advance_tests P t.most t.entries (least t.now.time x P.timed) t.now) (sym e)
 
-aimed : (P : Problem) (L : Plan) (h : List Part) (u : Fraction) (v : View) → v ≡ view_of P h → target L v ≡ u → until P L (view_of P h) ≡ least v.time u P.timed
-aimed P L h u v e t = ap (until P L) (sym e) ∙ ap (λ x. least v.time x P.timed) t
-
-pub step_clear : (N : Labels) (P : Problem) (L : Plan) (h : List Part) (u : Fraction) (old new : TimelineView) (answer : Next Frac64) (report : List ℕ) → IsMore answer → IsGoing old → IsPlayed N P L h old report → target L old.now ≡ u → Advances fraction_of P u old new answer → ((l : Limit Frac64) → LimitsAdvance fraction_of IsFrac64 P u old l → ⊥) → NoLimit P L old.most h
-step_clear N P L h u old new answer report m g p t a x =
-    clear_on_way P L old.most h (part_of new answer) (step_next fraction_of P L h u old new answer m t a p.now) (no_act new answer)
-    (λ f. x (Happenings old.most) (record {
-      going = g;
-      reached = (
-        refl,
-        record {
-          «open» = subst (λ w. IsOpen P w old.now) (aimed P L h u old.now p.now t) (subst (λ v. IsOpen P (until P L (view_of P h)) v) (sym p.now) f.«open»);
-          done = p.entries ∙ f.done;
-        },
-      );
-    }))
-    (λ w k. x (Number w) (record {
-      going = g;
-      reached = subst (λ y. FirstUnfit IsFrac64 (time_left old.now.running old.now.time y) (overflow_of fraction_of w)) (aimed P L h u old.now p.now t)
-          (subst (λ v. FirstUnfit IsFrac64 (time_left v.running v.time (until P L (view_of P h))) (overflow_of fraction_of w)) (sym p.now) k);
-    }))
+pub step_clear : {Q : Type 0} (value : Q → Fraction) (N : Labels) (P : Problem) (L : Plan) (instance : ℕ → List Test) (h : List Part) (u : Fraction) (old new : TimelineView) (answer : Next Q) (report : List ℕ) → IsMore answer → IsPlayed N P L instance h old report → target L old.now ≡ u → Advances value P u old new answer → AllPass IsFrac64 (way_tests P u old) → NoneFails P L old.most instance h
+step_clear value N P L instance h u old new answer report m p t a x =
+    subst (AllPass IsFrac64)
+    (way_is P L u old t
+    ∙ sym (asked_on P L old.most instance old.entries old.now (part_of new answer) (no_act new answer) (adds_part value P L u old new answer m t a).next)
+    ∙ asked_is N P L instance h old report p) x
 
 -- and the time that is aimed at stays the same
 target_by : (o : Option Line) (t t' u : Fraction) → time_or o t ≡ u → (o ≡ None → t' ≡ t) → time_or o t' ≡ u
@@ -278,13 +269,14 @@ step_target value P L u old new answer e a =
     (target_by (slice_get L.lines old.now.acted) old.now.time new.now.time u e (time_kept value P L u old new answer e a))
 
 -- a step that adds none
-pub step_done : {Q : Type 0} (value : Q → Fraction) (N : Labels) (P : Problem) (L : Plan) (h : List Part) (u : Fraction) (old new : TimelineView) (report report' : List ℕ) → IsPlayed N P L h old report → target L old.now ≡ u → IsThere P u old new → report' ≡ report → IsReached N P L old.now.acted u h new report'
-step_done value N P L h u old new report report' p t a r =
+pub step_done : {Q : Type 0} (value : Q → Fraction) (N : Labels) (P : Problem) (L : Plan) (instance : ℕ → List Test) (h : List Part) (u : Fraction) (old new : TimelineView) (report report' : List ℕ) → IsPlayed N P L instance h old report → target L old.now ≡ u → IsThere P u old new → AllPass IsFrac64 (way_tests P u old) → report' ≡ report → IsReached N P L instance old.now.acted u h new report'
+step_done value N P L instance h u old new report report' p t a x r =
     let d : IsDone P L old new = advance_follows value P L old new u There t a in
     record {
-      played = record { prefix = p.prefix; now = d.now ∙ p.now; entries = ap (λ v. v.entries) a.is ∙ p.entries; written = r ∙ p.written; clear = subst (λ k. IsClear P L k h) (sym (ap (λ v. v.most) a.is)) p.clear };
+      played = record { prefix = p.prefix; now = d.now ∙ p.now; entries = ap (λ v. v.entries) a.is ∙ p.entries; written = r ∙ p.written; clear = subst (λ k. IsClear P L k instance h) (sym (ap (λ v. v.most) a.is)) p.clear };
       present = d.present;
       over = d.over;
+      passed = subst (AllPass IsFrac64) (way_is P L u old t ∙ sym (ap (λ (v : TimelineView). advance_tests P v.most v.entries (until P L v.now) v.now) a.is)) x;
       acted_is = ap (λ v. v.now.acted) a.is;
       time_is = ap (λ v. v.now.time) a.is ∙ a.time;
     }
@@ -296,5 +288,9 @@ step_shown value P u old new Run c a =
     let none : a.members ≡ [] = same_exactly (RunsAfter P old.now.state a.may.settled.choice.first) a.members [] a.may.settled.choice.chosen (none_goes_on P old.now.state a.may.settled.choice.first c.goes.serves.still) in
     let e : new.running ≡ [] = ap (λ v. v.running) a.is ∙ none in
     subst (All (λ p. p < length P.processes)) (sym e) (All-nil (λ p. p < length P.processes))
-step_shown value P u old new (Entry t) c a = tt
+step_shown value P u old new (Entry t) c a = λ _.
+    ap (λ v. v.arrival) a.is ∙ sym (a.may.after_is ∙ no_literals P (value t) a.arrived c.goes.serves.still) ∙ sym (ap (λ v. v.now.state) a.is)
 step_shown value P u old new There c a = tt
+
+pub begun_shown : (P : Problem) (most : ℕ) (t : TimelineView) → IsStill P → t ≡ begun P most → t.arrival ≡ t.now.state
+begun_shown P most t s e = ap (λ v. v.arrival) e ∙ sym (no_literals P (whole (pos 0)) P.initial s) ∙ sym (ap (λ v. v.now.state) e)

@@ -1,71 +1,86 @@
 -- A run that halts: the verdict stands at the history that is reported.
 use Rattle.plus_validator.specs.Plans.{Pair}
-use Rattle.std.proofs.Common.{◌≡◌, ℕ, ◌≤◌, List, refl, ap, sym, subst, ◌∙◌, inl, inr}
+use Rattle.std.proofs.Common.{◌≡◌, ℕ, ◌≤◌, List, [], refl, ap, sym, subst, ◌∙◌}
 use Rattle.std.specs.Prelude.{Option, Some, None, Err, IsSomeAnd}
 use Rattle.plus_fraction.specs.Fraction.{Fraction}
-use Rattle.plus_model.specs.Terms.{Action, Problem}
+use Rattle.plus_model.specs.Terms.{Action, State, Problem}
+use Rattle.plus_model.specs.Plan as plan
 use Rattle.plus_model.specs.Plan.{Called, Instance, ActLine, Plan}
 use Rattle.plus_model.specs.History.{Part, View}
-use Rattle.plus_model.specs.Trajectory.{HasBegun, Prefix, next_line, least, until, view_of}
+use Rattle.plus_model.specs.Trajectory.{HasBegun, next_line, target, view_of}
 use Rattle.plus_model.specs.Breach as model
-use Rattle.plus_model.specs.Breach.{Breaks, IsDue, IsPresent}
 use Rattle.plus_number.specs.declared.frac.Frac64.{Frac64}
 use Rattle.plus_number.specs.Frac.{fraction_of, IsFrac64}
 use Rattle.plus_state.specs.View.{Labels}
 use Rattle.plus_state.specs.declared.outcome.Breach.{Breach}
 use Rattle.plus_state.specs.declared.outcome.Breach.TheVariants as breaches
-use Rattle.plus_state.specs.declared.outcome.Limit.{Limit}
-use Rattle.plus_state.specs.declared.outcome.Limit.TheVariants as limits
 use Rattle.plus_timeline.specs.Timeline.{TimelineView}
 use Rattle.plus_ground.specs.declared.faults.InstanceFault.{InstanceFault}
 use Rattle.plus_ground.specs.declared.faults.InstanceFault.TheVariants as instances
-use Rattle.plus_ground.specs.Refusals.{RefusesCall}
+use Rattle.plus_ground.specs.Refusals.{RefusesCall, IsInstance}
 use Rattle.plus_expansion.specs.Calls.{called_of}
 use Rattle.plus_tree.specs.declared.trees.Call.{Call}
-use Rattle.plus_timeline.specs.Act.{StopsAct, BreaksAct, LimitsAct, UnfitAct}
-use Rattle.plus_timeline.specs.Advance.{BreaksOff, BreaksAdvance, Reaches, LimitsAdvance}
-use Rattle.plus_timeline.specs.Tests.{breach_of}
-use Rattle.plus_timeline.specs.Stops.{BreachExactly, LimitExactly}
+use Rattle.plus_timeline.specs.Act.{BreaksAct, ActTold}
+use Rattle.plus_timeline.specs.Advance.{BreaksOff, AdvanceTold}
+use Rattle.plus_timeline.specs.Tests.{Test, too_many_nodes, no_number, breach, of_limit, breach_of, AllPass, FirstFailing}
 use Rattle.plus_timeline.specs.declared.stop.Stop.{Stop}
 use Rattle.plus_timeline.specs.declared.stop.Stop.TheVariants as stops
 use Rattle.plus_timeline.proofs.Follows.{advance_breaks, act_breaks}
-use Rattle.plus_timeline.proofs.StillBreaches.{nothing_breaks_off}
-use Rattle.plus_validator.proofs.Clear.{clear_at_due, no_act_unfit}
-use Rattle.plus_validator.proofs.Played.{act_clear}
+use Rattle.plus_report.specs.declared.refusals.Early.TheVariants.{Literal, TooMany}
+use Rattle.plus_report.specs.declared.refusals.Kinds.TheVariants as kinds
+use Rattle.plus_report.specs.declared.refusals.Text.TheVariants as texts
 use Rattle.plus_report.specs.declared.verdicts.Verdict.{Verdict}
-use Rattle.plus_report.specs.declared.verdicts.Verdict.TheVariants.{Invalid, Beyond}
+use Rattle.plus_report.specs.declared.verdicts.Verdict.TheVariants.{Invalid, Beyond, Other}
 use Rattle.plus_report.specs.Report.{called_label}
 use Rattle.plus_validator.specs.declared.halt.Halt.{Halt}
 use Rattle.plus_validator.specs.declared.halt.Halt.TheVariants.{Refused, Memory}
 use Rattle.plus_validator.specs.declared.run.Run.{Run}
-use Rattle.plus_validator.specs.Accepted.{entries_of}
-use Rattle.plus_validator.specs.Halts.{stop_halt, CallHalts}
-use Rattle.plus_validator.specs.Standing.{IsPlayed, CanGoOn, CanReach}
+use Rattle.plus_validator.specs.Halts.{stop_halt, CallHalts, CallVerdict}
+use Rattle.plus_validator.specs.Standing.{IsPlayed, CanGoOn, CanReach, IsReached}
 use Rattle.plus_validator.specs.Running.{IsOnWay}
-use Rattle.plus_validator.specs.Refused.{BreachNames, NamesNone, NamesLine, LimitStands, IsTimeUnfit, IsActUnfit, Stands, NoLimit, IsNoLimit, IsBeyondCall}
-use Rattle.plus_validator.specs.Stopped.{IsReported, StopsOnWay, HaltsOnWay, IsStoppedIn, IsStoppedAtCall, StopsIn, StopsInAct, HaltsInAct}
+use Rattle.plus_validator.specs.Refused.{BreachNames, NamesNone, NamesLine, Stands, IsBroken}
+use Rattle.plus_validator.specs.Stopped.{IsReported, StopsOnWay, HaltsOnWay, IsStoppedIn, StopsIn, HaltsInAct}
 use Rattle.plus_validator.proofs.Runs.{Along}
+use Rattle.plus_validator.specs.Asking.{Fails, call_tests}
+use Rattle.plus_timeline.specs.Asked.{act_tests, asked, line_tests}
+use Rattle.plus_validator.proofs.Asking.{advance_fails, breach_fails, fails_left, fails_right, line_fails}
+use Rattle.plus_validator.proofs.Steps.{asked_is, way_is, way_tests}
+use Rattle.plus_validator.proofs.CalledTests.{call_passes, call_too_large, call_unfit}
 
--- a fact for the value of an option
+-- two facts for the value of an option
+both_some : {A : Type 0} (o : Option A) (P Q R : A → Type 0) → ((x : A) → P x → Q x → R x) → IsSomeAnd o P → IsSomeAnd o Q → IsSomeAnd o R
+both_some None P Q R f h k = h
+both_some (Some x) P Q R f h k = f x h k
+
 and_then : {A : Type 0} (o : Option A) (P Q : A → Type 0) → ((x : A) → P x → Q x) → IsSomeAnd o P → IsSomeAnd o Q
 and_then None P Q f h = h
 and_then (Some x) P Q f h = f x h
 
--- a breach that stands at the view of a history is one of it
-pub breaks_at : (P : Problem) (L : Plan) (h : List Part) (v : View) (b : Breach Frac64) → HasBegun L → Prefix P L h → v ≡ view_of P h → IsSomeAnd (breach_of fraction_of v.acted b) (model.Stands P L v) → IsSomeAnd (breach_of fraction_of (view_of P h).acted b) (Breaks P L h)
-breaks_at P L h v b begun p e s =
-    and_then (breach_of fraction_of (view_of P h).acted b) (model.Stands P L (view_of P h)) (Breaks P L h)
-    (λ c k. record { prefix = p; breach = record { begun = begun; stands = k } })
-    (subst (λ (w : View). IsSomeAnd (breach_of fraction_of w.acted b) (model.Stands P L w)) e s)
-
 -- the report of what is played
-pub reported : (N : Labels) (P : Problem) (L : Plan) (h : List Part) (t : TimelineView) (old new : List ℕ) → IsPlayed N P L h t old → t.entries ≤ t.most → new ≡ old → IsReported N P L t.most h new
-reported N P L h t old new p w e = record {
+pub reported : (N : Labels) (P : Problem) (L : Plan) (instance : ℕ → List Test) (h : List Part) (t : TimelineView) (old new : List ℕ) → IsPlayed N P L instance h t old → t.entries ≤ t.most → new ≡ old → IsReported N P L t.most instance h new
+reported N P L instance h t old new p w e = record {
   prefix = p.prefix;
   few = subst (λ n. n ≤ t.most) p.entries w;
   clear = p.clear;
   written = e ∙ p.written;
 }
+
+-- ---- a test that fails at the view of a history that is played
+
+module _ (N : Labels) (P : Problem) (L : Plan) (instance : ℕ → List Test) (h : List Part) (t : TimelineView) (report : List ℕ) (p : IsPlayed N P L instance h t report) where
+  -- it fails at the history
+  pub fails_at : (test : Test) → FirstFailing IsFrac64 (asked P L t.most instance t.entries t.now) test → Fails P L t.most instance h test
+  fails_at test f = subst (λ (ts : List Test). FirstFailing IsFrac64 ts test) (asked_is N P L instance h t report p) f
+
+  -- a breach that stands there and is the first that fails is one of the history
+  pub broken_at : (b : Breach Frac64) → HasBegun L → IsSomeAnd (breach_of fraction_of t.now.acted b) (model.Stands P L t.now) → IsSomeAnd (breach_of fraction_of t.now.acted b) (λ c. FirstFailing IsFrac64 (asked P L t.most instance t.entries t.now) (breach c)) → IsSomeAnd (breach_of fraction_of (view_of P h).acted b) (IsBroken P L t.most instance h)
+  broken_at b begun s f =
+      subst (λ (k : ℕ). IsSomeAnd (breach_of fraction_of k b) (IsBroken P L t.most instance h)) (ap (λ (v : View). v.acted) p.now)
+      (both_some (breach_of fraction_of t.now.acted b) (model.Stands P L t.now) (λ c. FirstFailing IsFrac64 (asked P L t.most instance t.entries t.now) (breach c)) (IsBroken P L t.most instance h)
+      (λ c x y. record {
+        breaks = record { prefix = p.prefix; breach = record { begun = begun; stands = subst (λ (v : View). model.Stands P L v c) p.now x } };
+        first = fails_at (breach c) y;
+      }) s f)
 
 names_none : (P : Problem) (u : Fraction) (v : View) (b : Breach Frac64) → BreaksOff fraction_of P u v b → NamesNone b
 names_none P u v (breaches.UnknownAction line name) s = s
@@ -81,148 +96,146 @@ names_none P u v (breaches.Coupled p f) s = tt
 names_none P u v (breaches.NoFirstMoment e t) s = tt
 names_none P u v breaches.Goal s = tt
 
--- a limit of `advance` stands at the history
-limit_by : (P : Problem) (L : Plan) (h : List Part) (v : TimelineView) (l : Limit Frac64) → v.now ≡ view_of P h → v.entries ≡ entries_of h → Reaches fraction_of IsFrac64 P (until P L v.now) v l → LimitStands P L v.most h l
-limit_by P L h v (limits.Happenings n) e k r = (
-  r.0,
-  record {
-    «open» = subst (λ (w : View). model.IsOpen P (until P L w) w) e r.1.«open»;
-    done = sym k ∙ r.1.done;
-  },
-)
-limit_by P L h v (limits.Number w) e k r = inl (subst (λ (x : View). IsTimeUnfit P L x w) e r)
-limit_by P L h v (limits.Nonlinear owner c) e k r = r
+-- ---- on the way to a time
 
-pub advance_stops : (N : Labels) (P : Problem) (L : Plan) (u : Fraction) (acted : ℕ) (h : List Part) (old new : Run) (stop : Stop Frac64) → HasBegun L → CanReach P u old.timeline → IsOnWay N P L u acted h old → BreachExactly {A = Unit {0}} (BreaksAdvance fraction_of P u old.timeline) (Err stop) → LimitExactly {A = Unit {0}} (LimitsAdvance fraction_of IsFrac64 P u old.timeline) (Err stop) → new.report.bytes.items ≡ old.report.bytes.items → StopsOnWay N P L old.timeline.most new.report.bytes.items (stop_halt stop)
-advance_stops N P L u acted h old new (stops.Breach b) begun c w b' l' r = record {
+-- what `advance` finds to fail is the first that fails
+way_fails : (P : Problem) (L : Plan) (instance : ℕ → List Test) (u : Fraction) (t : TimelineView) (test : Test) → target L t.now ≡ u → FirstFailing IsFrac64 (way_tests P u t) test → FirstFailing IsFrac64 (asked P L t.most instance t.entries t.now) test
+way_fails P L instance u t test e f =
+    advance_fails P L t.most instance t.entries t.now test (subst (λ (ts : List Test). FirstFailing IsFrac64 ts test) (way_is P L u t e) f)
+
+pub advance_stops : (N : Labels) (P : Problem) (L : Plan) (instance : ℕ → List Test) (u : Fraction) (acted : ℕ) (h : List Part) (old new : Run) (stop : Stop Frac64) → HasBegun L → CanReach P u old.timeline → IsOnWay N P L instance u acted h old → AdvanceTold fraction_of IsFrac64 P u old.timeline new.timeline (Err stop) → new.report.bytes.items ≡ old.report.bytes.items → StopsOnWay N P L old.timeline.most instance new.report.bytes.items (stop_halt stop)
+advance_stops N P L instance u acted h old new (stops.Breach b) begun c w k r = record {
   stopped = record {
     history = h;
-    reported = reported N P L h old.timeline old.report.bytes.items new.report.bytes.items w.played c.goes.within r;
-    stands = breaks_at P L h old.timeline.now b begun w.played.prefix w.played.now (advance_breaks fraction_of P L old.timeline u b w.target_is b');
-    alone = λ _. absurd (nothing_breaks_off fraction_of P _ old.timeline.now b c.goes.serves.still b'.stands);
+    reported = reported N P L instance h old.timeline old.report.bytes.items new.report.bytes.items w.played c.goes.within r;
+    stands = broken_at N P L instance h old.timeline old.report.bytes.items w.played b begun (advance_breaks fraction_of P L old.timeline u b w.target_is k.means)
+        (and_then (breach_of fraction_of old.timeline.now.acted b) (λ x. FirstFailing IsFrac64 (way_tests P u old.timeline) (breach x)) (λ x. FirstFailing IsFrac64 (asked P L old.timeline.most instance old.timeline.entries old.timeline.now) (breach x))
+        (λ x f. way_fails P L instance u old.timeline (breach x) w.target_is f) k.first);
   };
-  names = names_none P _ old.timeline.now b b'.stands;
+  names = names_none P _ old.timeline.now b k.means;
 }
-advance_stops N P L u acted h old new (stops.Limit l) begun c w b' l' r = record {
+advance_stops N P L instance u acted h old new (stops.Limit l) begun c w k r = record {
   stopped = record {
     history = h;
-    reported = reported N P L h old.timeline old.report.bytes.items new.report.bytes.items w.played c.goes.within r;
-    stands = limit_by P L h old.timeline l w.played.now w.played.entries
-        (subst (λ x. Reaches fraction_of IsFrac64 P (least old.timeline.now.time x P.timed) old.timeline l) (sym w.target_is) l'.reached);
-    alone = λ n. absurd n;
+    reported = reported N P L instance h old.timeline old.report.bytes.items new.report.bytes.items w.played c.goes.within r;
+    stands = fails_at N P L instance h old.timeline old.report.bytes.items w.played (of_limit fraction_of l) (way_fails P L instance u old.timeline (of_limit fraction_of l) w.target_is k.first);
   };
   names = tt;
 }
-advance_stops N P L u acted h old new stops.Ended begun c w b' l' r = tt
-advance_stops N P L u acted h old new stops.Memory begun c w b' l' r = tt
+advance_stops N P L instance u acted h old new stops.Ended begun c w k r = tt
+advance_stops N P L instance u acted h old new stops.Memory begun c w k r = tt
 
-pub advance_halts_on : (N : Labels) (P : Problem) (u : Fraction) (old new : Run) (stop : Stop Frac64) (halt : Halt) → CanReach P u old.timeline → halt ≡ stop_halt stop → BreachExactly {A = Unit {0}} (BreaksAdvance fraction_of P u old.timeline) (Err stop) → LimitExactly {A = Unit {0}} (LimitsAdvance fraction_of IsFrac64 P u old.timeline) (Err stop) → new.report.bytes.items ≡ old.report.bytes.items → HaltsOnWay N P u old new halt
-advance_halts_on N P u old new stop halt c e b' l' r = record {
-  stops = λ L acted h begun w. subst (StopsOnWay N P L old.timeline.most new.report.bytes.items) (sym e) (advance_stops N P L u acted h old new stop begun c w b' l' r);
+pub advance_halts_on : (N : Labels) (P : Problem) (u : Fraction) (old new : Run) (stop : Stop Frac64) (halt : Halt) → CanReach P u old.timeline → halt ≡ stop_halt stop → AdvanceTold fraction_of IsFrac64 P u old.timeline new.timeline (Err stop) → new.report.bytes.items ≡ old.report.bytes.items → HaltsOnWay N P u old new halt
+advance_halts_on N P u old new stop halt c e k r = record {
+  stops = λ L instance acted h begun w. subst (StopsOnWay N P L old.timeline.most instance new.report.bytes.items) (sym e) (advance_stops N P L instance u acted h old new stop begun c w k r);
 }
 
 -- several steps, and then a halt
 pub along_halts : (N : Labels) (P : Problem) (u : Fraction) (start run new : Run) (halt : Halt) → Along N P u start run → HaltsOnWay N P u run new halt → HaltsOnWay N P u start new halt
 along_halts N P u start run new halt a s = record {
-  stops = λ L acted h begun w.
-      let x = a.on_way L acted h begun w in
-      subst (λ m. StopsOnWay N P L m new.report.bytes.items halt) a.most (s.stops L acted x.0 begun x.1);
+  stops = λ L instance acted h begun w.
+      let x = a.on_way L instance acted h begun w in
+      subst (λ m. StopsOnWay N P L m instance new.report.bytes.items halt) a.most (s.stops L instance acted x.0 begun x.1);
 }
 
--- ---- an action
+-- ---- an action that is due
 
 -- the verdict stands at the history that is played, and names this line
-stopped_in : (N : Labels) (P : Problem) (L : Plan) (n : ℕ) (h : List Part) (old new : Run) (v : Verdict Frac64) → CanGoOn P old.timeline → IsPlayed N P L h old.timeline old.report.bytes.items → new.report.bytes.items ≡ old.report.bytes.items → Stands P L old.timeline.most h v → (IsNoLimit v → NoLimit P L old.timeline.most h) → NamesLine n (called_label (next_line L old.timeline.now)) v → IsStoppedIn N P L old.timeline.most n new.report.bytes.items v
-stopped_in N P L n h old new v c p r s k m = record {
+stopped_in : (N : Labels) (P : Problem) (L : Plan) (instance : ℕ → List Test) (n : ℕ) (h : List Part) (old new : Run) (v : Verdict Frac64) → CanGoOn P old.timeline → IsPlayed N P L instance h old.timeline old.report.bytes.items → new.report.bytes.items ≡ old.report.bytes.items → Stands P L old.timeline.most instance h v → NamesLine n (called_label (next_line L old.timeline.now)) v → IsStoppedIn N P L old.timeline.most instance n new.report.bytes.items v
+stopped_in N P L instance n h old new v c p r s m = record {
   stopped = record {
     history = h;
-    reported = reported N P L h old.timeline old.report.bytes.items new.report.bytes.items p c.within r;
+    reported = reported N P L instance h old.timeline old.report.bytes.items new.report.bytes.items p c.within r;
     stands = s;
-    alone = k;
   };
   names = subst (λ (w : View). NamesLine n (called_label (next_line L w)) v) p.now m;
 }
 
--- where the line that is due calls no action, no limit stands
-call_clear : (N : Labels) (P : Problem) (L : Plan) (h : List Part) (call : Called) (run : Run) → run.timeline.now.running ≡ None → IsPlayed N P L h run.timeline run.report.bytes.items → next_line L run.timeline.now ≡ Some (ActLine run.timeline.now.time call) → ((action : Action) → call ≡ Instance action → ⊥) → NoLimit P L run.timeline.most h
-call_clear N P L h call run m p d n =
-    let d' : next_line L (view_of P h) ≡ Some (ActLine (view_of P h).time call) = subst (λ (w : View). next_line L w ≡ Some (ActLine w.time call)) p.now d in
-    clear_at_due P L run.timeline.most h call (ap (λ (w : View). w.running) (sym p.now) ∙ m) d' (no_act_unfit P L (view_of P h) call d' n)
+-- what the line that is due asks
+due_fails : (N : Labels) (P : Problem) (L : Plan) (instance : ℕ → List Test) (h : List Part) (t : TimelineView) (report : List ℕ) (call : Called) (test : Test) → IsReached N P L instance t.now.acted t.now.time h t report → next_line L t.now ≡ Some (ActLine t.now.time call) → FirstFailing IsFrac64 (line_tests P L instance t.now (Some (ActLine t.now.time call))) test → FirstFailing IsFrac64 (asked P L t.most instance t.entries t.now) test
+due_fails N P L instance h t report call test r d f = line_fails P L t.most instance t.entries t.now (Some (ActLine t.now.time call)) test d r.present r.over r.passed f
 
--- the line that is due calls no action
-breach_of_call : (N : Labels) (P : Problem) (n : ℕ) (call : Called) (b : Breach Frac64) (run : Run) (v : Verdict Frac64) (L : Plan) (h : List Part) → CanGoOn P run.timeline → ((action : Action) → call ≡ Instance action → ⊥) → v ≡ Invalid b → HasBegun L → IsPlayed N P L h run.timeline run.report.bytes.items → IsPresent P run.timeline.now → next_line L run.timeline.now ≡ Some (ActLine run.timeline.now.time call) → IsSomeAnd (breach_of fraction_of run.timeline.now.acted b) (model.Stands P L run.timeline.now) → NamesLine n (called_label (next_line L run.timeline.now)) (Invalid b) → IsStoppedIn N P L run.timeline.most n run.report.bytes.items v
-breach_of_call N P n call b run v L h c f k begun p q d s m =
-    subst (IsStoppedIn N P L run.timeline.most n run.report.bytes.items) (sym k)
-    (stopped_in N P L n h run run (Invalid b) c p refl (breaks_at P L h run.timeline.now b begun p.prefix p.now s)
-    (λ _. call_clear N P L h call run q.moment p d f) m)
+-- it calls no action
+unknown_stops : (N : Labels) (P : Problem) (n : ℕ) (name : List ℕ) (run : Run) (v : Verdict Frac64) (L : Plan) (instance : ℕ → List Test) (h : List Part) → CanGoOn P run.timeline → v ≡ Invalid (breaches.UnknownAction n name) → HasBegun L → IsReached N P L instance run.timeline.now.acted run.timeline.now.time h run.timeline run.report.bytes.items → next_line L run.timeline.now ≡ Some (ActLine run.timeline.now.time (plan.UnknownAction name)) → IsStoppedIn N P L run.timeline.most instance n run.report.bytes.items v
+unknown_stops N P n name run v L instance h c e begun r d =
+    subst (IsStoppedIn N P L run.timeline.most instance n run.report.bytes.items) (sym e)
+    (stopped_in N P L instance n h run run (Invalid (breaches.UnknownAction n name)) c r.played refl
+    (broken_at N P L instance h run.timeline run.report.bytes.items r.played (breaches.UnknownAction n name) begun (refl, record { present = r.present; due = d })
+    (due_fails N P L instance h run.timeline run.report.bytes.items (plan.UnknownAction name) (breach (model.UnknownAction run.timeline.now.acted name)) r d (breach_fails (model.UnknownAction run.timeline.now.acted name) [])))
+    refl)
 
--- the instance of its call is over a limit
-over_limit : (w : Pair) (N : Labels) (P : Problem) (k : Call) (run : Run) (v : Verdict Frac64) (L : Plan) (h : List Part) → CanGoOn P run.timeline → IsBeyondCall w k v → IsPlayed N P L h run.timeline run.report.bytes.items → IsPresent P run.timeline.now → next_line L run.timeline.now ≡ Some (ActLine run.timeline.now.time (called_of w.domain w.problem k.name k.args)) → IsStoppedAtCall w N P L run.timeline.most run.timeline.now.acted k run.report.bytes.items v
-over_limit w N P k run v L h c b p q d = record {
-  history = h;
-  reported = reported N P L h run.timeline run.report.bytes.items run.report.bytes.items p c.within refl;
-  acted_is = ap (λ (x : View). x.acted) (sym p.now);
-  due = subst (λ (x : View). IsDue P L x (called_of w.domain w.problem k.name k.args)) p.now (record { present = q; due = d });
-  beyond = b;
-}
+wrong_stops : (N : Labels) (P : Problem) (n : ℕ) (name : List ℕ) (run : Run) (v : Verdict Frac64) (L : Plan) (instance : ℕ → List Test) (h : List Part) → CanGoOn P run.timeline → v ≡ Invalid (breaches.WrongArguments n name) → HasBegun L → IsReached N P L instance run.timeline.now.acted run.timeline.now.time h run.timeline run.report.bytes.items → next_line L run.timeline.now ≡ Some (ActLine run.timeline.now.time (plan.WrongArguments name)) → IsStoppedIn N P L run.timeline.most instance n run.report.bytes.items v
+wrong_stops N P n name run v L instance h c e begun r d =
+    subst (IsStoppedIn N P L run.timeline.most instance n run.report.bytes.items) (sym e)
+    (stopped_in N P L instance n h run run (Invalid (breaches.WrongArguments n name)) c r.played refl
+    (broken_at N P L instance h run.timeline run.report.bytes.items r.played (breaches.WrongArguments n name) begun (refl, record { present = r.present; due = d })
+    (due_fails N P L instance h run.timeline run.report.bytes.items (plan.WrongArguments name) (breach (model.WrongArguments run.timeline.now.acted name)) r d (breach_fails (model.WrongArguments run.timeline.now.acted name) [])))
+    refl)
 
-call_stops : (w : Pair) (N : Labels) (P : Problem) (n : ℕ) (k : Call) (fault : InstanceFault) (run : Run) (v : Verdict Frac64) (L : Plan) (h : List Part) → CanGoOn P run.timeline → RefusesCall IsFrac64 w.domain k.name (called_of w.domain w.problem k.name k.args) fault → CallHalts fault n k.name (Refused v) → HasBegun L → IsPlayed N P L h run.timeline run.report.bytes.items → IsPresent P run.timeline.now → next_line L run.timeline.now ≡ Some (ActLine run.timeline.now.time (called_of w.domain w.problem k.name k.args)) → StopsInAct w N P L run.timeline.most n run.timeline.now.acted k run.report.bytes.items (Refused v)
-call_stops w N P n k instances.UnknownAction run v L h c f e begun p q d =
-    inl (breach_of_call N P n (called_of w.domain w.problem k.name k.args) (breaches.UnknownAction n k.name) run v L h c (λ action x. (let y = f in cc (x, y))) e begun p q d
-    (refl, record { present = q; due = d ∙ ap (λ x. Some (ActLine run.timeline.now.time x)) f }) refl)
-call_stops w N P n k instances.WrongArguments run v L h c f e begun p q d =
-    inl (breach_of_call N P n (called_of w.domain w.problem k.name k.args) (breaches.WrongArguments n k.name) run v L h c (λ action x. (let y = f in cc (x, y))) e begun p q d
-    (refl, record { present = q; due = d ∙ ap (λ x. Some (ActLine run.timeline.now.time x)) f }) refl)
-call_stops w N P n k instances.TooManyNodes run v L h c f e begun p q d = inr (over_limit w N P k run v L h c (inl (f, e)) p q d)
-call_stops w N P n k (instances.Literal span) run v L h c f e begun p q d = inr (over_limit w N P k run v L h c (inr (span, f, e)) p q d)
-call_stops w N P n k instances.Memory run v L h c f e begun p q d = absurd e
+-- a limit of its instance is passed
+instance_fails : (w : Pair) (N : Labels) (P : Problem) (k : Call) (action : Action) (run : Run) (L : Plan) (instance : ℕ → List Test) (h : List Part) (test : Test) → called_of w.domain w.problem k.name k.args ≡ Instance action → instance run.timeline.now.acted ≡ call_tests w k → IsReached N P L instance run.timeline.now.acted run.timeline.now.time h run.timeline run.report.bytes.items → next_line L run.timeline.now ≡ Some (ActLine run.timeline.now.time (called_of w.domain w.problem k.name k.args)) → FirstFailing IsFrac64 (call_tests w k) test → Fails P L run.timeline.most instance h test
+instance_fails w N P k action run L instance h test i n r d f =
+    fails_at N P L instance h run.timeline run.report.bytes.items r.played test
+    (due_fails N P L instance h run.timeline run.report.bytes.items (Instance action) test r (d ∙ ap (λ x. Some (ActLine run.timeline.now.time x)) i)
+    (fails_left (instance run.timeline.now.acted) (act_tests run.timeline.now.acted action run.timeline.now.state) test (subst (λ (ts : List Test). FirstFailing IsFrac64 ts test) (sym n) f)))
+
+call_stops : (w : Pair) (N : Labels) (P : Problem) (n : ℕ) (k : Call) (fault : InstanceFault) (run : Run) (v : Verdict Frac64) (L : Plan) (instance : ℕ → List Test) (h : List Part) → CanGoOn P run.timeline → RefusesCall IsFrac64 w.domain k.name (called_of w.domain w.problem k.name k.args) fault → CallVerdict fault n k.name v → HasBegun L → instance run.timeline.now.acted ≡ call_tests w k → IsReached N P L instance run.timeline.now.acted run.timeline.now.time h run.timeline run.report.bytes.items → next_line L run.timeline.now ≡ Some (ActLine run.timeline.now.time (called_of w.domain w.problem k.name k.args)) → IsStoppedIn N P L run.timeline.most instance n run.report.bytes.items v
+call_stops w N P n k instances.UnknownAction run v L instance h c f e begun i r d =
+    unknown_stops N P n k.name run v L instance h c e begun r (d ∙ ap (λ x. Some (ActLine run.timeline.now.time x)) f)
+call_stops w N P n k instances.WrongArguments run v L instance h c f e begun i r d =
+    wrong_stops N P n k.name run v L instance h c e begun r (d ∙ ap (λ x. Some (ActLine run.timeline.now.time x)) f)
+call_stops w N P n k instances.TooManyNodes run v L instance h c f e begun i r d =
+    subst (IsStoppedIn N P L run.timeline.most instance n run.report.bytes.items) (sym e)
+    (stopped_in N P L instance n h run run (Other (TooMany kinds.Nodes 1000000)) c r.played refl
+    (refl, refl, instance_fails w N P k f.action run L instance h (too_many_nodes 1000000) f.is i r d (call_too_large w k f)) tt)
+call_stops w N P n k (instances.Literal span) run v L instance h c f e begun i r d =
+    subst (IsStoppedIn N P L run.timeline.most instance n run.report.bytes.items) (sym e)
+    (stopped_in N P L instance n h run run (Other (Literal texts.Domain span.start span.«end»)) c r.played refl
+    (instance_fails w N P k f.action run L instance h (no_number span.start span.«end») f.is i r d (call_unfit w k span f)) tt)
+call_stops w N P n k instances.Memory run v L instance h c f e begun i r d = absurd e
 
 pub call_halts_in : (w : Pair) (N : Labels) (P : Problem) (n : ℕ) (k : Call) (fault : InstanceFault) (run : Run) (halt : Halt) → CanGoOn P run.timeline → RefusesCall IsFrac64 w.domain k.name (called_of w.domain w.problem k.name k.args) fault → CallHalts fault n k.name halt → HaltsInAct w N P n k run run halt
 call_halts_in w N P n k fault run (Refused v) c f e = record {
-  stops = λ L h begun p q d. call_stops w N P n k fault run v L h c f e begun p q d;
+  stops = λ L instance h begun i r d. call_stops w N P n k fault run v L instance h c f e begun i r d;
 }
-call_halts_in w N P n k fault run Memory c f e = record { stops = λ L h begun p q d. tt }
+call_halts_in w N P n k fault run Memory c f e = record { stops = λ L instance h begun i r d. tt }
 
-act_names : (action : Action) (n : ℕ) (v : View) (b : Breach Frac64) (label : List ℕ) → label ≡ action.label → StopsAct IsFrac64 action n v.state b → BreachNames n label b
-act_names action n v (breaches.Precondition line whose) label e s = (s.line_is, s.label_is ∙ sym e)
-act_names action n v (breaches.Conflict f) label e s = tt
-act_names action n v (breaches.NoValue f) label e s = tt
-act_names action n v (breaches.UnknownAction line name) label e s = absurd s
-act_names action n v (breaches.WrongArguments line name) label e s = absurd s
-act_names action n v (breaches.TimeGoesBack line) label e s = s
-act_names action n v (breaches.AfterEnd line) label e s = s
-act_names action n v (breaches.Repeats x) label e s = tt
-act_names action n v (breaches.Unsettled x) label e s = tt
-act_names action n v (breaches.Coupled x y) label e s = tt
-act_names action n v (breaches.NoFirstMoment x t) label e s = tt
-act_names action n v breaches.Goal label e s = tt
+-- what the action asks fails
+act_fails : (w : Pair) (N : Labels) (P : Problem) (k : Call) (action : Action) (run : Run) (L : Plan) (instance : ℕ → List Test) (h : List Part) (test : Test) → IsInstance IsFrac64 w.domain k.name (called_of w.domain w.problem k.name k.args) action → instance run.timeline.now.acted ≡ call_tests w k → IsReached N P L instance run.timeline.now.acted run.timeline.now.time h run.timeline run.report.bytes.items → next_line L run.timeline.now ≡ Some (ActLine run.timeline.now.time (Instance action)) → FirstFailing IsFrac64 (act_tests run.timeline.now.acted action run.timeline.now.state) test → FirstFailing IsFrac64 (asked P L run.timeline.most instance run.timeline.entries run.timeline.now) test
+act_fails w N P k action run L instance h test i n r d f =
+    due_fails N P L instance h run.timeline run.report.bytes.items (Instance action) test r d
+    (fails_right (instance run.timeline.now.acted) (act_tests run.timeline.now.acted action run.timeline.now.state) test (subst (AllPass IsFrac64) (sym n) (call_passes w k action i)) f)
 
-act_limit : (P : Problem) (L : Plan) (most : ℕ) (h : List Part) (action : Action) (v : View) (l : Limit Frac64) → v ≡ view_of P h → IsDue P L v (Instance action) → UnfitAct fraction_of IsFrac64 action v.state l → LimitStands P L most h l
-act_limit P L most h action v (limits.Number w) e d u =
-    inr (inl (subst (λ (x : View). IsActUnfit P L x w) e (record { action = action; due = d; first = u })))
-act_limit P L most h action v (limits.Happenings n) e d u = absurd u
-act_limit P L most h action v (limits.Nonlinear owner c) e d u = u
+act_names : (action : Action) (n : ℕ) (s : State) (b : Breach Frac64) (label : List ℕ) → label ≡ action.label → BreaksAct action n s b → BreachNames n label b
+act_names action n s (breaches.Precondition line whose) label e r = (r.line_is, r.label_is ∙ sym e)
+act_names action n s (breaches.Conflict f) label e r = tt
+act_names action n s (breaches.NoValue f) label e r = tt
+act_names action n s (breaches.UnknownAction line name) label e r = absurd r
+act_names action n s (breaches.WrongArguments line name) label e r = absurd r
+act_names action n s (breaches.TimeGoesBack line) label e r = r
+act_names action n s (breaches.AfterEnd line) label e r = r
+act_names action n s (breaches.Repeats x) label e r = tt
+act_names action n s (breaches.Unsettled x) label e r = tt
+act_names action n s (breaches.Coupled x y) label e r = tt
+act_names action n s (breaches.NoFirstMoment x t) label e r = tt
+act_names action n s breaches.Goal label e r = tt
 
-act_stops : (N : Labels) (P : Problem) (n : ℕ) (action : Action) (old new : Run) (stop : Stop Frac64) (L : Plan) (h : List Part) → CanGoOn P old.timeline → BreachExactly {A = Unit {0}} (BreaksAct IsFrac64 action n old.timeline) (Err stop) → LimitExactly {A = Unit {0}} (LimitsAct fraction_of IsFrac64 action old.timeline) (Err stop) → new.report.bytes.items ≡ old.report.bytes.items → HasBegun L → IsPlayed N P L h old.timeline old.report.bytes.items → IsPresent P old.timeline.now → next_line L old.timeline.now ≡ Some (ActLine old.timeline.now.time (Instance action)) → StopsIn N P L old.timeline.most n new.report.bytes.items (stop_halt stop)
-act_stops N P n action old new (stops.Breach b) L h c b' l' r begun p q d =
-    stopped_in N P L n h old new (Invalid b) c p r
-    (breaks_at P L h old.timeline.now b begun p.prefix p.now (act_breaks fraction_of IsFrac64 P L old.timeline action n b q d b'))
-    (λ _. act_clear N P L h action old.timeline old.report.bytes.items c.going p q.moment d l')
-    (act_names action n old.timeline.now b (called_label (next_line L old.timeline.now)) (ap called_label d) b'.stands)
-act_stops N P n action old new (stops.Limit l) L h c b' l' r begun p q d =
-    stopped_in N P L n h old new (Beyond l) c p r
-    (act_limit P L old.timeline.most h action old.timeline.now l p.now (record { present = q; due = d }) l'.reached) (λ n. absurd n) tt
-act_stops N P n action old new stops.Ended L h c b' l' r begun p q d = tt
-act_stops N P n action old new stops.Memory L h c b' l' r begun p q d = tt
+act_stops : (w : Pair) (N : Labels) (P : Problem) (n : ℕ) (k : Call) (action : Action) (old new : Run) (stop : Stop Frac64) (L : Plan) (instance : ℕ → List Test) (h : List Part) → CanGoOn P old.timeline → IsInstance IsFrac64 w.domain k.name (called_of w.domain w.problem k.name k.args) action → ActTold {A = Unit {0}} fraction_of IsFrac64 P action n old.timeline new.timeline (Err stop) → new.report.bytes.items ≡ old.report.bytes.items → HasBegun L → instance old.timeline.now.acted ≡ call_tests w k → IsReached N P L instance old.timeline.now.acted old.timeline.now.time h old.timeline old.report.bytes.items → next_line L old.timeline.now ≡ Some (ActLine old.timeline.now.time (Instance action)) → StopsIn N P L old.timeline.most instance n new.report.bytes.items (stop_halt stop)
+act_stops w N P n k action old new (stops.Breach b) L instance h c i t r begun m q d =
+    stopped_in N P L instance n h old new (Invalid b) c q.played r
+    (broken_at N P L instance h old.timeline old.report.bytes.items q.played b begun (act_breaks fraction_of P L old.timeline action n b q.present d t.means)
+    (and_then (breach_of fraction_of old.timeline.now.acted b) (λ x. FirstFailing IsFrac64 (act_tests old.timeline.now.acted action old.timeline.now.state) (breach x)) (λ x. FirstFailing IsFrac64 (asked P L old.timeline.most instance old.timeline.entries old.timeline.now) (breach x))
+    (λ x f. act_fails w N P k action old L instance h (breach x) i m q d f) t.first))
+    (act_names action n old.timeline.now.state b (called_label (next_line L old.timeline.now)) (ap called_label d) t.means)
+act_stops w N P n k action old new (stops.Limit l) L instance h c i t r begun m q d =
+    stopped_in N P L instance n h old new (Beyond l) c q.played r
+    (fails_at N P L instance h old.timeline old.report.bytes.items q.played (of_limit fraction_of l) (act_fails w N P k action old L instance h (of_limit fraction_of l) i m q d t.first)) tt
+act_stops w N P n k action old new stops.Ended L instance h c i t r begun m q d = tt
+act_stops w N P n k action old new stops.Memory L instance h c i t r begun m q d = tt
 
-in_act : (w : Pair) (N : Labels) (P : Problem) (L : Plan) (most n acted : ℕ) (k : Call) (report : List ℕ) (halt : Halt) → StopsIn N P L most n report halt → StopsInAct w N P L most n acted k report halt
-in_act w N P L most n acted k report (Refused v) s = inl s
-in_act w N P L most n acted k report Memory s = tt
-
-pub act_halts_in : (w : Pair) (N : Labels) (P : Problem) (n : ℕ) (k : Call) (action : Action) (old new : Run) (stop : Stop Frac64) (halt : Halt) → CanGoOn P old.timeline → called_of w.domain w.problem k.name k.args ≡ Instance action → halt ≡ stop_halt stop → BreachExactly {A = Unit {0}} (BreaksAct IsFrac64 action n old.timeline) (Err stop) → LimitExactly {A = Unit {0}} (LimitsAct fraction_of IsFrac64 action old.timeline) (Err stop) → new.report.bytes.items ≡ old.report.bytes.items → HaltsInAct w N P n k old new halt
-act_halts_in w N P n k action old new stop halt c i e b' l' r = record {
-  stops = λ L h begun p q d.
-      in_act w N P L old.timeline.most n old.timeline.now.acted k new.report.bytes.items halt
-      (subst (StopsIn N P L old.timeline.most n new.report.bytes.items) (sym e)
-      (act_stops N P n action old new stop L h c b' l' r begun p q (d ∙ ap (λ x. Some (ActLine old.timeline.now.time x)) i)));
+pub act_halts_in : (w : Pair) (N : Labels) (P : Problem) (n : ℕ) (k : Call) (action : Action) (old new : Run) (stop : Stop Frac64) (halt : Halt) → CanGoOn P old.timeline → IsInstance IsFrac64 w.domain k.name (called_of w.domain w.problem k.name k.args) action → halt ≡ stop_halt stop → ActTold {A = Unit {0}} fraction_of IsFrac64 P action n old.timeline new.timeline (Err stop) → new.report.bytes.items ≡ old.report.bytes.items → HaltsInAct w N P n k old new halt
+act_halts_in w N P n k action old new stop halt c i e t r = record {
+  stops = λ L instance h begun m q d.
+      subst (StopsIn N P L old.timeline.most instance n new.report.bytes.items) (sym e)
+      (act_stops w N P n k action old new stop L instance h c i t r begun m q (d ∙ ap (λ x. Some (ActLine old.timeline.now.time x)) i.is));
 }

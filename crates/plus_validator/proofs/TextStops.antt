@@ -27,49 +27,106 @@ use Rattle.plus_plan.specs.declared.faults.PlanFault.TheVariants as faults
 use Rattle.plus_plan.specs.Cut.{lines_of, next_line}
 use Rattle.plus_plan.specs.Lines.{numbered}
 use Rattle.plus_plan.specs.Answers.{IsLineAt, IsRefusedAt}
-use Rattle.plus_timeline.specs.Tests.{breach_of}
+use Rattle.plus_timeline.specs.Tests as tests
+use Rattle.plus_timeline.specs.Tests.{Test, breach_of}
 use Rattle.plus_report.specs.declared.verdicts.Verdict.{Verdict}
 use Rattle.plus_report.specs.declared.verdicts.Verdict.TheVariants.{Valid, Invalid, Beyond, Other}
+use Rattle.plus_report.specs.declared.refusals.Early.{Early}
+use Rattle.plus_report.specs.declared.refusals.Early.TheVariants as early
 use Rattle.plus_report.specs.declared.refusals.Early.TheVariants.{BadLine, LineTooLong}
+use Rattle.plus_report.specs.declared.refusals.Text.TheVariants as texts
 use Rattle.plus_validator.specs.declared.halt.Halt.{Halt}
 use Rattle.plus_validator.specs.declared.halt.Halt.TheVariants.{Refused, Memory}
 use Rattle.plus_validator.specs.declared.run.Run.{Run}
 use Rattle.plus_validator.specs.Halts.{line_halt}
-use Rattle.plus_validator.specs.Plans.{Pair, line_meant, lines_meant, plan_of}
+use Rattle.plus_validator.specs.Plans.{Pair, line_meant, lines_meant, plan_of, reading_of}
 use Rattle.plus_validator.specs.Standing.{CanGoOn}
-use Rattle.plus_validator.specs.Playing.{Readied, ReadsAll}
-use Rattle.plus_validator.specs.Refused.{Stands, IsClear, AreWorked, NamesFault, IsWaiting, TimeFault, after_end, no_value, goes_back, cut_verdict, NonePlays, BreachRefutes, Refutes, IsNoLimit, IsBeyondCall, number_in}
-use Rattle.plus_tree.specs.declared.trees.Call.{Call}
-use Rattle.plus_validator.specs.Stopped.{IsReported, IsStoppedIn, IsStoppedOver, StopsOnWay, StopsInLine, HaltsInLine, HaltsAtEnd, IsStoppedInText, StopsInText, HaltsInLines, HaltsInText}
+use Rattle.plus_validator.specs.Playing.{ReadiedFor, ReadsAll}
+use Rattle.plus_validator.specs.Refused.{IsBroken, StandsEarly, Stands, AreWorked, NamesFault, IsWaiting, TimeFault, after_end, no_value, goes_back, cut_verdict, NonePlays, BreachRefutes, Refutes, IsOfText, IsNoLimit, number_in}
+use Rattle.plus_validator.specs.Stopped.{IsReported, StopsOnWay, StopsInLine, HaltsInLine, HaltsAtEnd, IsStoppedInText, StopsInText, HaltsInLines, HaltsInText}
 use Rattle.plus_validator.proofs.Played.{ReadsTo}
-use Rattle.plus_validator.proofs.Texts.{plan_of-append}
 use Rattle.plus_validator.proofs.Stopping.{reported}
 use Rattle.plus_validator.proofs.Waiting.{waits}
-use Rattle.plus_validator.proofs.Clear.{clear_waiting, clear_grows, unbegun_rest}
+use Rattle.plus_validator.proofs.Clear.{clear_grows, unbegun_rest}
+use Rattle.plus_validator.specs.Asking.{IsClear, NoneFails, asked_at, instances_of}
+use Rattle.plus_validator.proofs.CalledTests.{instances_agree}
+use Rattle.plus_validator.proofs.Asking.{none_fails}
 
 -- ---- no prefix is longer
 
-pub waiting_longest : (d : Pair) (P : Problem) (ls : List Line) (h : List Part) → Prefix P (plan_of d ls false) h → IsWaiting P (plan_of d ls false) h → IsLongest P (plan_of d ls false) h
-waiting_longest d P ls h p (inl n) = unbegun_is_longest P (plan_of d ls false) h p (λ b. elim b [ inl s ↦ s n | inr t ↦ (let e : false ≡ true = t in cc e) ])
-waiting_longest d P ls h p (inr w) = worked_is_longest P (plan_of d ls false) h p w
+pub waiting_longest : (d : Pair) (P : Problem) (ls : List Line) (most : ℕ) (instance : ℕ → List Test) (h : List Part) → Prefix P (plan_of d ls false) h → IsWaiting P (plan_of d ls false) most instance h → IsLongest P (plan_of d ls false) h
+waiting_longest d P ls most instance h p (inl n) = unbegun_is_longest P (plan_of d ls false) h p (λ b. elim b [ inl s ↦ s n | inr t ↦ (let e : false ≡ true = t in cc e) ])
+waiting_longest d P ls most instance h p (inr w) = worked_is_longest P (plan_of d ls false) h p w.worked
 
-breach_longest : (P : Problem) (L : Plan) (h : List Part) (o : Option breach.Breach) → IsSomeAnd o (Breaks P L h) → IsLongest P L h
-breach_longest P L h None s = absurd s
-breach_longest P L h (Some b) s = breach_is_longest P L h b s
+breach_longest : (P : Problem) (L : Plan) (most : ℕ) (instance : ℕ → List Test) (h : List Part) (o : Option breach.Breach) → IsSomeAnd o (IsBroken P L most instance h) → IsLongest P L h
+breach_longest P L most instance h None s = absurd s
+breach_longest P L most instance h (Some b) s = breach_is_longest P L h b s.breaks
 
-stands_longest : (P : Problem) (L : Plan) (most : ℕ) (h : List Part) (v : Verdict Frac64) → Stands P L most h v → IsNoLimit v → IsLongest P L h
-stands_longest P L most h Valid s n = absurd s
-stands_longest P L most h (Invalid b) s n = breach_longest P L h _ s
-stands_longest P L most h (Beyond l) s n = absurd n
-stands_longest P L most h (Other e) s n = absurd s
+early_is_limit : (P : Problem) (L : Plan) (most : ℕ) (instance : ℕ → List Test) (h : List Part) (e : Early) → StandsEarly P L most instance h e → IsOfText e → ⊥
+early_is_limit P L most instance h (early.TooMany kind n) s n' = n'
+early_is_limit P L most instance h (early.Literal texts.Domain start last) s n = n
+early_is_limit P L most instance h (early.Literal texts.Problem start last) s n = s
+early_is_limit P L most instance h (early.Literal texts.Plan start last) s n = s
+early_is_limit P L most instance h (early.Literal texts.TranslatedDomain start last) s n = s
+early_is_limit P L most instance h (early.Literal texts.TranslatedProblem start last) s n = s
+early_is_limit P L most instance h (early.BadText text start last word) s n = s
+early_is_limit P L most instance h (early.BadLine line start last) s n = s
+early_is_limit P L most instance h (early.TooLong text) s n = s
+early_is_limit P L most instance h (early.Depth text at) s n = s
+early_is_limit P L most instance h early.DepthOut s n = s
+early_is_limit P L most instance h (early.LineTooLong line) s n = s
+
+stands_longest : (P : Problem) (L : Plan) (most : ℕ) (instance : ℕ → List Test) (h : List Part) (v : Verdict Frac64) → Stands P L most instance h v → IsNoLimit v → IsLongest P L h
+stands_longest P L most instance h Valid s n = absurd s
+stands_longest P L most instance h (Invalid b) s n = breach_longest P L most instance h _ s
+stands_longest P L most instance h (Beyond l) s n = absurd n
+stands_longest P L most instance h (Other e) s n = absurd (early_is_limit P L most instance h e s n)
+
+-- where a verdict stands, a test fails
+some_fails : (P : Problem) (L : Plan) (most : ℕ) (instance : ℕ → List Test) (h : List Part) (o : Option breach.Breach) → IsSomeAnd o (IsBroken P L most instance h) → NoneFails P L most instance h → ⊥
+some_fails P L most instance h None s n = s
+some_fails P L most instance h (Some b) s n = none_fails (asked_at P L most instance h) (tests.breach b) n s.first
+
+early_fails : (P : Problem) (L : Plan) (most : ℕ) (instance : ℕ → List Test) (h : List Part) (e : Early) → StandsEarly P L most instance h e → NoneFails P L most instance h → ⊥
+early_fails P L most instance h (early.TooMany kind n) s a = none_fails (asked_at P L most instance h) (tests.too_many_nodes n) a s.2
+early_fails P L most instance h (early.Literal texts.Domain start last) s a = none_fails (asked_at P L most instance h) (tests.no_number start last) a s
+early_fails P L most instance h (early.Literal texts.Problem start last) s a = s
+early_fails P L most instance h (early.Literal texts.Plan start last) s a = s
+early_fails P L most instance h (early.Literal texts.TranslatedDomain start last) s a = s
+early_fails P L most instance h (early.Literal texts.TranslatedProblem start last) s a = s
+early_fails P L most instance h (early.BadText text start last word) s a = s
+early_fails P L most instance h (early.BadLine line start last) s a = s
+early_fails P L most instance h (early.TooLong text) s a = s
+early_fails P L most instance h (early.Depth text at) s a = s
+early_fails P L most instance h early.DepthOut s a = s
+early_fails P L most instance h (early.LineTooLong line) s a = s
+
+stands_fails : (P : Problem) (L : Plan) (most : ℕ) (instance : ℕ → List Test) (h : List Part) (v : Verdict Frac64) → Stands P L most instance h v → NoneFails P L most instance h → ⊥
+stands_fails P L most instance h Valid s n = s
+stands_fails P L most instance h (Invalid b) s n = some_fails P L most instance h _ s n
+stands_fails P L most instance h (Beyond l) s n = none_fails (asked_at P L most instance h) (tests.of_limit fraction_of l) n s
+stands_fails P L most instance h (Other e) s n = early_fails P L most instance h e s n
+
+-- ---- no longer prefix is one before which no limit stands
+
+begins_or : (P : Problem) (L : Plan) (most : ℕ) (instance : ℕ → List Test) (g h rest : List Part) (v : Verdict Frac64) → Prefix P L h → IsClear P L most instance g → Stands P L most instance h v → g ≡ h ++ rest → Begins g h
+begins_or P L most instance g h [] v p c s e = record { rest = []; is = sym (append-nil h) ∙ sym e ∙ sym (append-nil g) }
+begins_or P L most instance g h (x ∷ rest) v p c s e = absurd (stands_fails P L most instance h v s (c h x rest p e))
+
+-- what is played before a verdict stands is a beginning of where it stands
+begins_by : (P : Problem) (L : Plan) (most : ℕ) (instance : ℕ → List Test) (g h : List Part) (v : Verdict Frac64) → Prefix P L g → IsClear P L most instance g → Prefix P L h → Stands P L most instance h v → Begins g h
+begins_by P L most instance g h v a c p s = elim (one_path P L g h a p) [
+  | inl b ↦ b
+  | inr b ↦ begins_or P L most instance g h b.rest v p c s b.is
+]
 
 -- ---- no plan that begins so has a trajectory
 
-lines_meant-more : (d : Pair) (xs ys : List Line) → lines_meant d (xs ++ ys) ≡ lines_meant d xs ++ lines_meant d ys
+pub lines_meant-more : (d : Pair) (xs ys : List Line) → lines_meant d (xs ++ ys) ≡ lines_meant d xs ++ lines_meant d ys
 lines_meant-more d [] ys = refl
 lines_meant-more d (x ∷ xs) ys = ap (λ t. line_meant d x ++ t) (lines_meant-more d xs ys) ∙ sym (append_assoc (line_meant d x) (lines_meant d xs) (lines_meant d ys))
 
-goes_on : (d : Pair) (ls more : List Line) (c c' : Bool) → GoesOnFrom (plan_of d ls c) (plan_of d (ls ++ more) c')
+pub goes_on : (d : Pair) (ls more : List Line) (c c' : Bool) → GoesOnFrom (plan_of d ls c) (plan_of d (ls ++ more) c')
 goes_on d ls more c c' = record { more = lines_meant d more; lines = lines_meant-more d ls more }
 
 -- where no plan plays, the verdict tells no more than that
@@ -96,41 +153,41 @@ not_goal P L h b c s e =
     let f : false ≡ true = sym c ∙ k in
     cc f
 
-none_after_breach : (d : Pair) (P : Problem) (ls : List Line) (h : List Part) (o : Option breach.Breach) → IsSomeAnd o (Breaks P (plan_of d ls false) h) → NonePlays d P ls
-none_after_breach d P ls h None s = absurd s
-none_after_breach d P ls h (Some b) s =
-    λ more closed h' t. breach_is_final P (plan_of d ls false) h b s (not_goal P (plan_of d ls false) h b refl s) (plan_of d (ls ++ more) closed) h' (goes_on d ls more false closed) t
+none_after_breach : (d : Pair) (P : Problem) (ls : List Line) (most : ℕ) (instance : ℕ → List Test) (h : List Part) (o : Option breach.Breach) → IsSomeAnd o (IsBroken P (plan_of d ls false) most instance h) → NonePlays d P ls
+none_after_breach d P ls most instance h None s = absurd s
+none_after_breach d P ls most instance h (Some b) s =
+    λ more closed h' t. breach_is_final P (plan_of d ls false) h b s.breaks (not_goal P (plan_of d ls false) h b refl s.breaks) (plan_of d (ls ++ more) closed) h' (goes_on d ls more false closed) t
 
 -- of lines that are not all
-stands_refutes : (d : Pair) (P : Problem) (ls : List Line) (most : ℕ) (h : List Part) (v : Verdict Frac64) → Stands P (plan_of d ls false) most h v → Refutes d P ls v
-stands_refutes d P ls most h Valid s = absurd s
-stands_refutes d P ls most h (Invalid b) s = refutes d P ls (Invalid b) (none_after_breach d P ls h _ s)
-stands_refutes d P ls most h (Beyond l) s = tt
-stands_refutes d P ls most h (Other e) s = tt
+stands_refutes : (d : Pair) (P : Problem) (ls : List Line) (most : ℕ) (instance : ℕ → List Test) (h : List Part) (v : Verdict Frac64) → Stands P (plan_of d ls false) most instance h v → Refutes d P ls v
+stands_refutes d P ls most instance h Valid s = absurd s
+stands_refutes d P ls most instance h (Invalid b) s = refutes d P ls (Invalid b) (none_after_breach d P ls most instance h _ s)
+stands_refutes d P ls most instance h (Beyond l) s = tt
+stands_refutes d P ls most instance h (Other e) s = tt
 
 none_plays_on : (d : Pair) (P : Problem) (ls : List Line) (h : List Part) (b : breach.Breach) → Breaks P (plan_of d ls true) h b → b ≢ breach.Goal → NonePlays d P ls
 none_plays_on d P ls h b s n = λ more closed h' t. breach_is_final P (plan_of d ls true) h b s n (plan_of d (ls ++ more) closed) h' (goes_on d ls more true closed) t
 
 -- of all lines
-end_breach : (d : Pair) (P : Problem) (ls : List Line) (h : List Part) (acted : ℕ) (b : Breach Frac64) → IsSomeAnd (breach_of fraction_of acted b) (Breaks P (plan_of d ls true) h) → BreachRefutes d P ls b
-end_breach d P ls h acted (breaches.UnknownAction line name) s = none_plays_on d P ls h (breach.UnknownAction acted name) s (λ e. cc e)
-end_breach d P ls h acted (breaches.WrongArguments line name) s = none_plays_on d P ls h (breach.WrongArguments acted name) s (λ e. cc e)
-end_breach d P ls h acted (breaches.Precondition line whose) s = none_plays_on d P ls h (breach.Precondition acted) s (λ e. cc e)
-end_breach d P ls h acted (breaches.TimeGoesBack line) s = absurd s
-end_breach d P ls h acted (breaches.AfterEnd line) s = absurd s
-end_breach d P ls h acted (breaches.Conflict f) s = none_plays_on d P ls h (breach.Conflict f.0) s (λ e. cc e)
-end_breach d P ls h acted (breaches.NoValue f) s = none_plays_on d P ls h (breach.NoValue f.0) s (λ e. cc e)
-end_breach d P ls h acted (breaches.Repeats x) s = none_plays_on d P ls h (breach.Repeats x.0) s (λ e. cc e)
-end_breach d P ls h acted (breaches.Unsettled x) s = none_plays_on d P ls h (breach.Unsettled x.0) s (λ e. cc e)
-end_breach d P ls h acted (breaches.Coupled x y) s = none_plays_on d P ls h (breach.Coupled x.0 y.0) s (λ e. cc e)
-end_breach d P ls h acted (breaches.NoFirstMoment x t) s = none_plays_on d P ls h (breach.NoFirstMoment x.0 (fraction_of t)) s (λ e. cc e)
-end_breach d P ls h acted breaches.Goal s = λ h' t. breach_is_no_trajectory P (plan_of d ls true) h h' breach.Goal s t
+end_breach : (d : Pair) (P : Problem) (ls : List Line) (most : ℕ) (instance : ℕ → List Test) (h : List Part) (acted : ℕ) (b : Breach Frac64) → IsSomeAnd (breach_of fraction_of acted b) (IsBroken P (plan_of d ls true) most instance h) → BreachRefutes d P ls b
+end_breach d P ls most instance h acted (breaches.UnknownAction line name) s = none_plays_on d P ls h (breach.UnknownAction acted name) s.breaks (λ e. cc e)
+end_breach d P ls most instance h acted (breaches.WrongArguments line name) s = none_plays_on d P ls h (breach.WrongArguments acted name) s.breaks (λ e. cc e)
+end_breach d P ls most instance h acted (breaches.Precondition line whose) s = none_plays_on d P ls h (breach.Precondition acted) s.breaks (λ e. cc e)
+end_breach d P ls most instance h acted (breaches.TimeGoesBack line) s = absurd s
+end_breach d P ls most instance h acted (breaches.AfterEnd line) s = absurd s
+end_breach d P ls most instance h acted (breaches.Conflict f) s = none_plays_on d P ls h (breach.Conflict f.0) s.breaks (λ e. cc e)
+end_breach d P ls most instance h acted (breaches.NoValue f) s = none_plays_on d P ls h (breach.NoValue f.0) s.breaks (λ e. cc e)
+end_breach d P ls most instance h acted (breaches.Repeats x) s = none_plays_on d P ls h (breach.Repeats x.0) s.breaks (λ e. cc e)
+end_breach d P ls most instance h acted (breaches.Unsettled x) s = none_plays_on d P ls h (breach.Unsettled x.0) s.breaks (λ e. cc e)
+end_breach d P ls most instance h acted (breaches.Coupled x y) s = none_plays_on d P ls h (breach.Coupled x.0 y.0) s.breaks (λ e. cc e)
+end_breach d P ls most instance h acted (breaches.NoFirstMoment x t) s = none_plays_on d P ls h (breach.NoFirstMoment x.0 (fraction_of t)) s.breaks (λ e. cc e)
+end_breach d P ls most instance h acted breaches.Goal s = λ h' t. breach_is_no_trajectory P (plan_of d ls true) h h' breach.Goal s.breaks t
 
-end_refutes : (d : Pair) (P : Problem) (ls : List Line) (most : ℕ) (h : List Part) (v : Verdict Frac64) → Stands P (plan_of d ls true) most h v → Refutes d P ls v
-end_refutes d P ls most h Valid s = absurd s
-end_refutes d P ls most h (Invalid b) s = end_breach d P ls h (view_of P h).acted b s
-end_refutes d P ls most h (Beyond l) s = tt
-end_refutes d P ls most h (Other e) s = tt
+end_refutes : (d : Pair) (P : Problem) (ls : List Line) (most : ℕ) (instance : ℕ → List Test) (h : List Part) (v : Verdict Frac64) → Stands P (plan_of d ls true) most instance h v → Refutes d P ls v
+end_refutes d P ls most instance h Valid s = absurd s
+end_refutes d P ls most instance h (Invalid b) s = end_breach d P ls most instance h (view_of P h).acted b s
+end_refutes d P ls most instance h (Beyond l) s = tt
+end_refutes d P ls most instance h (Other e) s = tt
 
 -- of a line that cannot be played
 none_after_line : (d : Pair) (P : Problem) (ls : List Line) (line : Line) (h : List Part) (meant : model.Line) (b : LineBreach) → line_meant d line ≡ meant ∷ [] → BreaksBy P (plan_of d ls false) h meant b → NonePlays d P (ls ++ line ∷ [])
@@ -148,28 +205,14 @@ time_refutes d P ls line h meant time n v e (goes_back b f k) = refutes d P (ls 
 
 -- ---- the lines before are worked on the way
 
-split_or : (P : Problem) (L : Plan) (most : ℕ) (g h rest : List Part) (v : Verdict Frac64) → Prefix P L h → IsClear P L most g → Stands P L most h v → (IsNoLimit v → Begins g h) → g ≡ h ++ rest → Begins g h
-split_or P L most g h [] v p c s n e = record { rest = []; is = sym (append-nil h) ∙ sym e ∙ sym (append-nil g) }
-split_or P L most g h (x ∷ rest) Valid p c s n e = absurd s
-split_or P L most g h (x ∷ rest) (Invalid b) p c s n e = n tt
-split_or P L most g h (x ∷ rest) (Beyond l) p c s n e = absurd (c h x rest p e l s)
-split_or P L most g h (x ∷ rest) (Other y) p c s n e = absurd s
-
--- what is played before a verdict stands is a beginning of where it stands
-begins_by : (P : Problem) (L : Plan) (most : ℕ) (g h : List Part) (v : Verdict Frac64) → Prefix P L g → IsClear P L most g → Prefix P L h → Stands P L most h v → Begins g h
-begins_by P L most g h v a c p s = elim (one_path P L g h a p) [
-  | inl b ↦ b
-  | inr b ↦ split_or P L most g h b.rest v p c s (λ n. (stands_longest P L most h v s n).longest g a) b.is
-]
-
 unbegun_is : (P : Problem) (L : Plan) (h : List Part) → (HasBegun L → ⊥) → Prefix P L h → h ≡ first_part P ∷ []
 unbegun_is P L h n p = p.begins ∙ ap (λ r. first_part P ∷ r) (unbegun_rest P L (first_view P) p.rest n p.follow)
 
-some_more : (xs ys : List model.Line) → xs ++ ys ≡ [] → xs ≡ []
+pub some_more : (xs ys : List model.Line) → xs ++ ys ≡ [] → xs ≡ []
 some_more [] ys e = refl
 some_more (x ∷ xs) ys e = cc e
 
-begun_more : (d : Pair) (ls more : List Line) (closed : Bool) → HasBegun (plan_of d ls false) → HasBegun (plan_of d (ls ++ more) closed)
+pub begun_more : (d : Pair) (ls more : List Line) (closed : Bool) → HasBegun (plan_of d ls false) → HasBegun (plan_of d (ls ++ more) closed)
 begun_more d ls more closed (inl n) = inl (λ e. n (some_more (lines_meant d ls) (lines_meant d more) (sym (lines_meant-more d ls more) ∙ e)))
 begun_more d ls more closed (inr t) = let f : false ≡ true = t in absurd (cc f)
 
@@ -178,7 +221,7 @@ is_begun [] = inr (λ b. elim b [ inl n ↦ n refl | inr t ↦ (let f : false �
 is_begun (l ∷ ls) = inl (inl (λ e. cc e))
 
 -- the lines read, and the same with more
-are_worked : (d : Pair) (P : Problem) (ls more : List Line) (closed : Bool) (most : ℕ) (g h : List Part) (v : Verdict Frac64) → Prefix P (plan_of d ls false) g → IsClear P (plan_of d ls false) most g → IsWaiting P (plan_of d ls false) g → Prefix P (plan_of d (ls ++ more) closed) h → Stands P (plan_of d (ls ++ more) closed) most h v → (HasBegun (plan_of d (ls ++ more) closed)) ⊎ (HasBegun (plan_of d (ls ++ more) closed) → ⊥) → AreWorked P (plan_of d ls false) h
+are_worked : (d : Pair) (P : Problem) (ls more : List Line) (closed : Bool) (most : ℕ) (g h : List Part) (v : Verdict Frac64) → Prefix P (plan_of d ls false) g → IsClear P (plan_of d ls false) most (instances_of d ls) g → IsWaiting P (plan_of d ls false) most (instances_of d ls) g → Prefix P (plan_of d (ls ++ more) closed) h → Stands P (plan_of d (ls ++ more) closed) most (instances_of d (ls ++ more)) h v → (HasBegun (plan_of d (ls ++ more) closed)) ⊎ (HasBegun (plan_of d (ls ++ more) closed) → ⊥) → AreWorked d P most ls h
 are_worked d P ls more closed most g h v a c w p s (inl b) =
     let L = plan_of d ls false in
     let M = plan_of d (ls ++ more) closed in
@@ -186,8 +229,8 @@ are_worked d P ls more closed most g h v a c w p s (inl b) =
       front = g;
       prefix = a;
       waits = w;
-      begins = begins_by P M most g h v (prefix_goes_on P L M g a (goes_on d ls more false closed) p.ordered b)
-          (clear_grows P L M most g a (goes_on d ls more false closed) c) p s;
+      begins = begins_by P M most (instances_of d (ls ++ more)) g h v (prefix_goes_on P L M g a (goes_on d ls more false closed) p.ordered b)
+          (clear_grows P L M most (instances_of d ls) (instances_of d (ls ++ more)) (goes_on d ls more false closed) (instances_agree d ls more) g a c) p s;
     }
 are_worked d P ls more closed most g h v a c w p s (inr n) = record {
   front = g;
@@ -199,48 +242,46 @@ are_worked d P ls more closed most g h v a c w p s (inr n) = record {
   };
 }
 
--- an instance over a limit is a limit, and refutes nothing
-beyond_is_limit : (d : Pair) (call : Call) (v : Verdict Frac64) → IsBeyondCall d call v → IsNoLimit v → ⊥
-beyond_is_limit d call v (inl b) n = subst IsNoLimit b.1 n
-beyond_is_limit d call v (inr b) n = subst IsNoLimit b.2 n
-
-beyond_refutes : (d : Pair) (P : Problem) (ls : List Line) (call : Call) (v : Verdict Frac64) → IsBeyondCall d call v → Refutes d P ls v
-beyond_refutes d P ls call v (inl b) = subst (Refutes d P ls) (sym b.1) tt
-beyond_refutes d P ls call v (inr b) = subst (Refutes d P ls) (sym b.2) tt
-
 -- ---- what the run leaves
 
 -- the report is that of the lines read, which are worked
-waiting_report : (d : Pair) (N : Labels) (P : Problem) (ls : List Line) (most : ℕ) (h : List Part) (run : Run) → CanGoOn P run.timeline → run.timeline.most ≡ most → Readied N P (plan_of d ls false) h run → IsReported N P (plan_of d ls false) most h run.report.bytes.items
+waiting_report : (d : Pair) (N : Labels) (P : Problem) (ls : List Line) (most : ℕ) (h : List Part) (run : Run) → CanGoOn P run.timeline → run.timeline.most ≡ most → ReadiedFor d N P ls h run → IsReported N P (plan_of d ls false) most (instances_of d ls) h run.report.bytes.items
 waiting_report d N P ls most h run c m r =
-    subst (λ k. IsReported N P (plan_of d ls false) k h run.report.bytes.items) m
-    (reported N P (plan_of d ls false) h run.timeline run.report.bytes.items run.report.bytes.items r.played c.within refl)
+    subst (λ k. IsReported N P (plan_of d ls false) k (instances_of d ls) h run.report.bytes.items) m
+    (reported N P (plan_of d ls false) (instances_of d ls) h run.timeline run.report.bytes.items run.report.bytes.items r.played c.within refl)
+
+waiting_for : (d : Pair) (N : Labels) (P : Problem) (ls : List Line) (most : ℕ) (h : List Part) (run : Run) → run.timeline.most ≡ most → ReadiedFor d N P ls h run → IsWaiting P (plan_of d ls false) most (instances_of d ls) h
+waiting_for d N P ls most h run m r =
+    subst (λ k. IsWaiting P (plan_of d ls false) k (instances_of d ls) h) m (waits N P (plan_of d ls false) (instances_of d ls) h run r)
 
 module _ (d : Pair) (N : Labels) (P : Problem) (text : List ℕ) (start run : Run) (number from : ℕ) (r : ReadsTo d N P text start number from run) where
   -- the verdict on a next line that is none
-  none_next : (fault : PlanFault) (v : Verdict Frac64) (more : Bool) (piece : List ℕ) (h : List Part) → numbered Timed number (lines_of (drop from text)) ≡ Err fault ∷ numbered Timed (number + 1) (lines_of (drop (next_line text from) text)) → NamesFault fault v → Refutes d P (r.lines_read ++ []) v → Readied N P (plan_of d [] false) h start → IsStoppedInText d N P start.timeline.most more text piece run.report.bytes.items v
+  none_next : (fault : PlanFault) (v : Verdict Frac64) (more : Bool) (piece : List ℕ) (h : List Part) → numbered Timed number (lines_of (drop from text)) ≡ Err fault ∷ numbered Timed (number + 1) (lines_of (drop (next_line text from) text)) → NamesFault fault v → Refutes d P (r.lines_read ++ []) v → ReadiedFor d N P [] h start → IsStoppedInText d N P start.timeline.most more text piece run.report.bytes.items v
   none_next fault v more piece h e n f ready =
       let a = r.ready h ready in
       let w = waiting_report d N P r.lines_read start.timeline.most a.0 run r.rests.can r.rests.most_is a.1 in
+      let k = waiting_for d N P r.lines_read start.timeline.most a.0 run r.rests.most_is a.1 in
+      let longest = waiting_longest d P r.lines_read start.timeline.most (instances_of d r.lines_read) a.0 w.prefix k in
       record {
         refusal = record {
           before = r.lines_read;
           rest = Err fault ∷ numbered Timed (number + 1) (lines_of (drop (next_line text from) text));
           read = r.said ∙ ap (λ t. map Ok r.lines_read ++ t) e;
-          plan = plan_of d r.lines_read false;
+          times = r.times;
+          reading = reading_of r.lines_read false;
           history = a.0;
           prefix = w.prefix;
           few = w.few;
           clear = w.clear;
-          alone = λ _. clear_waiting d P r.lines_read start.timeline.most a.0 w.prefix (waits N P (plan_of d r.lines_read false) a.0 run a.1);
-          cause = record { lines = refl; waits = waits N P (plan_of d r.lines_read false) a.0 run a.1; names = n };
-          longest = λ _. waiting_longest d P r.lines_read a.0 w.prefix (waits N P (plan_of d r.lines_read false) a.0 run a.1);
+          cause = record { reads = refl; waits = k; names = n };
+          furthest = λ other p c. longest.longest other p;
+          longest = λ _. longest;
           final = f;
         };
         written = w.written;
       }
 
-  bad_stops : (fault : PlanFault) (more : Bool) (piece : List ℕ) (h : List Part) → IsRefusedAt Timed number text from fault → Readied N P (plan_of d [] false) h start → StopsInText d N P start.timeline.most more text piece run.report.bytes.items (line_halt fault)
+  bad_stops : (fault : PlanFault) (more : Bool) (piece : List ℕ) (h : List Part) → IsRefusedAt Timed number text from fault → ReadiedFor d N P [] h start → StopsInText d N P start.timeline.most more text piece run.report.bytes.items (line_halt fault)
   bad_stops (faults.NotLine n begin last) more piece h f ready =
       none_next (faults.NotLine n begin last) (Other (BadLine n begin last)) more piece h
       (f.said ∙ ap (λ (x : Result Line PlanFault). x ∷ numbered Timed (number + 1) (lines_of (drop (next_line text from) text))) f.read) refl tt ready
@@ -255,66 +296,54 @@ module _ (d : Pair) (N : Labels) (P : Problem) (text : List ℕ) (start run : Ru
         subst (StopsInText d N P start.timeline.most more text piece run.report.bytes.items) (sym e) (bad_stops fault more piece h f ready);
   }
 
-  line_stops : (new : Run) (x : Line × ℕ) (halt : Halt) (more : Bool) (piece : List ℕ) (g : List Part) → IsReported N P (plan_of d r.lines_read false) start.timeline.most g run.report.bytes.items → IsWaiting P (plan_of d r.lines_read false) g → IsLineAt Timed number text from x → StopsInLine d N P (plan_of d r.lines_read false) start.timeline.most x.0 new.report.bytes.items halt → StopsInText d N P start.timeline.most more text piece new.report.bytes.items halt
+  line_stops : (new : Run) (x : Line × ℕ) (halt : Halt) (more : Bool) (piece : List ℕ) (g : List Part) → IsReported N P (plan_of d r.lines_read false) start.timeline.most (instances_of d r.lines_read) g run.report.bytes.items → IsWaiting P (plan_of d r.lines_read false) start.timeline.most (instances_of d r.lines_read) g → IsLineAt Timed number text from x → StopsInLine d N P r.lines_read start.timeline.most x.0 new.report.bytes.items halt → StopsInText d N P start.timeline.most more text piece new.report.bytes.items halt
   line_stops new x Memory more piece g ready w l s = tt
-  line_stops new x (Refused v) more piece g ready w l (inl b) = record {
-    refusal = record {
-      before = r.lines_read;
-      rest = Ok x.0 ∷ numbered Timed (number + 1) (lines_of (drop x.1 text));
-      read = r.said ∙ ap (λ t. map Ok r.lines_read ++ t) l.said;
-      plan = plan_of d r.lines_read false;
-      history = b.history;
-      prefix = b.reported.prefix;
-      few = b.reported.few;
-      clear = b.reported.clear;
-      alone = λ _. clear_waiting d P r.lines_read start.timeline.most b.history b.reported.prefix b.waits;
-      cause = inl (record { lines = refl; waits = b.waits; meant = b.meant; meant_is = b.meant_is; time = b.time; time_is = b.time_is; why = b.why });
-      longest = λ _. waiting_longest d P r.lines_read b.history b.reported.prefix b.waits;
-      final = time_refutes d P r.lines_read x.0 b.history b.meant b.time (number_in x.0) v b.meant_is b.why;
-    };
-    written = b.reported.written;
-  }
-  line_stops new x (Refused v) more piece g ready w l (inr (inr b)) =
-      let k = subst (λ (M : Plan). IsStoppedOver d N P M start.timeline.most (length (plan_of d r.lines_read false).lines) x.0 new.report.bytes.items v) (sym (plan_of-append d r.lines_read x.0 false)) b in
+  line_stops new x (Refused v) more piece g ready w l (inl b) =
+      let longest = waiting_longest d P r.lines_read start.timeline.most (instances_of d r.lines_read) b.history b.reported.prefix b.waits in
       record {
         refusal = record {
           before = r.lines_read;
           rest = Ok x.0 ∷ numbered Timed (number + 1) (lines_of (drop x.1 text));
           read = r.said ∙ ap (λ t. map Ok r.lines_read ++ t) l.said;
-          plan = plan_of d (r.lines_read ++ x.0 ∷ []) false;
-          history = k.history;
-          prefix = k.reported.prefix;
-          few = k.reported.few;
-          clear = k.reported.clear;
-          alone = λ n. absurd (beyond_is_limit d k.over.call v k.over.beyond n);
-          cause = inr (inr (record { lines = refl; over = k.over }));
-          longest = λ n. absurd (beyond_is_limit d k.over.call v k.over.beyond n);
-          final = beyond_refutes d P (r.lines_read ++ x.0 ∷ []) k.over.call v k.over.beyond;
+          times = r.times;
+          reading = reading_of r.lines_read false;
+          history = b.history;
+          prefix = b.reported.prefix;
+          few = b.reported.few;
+          clear = b.reported.clear;
+          cause = inl (record { reads = refl; waits = b.waits; meant = b.meant; meant_is = b.meant_is; time = b.time; time_is = b.time_is; why = b.why });
+          furthest = λ other p c. longest.longest other p;
+          longest = λ _. longest;
+          final = time_refutes d P r.lines_read x.0 b.history b.meant b.time (number_in x.0) v b.meant_is b.why;
         };
-        written = k.reported.written;
+        written = b.reported.written;
       }
-  line_stops new x (Refused v) more piece g ready w l (inr (inl b)) =
-      let k = subst (λ (M : Plan). IsStoppedIn N P M start.timeline.most (number_in x.0) new.report.bytes.items v) (sym (plan_of-append d r.lines_read x.0 false)) b in
+  line_stops new x (Refused v) more piece g ready w l (inr b) =
+      let k = b.stopped in
+      let ls = r.lines_read ++ x.0 ∷ [] in
       record {
         refusal = record {
           before = r.lines_read;
           rest = Ok x.0 ∷ numbered Timed (number + 1) (lines_of (drop x.1 text));
           read = r.said ∙ ap (λ t. map Ok r.lines_read ++ t) l.said;
-          plan = plan_of d (r.lines_read ++ x.0 ∷ []) false;
+          times = r.times;
+          reading = reading_of ls false;
           history = k.stopped.history;
           prefix = k.stopped.reported.prefix;
           few = k.stopped.reported.few;
           clear = k.stopped.reported.clear;
-          alone = k.stopped.alone;
-          cause = inr (inl (record {
-            lines = refl;
+          cause = inr (record {
+            reads = refl;
+            begun = b.begun;
+            value = b.value;
             worked = are_worked d P r.lines_read (x.0 ∷ []) false start.timeline.most g k.stopped.history v ready.prefix ready.clear w k.stopped.reported.prefix k.stopped.stands
-                (is_begun (lines_meant d (r.lines_read ++ x.0 ∷ [])));
+                (is_begun (lines_meant d ls));
             stands = k.stopped.stands;
             names = k.names;
-          }));
-          longest = stands_longest P (plan_of d (r.lines_read ++ x.0 ∷ []) false) start.timeline.most k.stopped.history v k.stopped.stands;
-          final = stands_refutes d P (r.lines_read ++ x.0 ∷ []) start.timeline.most k.stopped.history v k.stopped.stands;
+          });
+          furthest = λ other p c. begins_by P (plan_of d ls false) start.timeline.most (instances_of d ls) other k.stopped.history v p c k.stopped.reported.prefix k.stopped.stands;
+          longest = stands_longest P (plan_of d ls false) start.timeline.most (instances_of d ls) k.stopped.history v k.stopped.stands;
+          final = stands_refutes d P ls start.timeline.most (instances_of d ls) k.stopped.history v k.stopped.stands;
         };
         written = k.stopped.reported.written;
       }
@@ -324,8 +353,8 @@ module _ (d : Pair) (N : Labels) (P : Problem) (text : List ℕ) (start run : Ru
     stops = λ more piece h ready.
         let a = r.ready h ready in
         line_stops new x halt more piece a.0 (waiting_report d N P r.lines_read start.timeline.most a.0 run r.rests.can r.rests.most_is a.1)
-        (waits N P (plan_of d r.lines_read false) a.0 run a.1) l
-        (subst (λ m. StopsInLine d N P (plan_of d r.lines_read false) m x.0 new.report.bytes.items halt) r.rests.most_is (s.stops (plan_of d r.lines_read false) a.0 a.1));
+        (waiting_for d N P r.lines_read start.timeline.most a.0 run r.rests.most_is a.1) l
+        (subst (λ m. StopsInLine d N P r.lines_read m x.0 new.report.bytes.items halt) r.rests.most_is (s.stops r.lines_read a.0 a.1));
   }
 
   pub halts_at_line : (new : Run) (o : Option (Line × ℕ)) (read : Line) (next : ℕ) (halt : Halt) → o ≡ Some (read, next) → IfSome o (IsLineAt Timed number text from) → HaltsInLine d N P read run new halt → HaltsInLines d N P text start new halt
@@ -334,28 +363,29 @@ module _ (d : Pair) (N : Labels) (P : Problem) (text : List ℕ) (start run : Ru
 -- ---- all lines are worked
 
 module _ (d : Pair) (N : Labels) (P : Problem) (text : List ℕ) (old mid : Run) (number : ℕ) (r : ReadsAll d N P text old mid number) where
-  end_worked : (g h : List Part) (v : Verdict Frac64) → IsReported N P (plan_of d r.lines false) old.timeline.most g mid.report.bytes.items → IsWaiting P (plan_of d r.lines false) g → Prefix P (plan_of d r.lines true) h → Stands P (plan_of d r.lines true) old.timeline.most h v → AreWorked P (plan_of d r.lines false) h
+  end_worked : (g h : List Part) (v : Verdict Frac64) → IsReported N P (plan_of d r.lines false) old.timeline.most (instances_of d r.lines) g mid.report.bytes.items → IsWaiting P (plan_of d r.lines false) old.timeline.most (instances_of d r.lines) g → Prefix P (plan_of d r.lines true) h → Stands P (plan_of d r.lines true) old.timeline.most (instances_of d r.lines) h v → AreWorked d P old.timeline.most r.lines h
   end_worked g h v a w p s =
-      let more : plan_of d r.lines true ≡ plan_of d (r.lines ++ []) true = ap (λ (ls : List Line). plan_of d ls true) (sym (append-nil r.lines)) in
       are_worked d P r.lines [] true old.timeline.most g h v a.prefix a.clear w
-      (subst (λ (M : Plan). Prefix P M h) more p) (subst (λ (M : Plan). Stands P M old.timeline.most h v) more s) (inl (inr refl))
+      (subst (λ (ls : List Line). Prefix P (plan_of d ls true) h) (sym (append-nil r.lines)) p)
+      (subst (λ (ls : List Line). Stands P (plan_of d ls true) old.timeline.most (instances_of d ls) h v) (sym (append-nil r.lines)) s) (inl (inr refl))
 
-  end_stops : (report : List ℕ) (halt : Halt) (g : List Part) → IsReported N P (plan_of d r.lines false) old.timeline.most g mid.report.bytes.items → IsWaiting P (plan_of d r.lines false) g → StopsOnWay N P (plan_of d r.lines true) old.timeline.most report halt → StopsInText d N P old.timeline.most false text [] report halt
+  end_stops : (report : List ℕ) (halt : Halt) (g : List Part) → IsReported N P (plan_of d r.lines false) old.timeline.most (instances_of d r.lines) g mid.report.bytes.items → IsWaiting P (plan_of d r.lines false) old.timeline.most (instances_of d r.lines) g → StopsOnWay N P (plan_of d r.lines true) old.timeline.most (instances_of d r.lines) report halt → StopsInText d N P old.timeline.most false text [] report halt
   end_stops report Memory g ready w s = tt
   end_stops report (Refused v) g ready w s = record {
     refusal = record {
       before = r.lines;
       rest = [];
       read = r.read ∙ sym (append-nil (map Ok r.lines));
-      plan = plan_of d r.lines true;
+      times = r.times;
+      reading = reading_of r.lines true;
       history = s.stopped.history;
       prefix = s.stopped.reported.prefix;
       few = s.stopped.reported.few;
       clear = s.stopped.reported.clear;
-      alone = s.stopped.alone;
-      cause = record { lines = refl; worked = end_worked g s.stopped.history v ready w s.stopped.reported.prefix s.stopped.stands; stands = s.stopped.stands; names = s.names };
-      longest = stands_longest P (plan_of d r.lines true) old.timeline.most s.stopped.history v s.stopped.stands;
-      final = subst (λ (ls : List Line). Refutes d P ls v) (sym (append-nil r.lines)) (end_refutes d P r.lines old.timeline.most s.stopped.history v s.stopped.stands);
+      cause = record { reads = refl; worked = end_worked g s.stopped.history v ready w s.stopped.reported.prefix s.stopped.stands; stands = s.stopped.stands; names = s.names };
+      furthest = λ other p c. begins_by P (plan_of d r.lines true) old.timeline.most (instances_of d r.lines) other s.stopped.history v p c s.stopped.reported.prefix s.stopped.stands;
+      longest = stands_longest P (plan_of d r.lines true) old.timeline.most (instances_of d r.lines) s.stopped.history v s.stopped.stands;
+      final = subst (λ (ls : List Line). Refutes d P ls v) (sym (append-nil r.lines)) (end_refutes d P r.lines old.timeline.most (instances_of d r.lines) s.stopped.history v s.stopped.stands);
     };
     written = s.stopped.reported.written;
   }
@@ -366,8 +396,8 @@ module _ (d : Pair) (N : Labels) (P : Problem) (text : List ℕ) (old mid : Run)
     stops = λ h ready.
         let a = r.ready h ready in
         end_stops new.report.bytes.items halt a.0 (waiting_report d N P r.lines old.timeline.most a.0 mid r.rests.can r.rests.most_is a.1)
-        (waits N P (plan_of d r.lines false) a.0 mid a.1)
-        (subst (λ m. StopsOnWay N P (plan_of d r.lines true) m new.report.bytes.items halt) r.rests.most_is (s.stops (plan_of d r.lines false) a.0 a.1));
+        (waiting_for d N P r.lines old.timeline.most a.0 mid r.rests.most_is a.1)
+        (subst (λ m. StopsOnWay N P (plan_of d r.lines true) m (instances_of d r.lines) new.report.bytes.items halt) r.rests.most_is (s.stops (plan_of d r.lines false) (instances_of d r.lines) a.0 a.1));
   }
 
   -- the text goes on
@@ -376,23 +406,22 @@ module _ (d : Pair) (N : Labels) (P : Problem) (text : List ℕ) (old mid : Run)
     stops = λ h ready.
         let a = r.ready h ready in
         let w = waiting_report d N P r.lines old.timeline.most a.0 mid r.rests.can r.rests.most_is a.1 in
+        let k = waiting_for d N P r.lines old.timeline.most a.0 mid r.rests.most_is a.1 in
+        let longest = waiting_longest d P r.lines old.timeline.most (instances_of d r.lines) a.0 w.prefix k in
         subst (StopsInText d N P old.timeline.most true text piece mid.report.bytes.items) (sym e) (record {
           refusal = record {
             before = r.lines;
             rest = [];
             read = r.read ∙ sym (append-nil (map Ok r.lines));
-            plan = plan_of d r.lines false;
+            times = r.times;
+            reading = reading_of r.lines false;
             history = a.0;
             prefix = w.prefix;
             few = w.few;
             clear = w.clear;
-            alone = λ _. clear_waiting d P r.lines old.timeline.most a.0 w.prefix (waits N P (plan_of d r.lines false) a.0 mid a.1);
-            cause = record {
-              lines = refl;
-              waits = waits N P (plan_of d r.lines false) a.0 mid a.1;
-              is = ap (λ n. Other (cut_verdict n (length piece))) r.number_is;
-            };
-            longest = λ _. waiting_longest d P r.lines a.0 w.prefix (waits N P (plan_of d r.lines false) a.0 mid a.1);
+            cause = record { reads = refl; waits = k; is = ap (λ n. Other (cut_verdict n (length piece))) r.number_is };
+            furthest = λ other p c. longest.longest other p;
+            longest = λ _. longest;
             final = tt;
           };
           written = w.written;

@@ -6,7 +6,7 @@ use Rattle.plus_fraction.proofs.FractionLaws.{Is-over}
 use Rattle.plus_fraction.proofs.FractionOrder.{le_by}
 use Rattle.plus_model.specs.Terms.{Problem}
 use Rattle.plus_model.specs.Plan as model
-use Rattle.plus_model.specs.Plan.{Called, ActLine, EndLine, Plan}
+use Rattle.plus_model.specs.Plan.{ActLine, EndLine, Plan}
 use Rattle.plus_model.specs.History.{Part}
 use Rattle.plus_model.specs.Trajectory.{IsWorked, is_below, view_of}
 use Rattle.plus_model.specs.Breach.{BreaksBy, TimeGoesBack, AfterEnd}
@@ -27,12 +27,17 @@ use Rattle.plus_validator.specs.Playing.{Readied}
 use Rattle.plus_validator.specs.Standing.{EndsBy}
 use Rattle.plus_validator.specs.Refused.{IsWaiting, after_end, no_value, goes_back}
 use Rattle.plus_validator.specs.Stopped.{TimeHalts, HaltsAtMoment}
+use Rattle.plus_timeline.specs.Tests.{AllPass, Test}
+use Rattle.plus_validator.proofs.Steps.{asked_is}
 
 -- what is ready for a line waits for it
-pub waits : (N : Labels) (P : Problem) (L : Plan) (h : List Part) (run : Run) → Readied N P L h run → IsWaiting P L h
-waits N P L h run r = elim r.worked [
+pub waits : (N : Labels) (P : Problem) (L : Plan) (instance : ℕ → List Test) (h : List Part) (run : Run) → Readied N P L instance h run → IsWaiting P L run.timeline.most instance h
+waits N P L instance h run r = elim r.worked [
   | inl e ↦ inl e
-  | inr w ↦ inr (subst (IsWorked P L) r.played.now w)
+  | inr w ↦ inr (record {
+    worked = subst (IsWorked P L) r.played.now w.worked;
+    passed = subst (AllPass IsFrac64) (asked_is N P L instance h run.timeline run.report.bytes.items r.played) w.passed;
+  })
 ]
 
 none_is_one : (ls : List model.Line) (line : model.Line) → [] ≡ ls ++ line ∷ [] → ⊥
@@ -40,10 +45,10 @@ none_is_one [] line e = cc
 none_is_one (x ∷ ls) line e = cc
 
 -- after some line the lines are worked
-worked_after : (N : Labels) (P : Problem) (L : Plan) (h : List Part) (run : Run) (before : List model.Line) (line : model.Line) → Readied N P L h run → L.lines ≡ before ++ line ∷ [] → IsWorked P L (view_of P h)
-worked_after N P L h run before line r e = elim (waits N P L h run r) [
+worked_after : (N : Labels) (P : Problem) (L : Plan) (instance : ℕ → List Test) (h : List Part) (run : Run) (before : List model.Line) (line : model.Line) → Readied N P L instance h run → L.lines ≡ before ++ line ∷ [] → IsWorked P L (view_of P h)
+worked_after N P L instance h run before line r e = elim (waits N P L instance h run r) [
   | inl n ↦ absurd (none_is_one before line (sym n ∙ e))
-  | inr w ↦ w
+  | inr w ↦ w.worked
 ]
 
 -- the last of these lines is the one
@@ -61,13 +66,13 @@ no_end lines before time t (inr a) e =
     let k : ActLine time a.1 ≡ EndLine t = two_lasts a.0 before (ActLine time a.1) (EndLine t) (sym a.2 ∙ e) in
     cc k
 
-ends_by : (N : Labels) (P : Problem) (L : Plan) (h : List Part) (run : Run) → run.ended ≡ false → Readied N P L h run → EndsBy L.lines false run.timeline.now.time
-ends_by N P L h run e r = subst (λ b. EndsBy L.lines b run.timeline.now.time) e r.last
+ends_by : (N : Labels) (P : Problem) (L : Plan) (instance : ℕ → List Test) (h : List Part) (run : Run) → run.ended ≡ false → Readied N P L instance h run → EndsBy L.lines false run.timeline.now.time
+ends_by N P L instance h run e r = subst (λ b. EndsBy L.lines b run.timeline.now.time) e r.last
 
-no_break_by_end : (N : Labels) (P : Problem) (L : Plan) (h : List Part) (run : Run) (meant : model.Line) → run.ended ≡ false → Readied N P L h run → BreaksBy P L h meant AfterEnd → ⊥
-no_break_by_end N P L h run meant e r k =
+no_break_by_end : (N : Labels) (P : Problem) (L : Plan) (instance : ℕ → List Test) (h : List Part) (run : Run) (meant : model.Line) → run.ended ≡ false → Readied N P L instance h run → BreaksBy P L h meant AfterEnd → ⊥
+no_break_by_end N P L instance h run meant e r k =
     let b = k.breach in
-    no_end L.lines b.0 run.timeline.now.time b.1 (ends_by N P L h run e r) b.2.lines
+    no_end L.lines b.0 run.timeline.now.time b.1 (ends_by N P L instance h run e r) b.2.lines
 
 -- times are at 0 or later
 at_zero_or_later : (top bottom : ℕ) → 0 < bottom → whole (pos 0) ≤ℚ over (pos top) bottom
@@ -77,7 +82,7 @@ at_zero_or_later top bottom k = le_by (Is-over (pos 0) 1 (omega arith)) (Is-over
 
 pub halts_after_end : (run : Run) (n : ℕ) (time : Time) (halt : Halt) → run.ended ≡ true → halt ≡ Refused (Invalid (breaches.AfterEnd n)) → HaltsAtMoment n time run halt
 halts_after_end run n time halt e k = record {
-  refused = λ N P L h meant r t.
+  refused = λ N P L instance h meant r t.
       let last = subst (λ b. EndsBy L.lines b run.timeline.now.time) e r.last in
       subst (TimeHalts P L h n meant time) (sym k)
       (after_end
@@ -87,7 +92,7 @@ halts_after_end run n time halt e k = record {
           last.0,
           run.timeline.now.time,
           record {
-            worked = worked_after N P L h run last.0 (EndLine run.timeline.now.time) r last.1;
+            worked = worked_after N P L instance h run last.0 (EndLine run.timeline.now.time) r last.1;
             open_yet = r.not_closed;
             lines = last.1;
           },
@@ -98,21 +103,21 @@ halts_after_end run n time halt e k = record {
 
 pub halts_without_value : (run : Run) (n : ℕ) (time : Time) (halt : Halt) → run.ended ≡ false → (IsFrac64 (value_of time) → ⊥) → halt ≡ Refused (Other (Literal texts.Plan time.span.start time.span.«end»)) → HaltsAtMoment n time run halt
 halts_without_value run n time halt e f k = record {
-  refused = λ N P L h meant r t.
-      subst (TimeHalts P L h n meant time) (sym k) (no_value (no_break_by_end N P L h run meant e r) f refl);
+  refused = λ N P L instance h meant r t.
+      subst (TimeHalts P L h n meant time) (sym k) (no_value (no_break_by_end N P L instance h run meant e r) f refl);
 }
 
-goes_back_by : (N : Labels) (P : Problem) (L : Plan) (h : List Part) (run : Run) (meant : model.Line) (time : Time) → 0 < time.bottom → EndsBy L.lines false run.timeline.now.time → Readied N P L h run → model.time_of meant ≡ value_of time → value_of time <ℚ run.timeline.now.time → BreaksBy P L h meant TimeGoesBack
-goes_back_by N P L h run meant time k (inl n) r t l =
+goes_back_by : (N : Labels) (P : Problem) (L : Plan) (instance : ℕ → List Test) (h : List Part) (run : Run) (meant : model.Line) (time : Time) → 0 < time.bottom → EndsBy L.lines false run.timeline.now.time → Readied N P L instance h run → model.time_of meant ≡ value_of time → value_of time <ℚ run.timeline.now.time → BreaksBy P L h meant TimeGoesBack
+goes_back_by N P L instance h run meant time k (inl n) r t l =
     absurd (not_below (value_of time) (whole (pos 0)) (subst (λ x. value_of time <ℚ x) n.1 l) (at_zero_or_later time.top time.bottom k))
-goes_back_by N P L h run meant time k (inr a) r t l = record {
+goes_back_by N P L instance h run meant time k (inr a) r t l = record {
   prefix = r.played.prefix;
   breach = (
     a.0,
     run.timeline.now.time,
     a.1,
     record {
-      worked = worked_after N P L h run a.0 (ActLine run.timeline.now.time a.1) r a.2;
+      worked = worked_after N P L instance h run a.0 (ActLine run.timeline.now.time a.1) r a.2;
       open_yet = r.not_closed;
       lines = a.2;
     },
@@ -122,10 +127,10 @@ goes_back_by N P L h run meant time k (inr a) r t l = record {
 
 pub halts_going_back : (run : Run) (n : ℕ) (time : Time) (at : Frac64) (halt : Halt) → 0 < time.bottom → run.ended ≡ false → fraction_of at ≡ value_of time → is_below (fraction_of at) run.timeline.now.time ≡ true → halt ≡ Refused (Invalid (breaches.TimeGoesBack n)) → HaltsAtMoment n time run halt
 halts_going_back run n time at halt b e i l k = record {
-  refused = λ N P L h meant r t.
+  refused = λ N P L instance h meant r t.
       subst (TimeHalts P L h n meant time) (sym k)
       (goes_back
-      (goes_back_by N P L h run meant time b (ends_by N P L h run e r) r t
+      (goes_back_by N P L instance h run meant time b (ends_by N P L instance h run e r) r t
       (subst (λ x. x <ℚ run.timeline.now.time) i (from_below (fraction_of at) run.timeline.now.time l)))
       (subst IsFrac64 i (at.top_fits, at.bottom_fits))
       refl);

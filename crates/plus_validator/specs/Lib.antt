@@ -1,5 +1,6 @@
 pub mod Plans
 pub mod Limits
+pub mod Asking
 pub mod Accepted
 pub mod Standing
 pub mod Running

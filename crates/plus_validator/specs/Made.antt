@@ -10,6 +10,8 @@ use Rattle.plus_numbering.specs.Numbers.{ground_names}
 use Rattle.plus_expansion.specs.Calls.{called_of}
 use Rattle.plus_ground.specs.Refusals.{IsInstance}
 use Rattle.plus_validator.specs.declared.instances.Kept.{Kept}
+use Rattle.plus_validator.specs.declared.instances.Place.{Place}
+use Rattle.plus_validator.specs.declared.instances.Place.TheVariants.{Listed, Last}
 use Rattle.plus_validator.specs.declared.instances.Instances.{Instances}
 
 -- the instance of this call in a pair: it is inside the limits, and its ids are those of the pair
@@ -31,11 +33,12 @@ pub record StayMade (old new : Instances) : Type 0 where
   pub made : AreMade new
 
 -- the instance at a place
-abbrev pub kept_at : Instances → ℕ → Option model.Action
-kept_at i place = option_map (λ (k : Kept). action_of fraction_of k.action) (slice_get i.kept.items place)
+abbrev pub made_at : Instances → Place → Option model.Action
+made_at i (Listed place) = option_map (λ (k : Kept). action_of fraction_of k.action) (slice_get i.kept.items place)
+made_at i Last = option_map (action_of fraction_of) i.last
 
 -- the instance of this call in a pair stands at a place
-pub record HasMade (t : Typed) (i : Instances) (name : List ℕ) (args : List (List ℕ)) (place : ℕ) : Type 0 where
+pub record HasMade (t : Typed) (i : Instances) (name : List ℕ) (args : List (List ℕ)) (place : Place) : Type 0 where
   pub action : model.Action
-  pub is : kept_at i place ≡ Some action
+  pub is : made_at i place ≡ Some action
   pub made : IsMade t name args action

@@ -1,8 +1,8 @@
 -- What the lines of a plan text do to a run.
-use Rattle.std.specs.Prelude.{◌≡◌, ℕ, suc, ◌+◌, ◌≤◌, Bool, true, false, List, [], ◌++◌, length, map, Some, None, Ok}
+use Rattle.std.specs.Prelude.{◌≡◌, ℕ, suc, ◌+◌, ◌≤◌, Bool, true, false, List, [], ◌∷◌, ◌++◌, length, map, All, Some, None, Ok}
 use Rattle.plus_fraction.specs.Fraction.{◌≤ℚ◌}
 use Rattle.plus_model.specs.Terms.{Problem}
-use Rattle.plus_model.specs.Plan.{Called, Plan, ActLine}
+use Rattle.plus_model.specs.Plan.{Plan, ActLine}
 use Rattle.plus_model.specs.History.{Part}
 use Rattle.plus_model.specs.Trajectory.{HasBegun, next_line, Trajectory}
 use Rattle.plus_number.specs.declared.frac.Frac64.{Frac64}
@@ -18,9 +18,12 @@ use Rattle.plus_plan.specs.TimeValue.{value_of}
 use Rattle.plus_plan.specs.Lines.{plan_lines}
 use Rattle.plus_expansion.specs.Expansion.{expanded, labels_meant}
 use Rattle.plus_report.specs.Report.{report_of}
-use Rattle.plus_validator.specs.Accepted.{entries_of}
-use Rattle.plus_validator.specs.Plans.{Pair, line_meant, plan_of}
-use Rattle.plus_validator.specs.Standing.{IsPlayed, CanGoOn, IsReady}
+use Rattle.plus_timeline.specs.Tests.{Test}
+use Rattle.plus_tree.specs.declared.trees.Call.{Call}
+use Rattle.plus_validator.specs.Asking.{entries_of, call_tests, instances_of, NoneFails, IsClear}
+use Rattle.plus_validator.specs.Plans.{Pair, plan_of, HasValue}
+use Rattle.plus_expansion.specs.Calls.{called_of}
+use Rattle.plus_validator.specs.Standing.{IsPlayed, CanGoOn, IsReady, IsReached}
 use Rattle.plus_validator.specs.declared.run.Run.{Run}
 
 -- the ground form of a pair
@@ -34,8 +37,8 @@ pub record IsInTime (run : Run) (time : Time) (at : Frac64) : Type 0 where
   pub not_ended : run.ended ≡ false
   pub ahead : run.timeline.now.time ≤ℚ fraction_of at
 
--- the action that is called is done
-pub record ActsOnce (N : Labels) (P : Problem) (call : Called) (old new : Run) : Type 0 where
+-- the action that is called is done; what is asked of its instance passes
+pub record ActsOnce (d : Pair) (N : Labels) (P : Problem) (call : Call) (old new : Run) : Type 0 where
   pub can : CanGoOn P new.timeline
   pub moment : new.timeline.now.running ≡ None
   pub most : new.timeline.most ≡ old.timeline.most
@@ -43,13 +46,18 @@ pub record ActsOnce (N : Labels) (P : Problem) (call : Called) (old new : Run) :
   pub time : new.timeline.now.time ≡ old.timeline.now.time
   pub acted_is : new.timeline.now.acted ≡ suc old.timeline.now.acted
   pub acted :
-      (L : Plan) (h : List Part) → HasBegun L → IsPlayed N P L h old.timeline old.report.bytes.items
-      → next_line L old.timeline.now ≡ Some (ActLine old.timeline.now.time call)
-      → (h' : List Part) × IsPlayed N P L h' new.timeline new.report.bytes.items
+      (L : Plan) (instance : ℕ → List Test) (h : List Part) → HasBegun L → instance old.timeline.now.acted ≡ call_tests d call
+      → IsReached N P L instance old.timeline.now.acted old.timeline.now.time h old.timeline old.report.bytes.items
+      → next_line L old.timeline.now ≡ Some (ActLine old.timeline.now.time (called_of d.domain d.problem call.name call.args))
+      → (h' : List Part) × IsPlayed N P L instance h' new.timeline new.report.bytes.items
 
 -- the run stands ready for the next line of this plan
-abbrev pub Readied : Labels → Problem → Plan → List Part → Run → Type 0
-Readied N P L h run = IsReady N P L run.ended h run.timeline run.report.bytes.items
+abbrev pub Readied : Labels → Problem → Plan → (ℕ → List Test) → List Part → Run → Type 0
+Readied N P L instance h run = IsReady N P L instance run.ended h run.timeline run.report.bytes.items
+
+-- it does so for the line behind these lines of the text
+abbrev pub ReadiedFor : Pair → Labels → Problem → List Line → List Part → Run → Type 0
+ReadiedFor d N P ls h run = Readied N P (plan_of d ls false) (instances_of d ls) h run
 
 -- the run may play on: it stands at a moment
 pub record IsResting (P : Problem) (most : ℕ) (run : Run) : Type 0 where
@@ -60,9 +68,10 @@ pub record IsResting (P : Problem) (most : ℕ) (run : Run) : Type 0 where
 -- a line of the text is played
 pub record PlaysLine (d : Pair) (N : Labels) (P : Problem) (line : Line) (old new : Run) : Type 0 where
   pub rests : IsResting P old.timeline.most new
+  pub value : HasValue line
   pub ready :
-      (L : Plan) (h : List Part) → Readied N P L h old
-      → (h' : List Part) × Readied N P (record { lines = L.lines ++ line_meant d line; closed = L.closed }) h' new
+      (ls : List Line) (h : List Part) → ReadiedFor d N P ls h old
+      → (h' : List Part) × ReadiedFor d N P (ls ++ line ∷ []) h' new
 
 -- the lines of a text are played, and the next would have this number
 pub record ReadsAll (d : Pair) (N : Labels) (P : Problem) (text : List ℕ) (old new : Run) (number : ℕ) : Type 0 where
@@ -70,39 +79,41 @@ pub record ReadsAll (d : Pair) (N : Labels) (P : Problem) (text : List ℕ) (old
   pub lines : List Line
   pub number_is : number ≡ length lines + 1
   pub read : plan_lines Timed text ≡ map Ok lines
-  pub ready :
-      (h : List Part) → Readied N P (plan_of d [] false) h old
-      → (h' : List Part) × Readied N P (plan_of d lines false) h' new
+  pub times : All HasValue lines
+  pub ready : (h : List Part) → ReadiedFor d N P [] h old → (h' : List Part) × ReadiedFor d N P lines h' new
 
 -- the plan whose text was read to its end
 abbrev pub closed : Plan → Plan
 closed L = record { lines = L.lines; closed = true }
 
--- what happens has ended, and the goal holds
-pub record Ends (N : Labels) (P : Problem) (L : Plan) (most : ℕ) (h : List Part) (report : List ℕ) : Type 0 where
+-- what happens has ended, the goal holds, and all that is asked passes
+pub record Ends (N : Labels) (P : Problem) (L : Plan) (most : ℕ) (instance : ℕ → List Test) (h : List Part) (report : List ℕ) : Type 0 where
   pub happens : Trajectory P L h
   pub few : entries_of h ≤ most
+  pub clear : IsClear P L most instance h
+  pub passed : NoneFails P L most instance h
   pub written : report ≡ report_of N P L h
 
 pub record Closes (N : Labels) (P : Problem) (old new : Run) : Type 0 where
   pub ends :
-      (L : Plan) (h : List Part) → Readied N P L h old
-      → (h' : List Part) × Ends N P (closed L) old.timeline.most h' new.report.bytes.items
+      (L : Plan) (instance : ℕ → List Test) (h : List Part) → Readied N P L instance h old
+      → (h' : List Part) × Ends N P (closed L) old.timeline.most instance h' new.report.bytes.items
 
 -- a run is begun: it is ready for the first line of a text
 pub record Begins (N : Labels) (P : Problem) (most : ℕ) (run : Run) : Type 0 where
   pub rests : IsResting P most run
   pub ready :
-      (L : Plan) → L.lines ≡ [] → L.closed ≡ false
-      → (h : List Part) × Readied N P L h run
+      (L : Plan) (instance : ℕ → List Test) → L.lines ≡ [] → L.closed ≡ false
+      → (h : List Part) × Readied N P L instance h run
 
 -- a text is played to its end, and the goal holds there
 pub record PlaysAll (d : Pair) (N : Labels) (P : Problem) (text : List ℕ) (old new : Run) : Type 0 where
   pub lines : List Line
   pub read : plan_lines Timed text ≡ map Ok lines
+  pub times : All HasValue lines
   pub ends :
-      (h : List Part) → Readied N P (plan_of d [] false) h old
-      → (h' : List Part) × Ends N P (plan_of d lines true) old.timeline.most h' new.report.bytes.items
+      (h : List Part) → ReadiedFor d N P [] h old
+      → (h' : List Part) × Ends N P (plan_of d lines true) old.timeline.most (instances_of d lines) h' new.report.bytes.items
 
 -- the same of a text that is not cut off
 pub record PlaysWhole (d : Pair) (N : Labels) (P : Problem) (text : List ℕ) (goes_on : Bool) (old new : Run) : Type 0 where

@@ -1,23 +1,17 @@
 -- Where a plan text is refused: the history that its lines before tell, why it goes on no further, and which verdict says so.
 use Rattle.std.specs.Prelude.{◌≡◌, ◌≢◌, ◌⊎◌, ℕ, ◌+◌, ◌≤◌, Bool, true, false, List, [], ◌∷◌, ◌++◌, length, map, All, Result, Ok, Err, IsSomeAnd, nat_lt, if◌then◌else◌}
-use Rattle.plus_model.specs.Terms.{Action, Problem}
-use Rattle.plus_model.specs.Plan as model
-use Rattle.plus_model.specs.Plan.{Instance, Plan}
-use Rattle.plus_model.specs.History.{Part, View}
-use Rattle.plus_model.specs.Trajectory.{next_line, until, IsWorked, Prefix, Trajectory, view_of}
-use Rattle.plus_model.specs.Breach.{IsOpen, IsDue, Breaks, BreaksBy, TimeGoesBack, AfterEnd}
+use Rattle.plus_model.specs.Terms.{Problem}
+use Rattle.plus_model.specs.Plan as plan
+use Rattle.plus_model.specs.Plan.{Plan}
+use Rattle.plus_model.specs.History.{Part}
+use Rattle.plus_model.specs.Trajectory.{HasBegun, next_line, IsWorked, Prefix, Trajectory, view_of}
+use Rattle.plus_model.specs.Breach as model
+use Rattle.plus_model.specs.Breach.{Breaks, BreaksBy, TimeGoesBack, AfterEnd}
 use Rattle.plus_model.specs.Laws.{Begins, IsLongest}
 use Rattle.plus_number.specs.declared.frac.Frac64.{Frac64}
 use Rattle.plus_number.specs.Frac.{fraction_of, IsFrac64}
-use Rattle.plus_state.specs.declared.term.Overflow.{Overflow}
 use Rattle.plus_state.specs.declared.outcome.Breach.{Breach}
 use Rattle.plus_state.specs.declared.outcome.Breach.TheVariants as breaches
-use Rattle.plus_state.specs.declared.outcome.Limit.{Limit}
-use Rattle.plus_state.specs.declared.outcome.Limit.TheVariants.{Happenings, Number, Nonlinear}
-use Rattle.plus_state.specs.Asked.{FirstUnfit}
-use Rattle.plus_state.specs.Tests.{tests_of}
-use Rattle.plus_state.specs.Steps.{asks, FirstStop}
-use Rattle.plus_state.specs.View.{overflow_of}
 use Rattle.plus_tree.specs.declared.trees.Domain.{Domain}
 use Rattle.plus_tree.specs.declared.trees.Problem as tree
 use Rattle.plus_plan.specs.declared.forms.Time.{Time}
@@ -31,9 +25,7 @@ use Rattle.plus_plan.specs.Spells.{line_limit}
 use Rattle.plus_plan.specs.TimeValue.{value_of}
 use Rattle.plus_expansion.specs.Expansion.{expanded, labels_meant}
 use Rattle.plus_expansion.specs.Counting.{IsGroundable}
-use Rattle.plus_timeline.specs.Act.{act_steps}
-use Rattle.plus_timeline.specs.Advance.{time_left}
-use Rattle.plus_timeline.specs.Tests.{breach_of}
+use Rattle.plus_timeline.specs.Tests.{Test, too_many_nodes, no_number, breach, of_limit, breach_of}
 use Rattle.plus_report.specs.declared.verdicts.Verdict.{Verdict}
 use Rattle.plus_report.specs.declared.verdicts.Verdict.TheVariants.{Valid, Invalid, Beyond, Other}
 use Rattle.plus_report.specs.declared.refusals.Early.{Early}
@@ -43,60 +35,29 @@ use Rattle.plus_report.specs.declared.refusals.Text.TheVariants as texts
 use Rattle.plus_report.specs.Report.{called_label, report_of}
 use Rattle.plus_report.specs.Verdicts.{verdict_text}
 use Rattle.plus_validator.specs.declared.judge.Outcome.{Outcome}
-use Rattle.plus_validator.specs.Accepted.{entries_of}
+use Rattle.plus_validator.specs.Asking.{entries_of, instances_of, NoneFails, Fails, IsClear}
 use Rattle.plus_validator.specs.Outcomes.{outcome_of}
-use Rattle.plus_validator.specs.Plans.{Pair, pair, line_meant, plan_of}
-use Rattle.plus_tree.specs.declared.names.Span.{Span}
-use Rattle.plus_tree.specs.declared.trees.Call.{Call}
-use Rattle.plus_expansion.specs.Calls.{called_of}
-use Rattle.plus_ground.specs.Refusals.{IsTooLarge, HasUnfit}
-
--- ---- a limit stands
-
--- all entries that are allowed are done, no event holds, and time is to go on
-pub record IsFull (P : Problem) (L : Plan) (most : ℕ) (h : List Part) : Type 0 where
-  pub «open» : IsOpen P (until P L (view_of P h)) (view_of P h)
-  pub done : entries_of h ≡ most
-
--- a set runs, and the time that is left up to the next line is no value
-abbrev pub IsTimeUnfit : Problem → Plan → View → Overflow Frac64 → Type 0
-IsTimeUnfit P L v w = FirstUnfit IsFrac64 (time_left v.running v.time (until P L v)) (overflow_of fraction_of w)
-
--- an action is due, and this is its first step that stops: an exact result that is no value
-pub record IsActUnfit (P : Problem) (L : Plan) (v : View) (w : Overflow Frac64) : Type 0 where
-  pub action : Action
-  pub due : IsDue P L v (Instance action)
-  pub first : FirstStop IsFrac64 (act_steps action v.state) (asks (overflow_of fraction_of w))
-
--- the plan is at its end, and this is the first exact result that the goal needs and that is no value
-pub record IsGoalUnfit (P : Problem) (L : Plan) (v : View) (w : Overflow Frac64) : Type 0 where
-  pub closed : L.closed ≡ true
-  pub worked : IsWorked P L v
-  pub first : FirstUnfit IsFrac64 (tests_of P.goal v.state) (overflow_of fraction_of w)
-
-abbrev pub LimitStands : Problem → Plan → ℕ → List Part → Limit Frac64 → Type 0
-LimitStands P L most h (Happenings n) = (n ≡ most) × IsFull P L most h
-LimitStands P L most h (Number w) =
-    IsTimeUnfit P L (view_of P h) w ⊎ (IsActUnfit P L (view_of P h) w ⊎ IsGoalUnfit P L (view_of P h) w)
-LimitStands P L most h (Nonlinear owner comparison) = ⊥
-
--- no limit stands at the history
-abbrev pub NoLimit : Problem → Plan → ℕ → List Part → Type 0
-NoLimit P L most h = (l : Limit Frac64) → LimitStands P L most h l → ⊥
-
--- no limit stands at any history that is shorter
-abbrev pub IsClear : Problem → Plan → ℕ → List Part → Type 0
-IsClear P L most h =
-    (g : List Part) (part : Part) (rest : List Part) → Prefix P L g → h ≡ g ++ part ∷ rest → NoLimit P L most g
+use Rattle.plus_validator.specs.Plans.{Pair, pair, line_meant, plan_of, Reading, reading_of, plan_in, HasTime, HasValue}
 
 -- ---- a verdict stands at a history of the lines read
 
--- it is a breach by which the plan breaks there, or a limit that stands there
-abbrev pub Stands : Problem → Plan → ℕ → List Part → Verdict Frac64 → Type 0
-Stands P L most h (Invalid b) = IsSomeAnd (breach_of fraction_of (view_of P h).acted b) (Breaks P L h)
-Stands P L most h (Beyond l) = LimitStands P L most h l
-Stands P L most h Valid = ⊥
-Stands P L most h (Other early) = ⊥
+-- the plan breaks there by this breach, which is the first test that fails
+pub record IsBroken (P : Problem) (L : Plan) (most : ℕ) (instance : ℕ → List Test) (h : List Part) (b : model.Breach) : Type 0 where
+  pub breaks : Breaks P L h b
+  pub first : Fails P L most instance h (breach b)
+
+-- a limit of the instance that is due is the first test that fails
+abbrev pub StandsEarly : Problem → Plan → ℕ → (ℕ → List Test) → List Part → Early → Type 0
+StandsEarly P L most instance h (TooMany kind n) = (kind ≡ kinds.Nodes) × (n ≡ 1000000) × Fails P L most instance h (too_many_nodes n)
+StandsEarly P L most instance h (Literal texts.Domain start last) = Fails P L most instance h (no_number start last)
+StandsEarly P L most instance h _ = ⊥
+
+-- it is the first test that fails there: a breach by which the plan breaks, or a limit
+abbrev pub Stands : Problem → Plan → ℕ → (ℕ → List Test) → List Part → Verdict Frac64 → Type 0
+Stands P L most instance h (Invalid b) = IsSomeAnd (breach_of fraction_of (view_of P h).acted b) (IsBroken P L most instance h)
+Stands P L most instance h (Beyond l) = Fails P L most instance h (of_limit fraction_of l)
+Stands P L most instance h (Other early) = StandsEarly P L most instance h early
+Stands P L most instance h Valid = ⊥
 
 -- the line that a breach names, if any, has this number, and its action this label
 abbrev pub BreachNames : ℕ → List ℕ → Breach Frac64 → Type 0
@@ -126,9 +87,14 @@ NamesNoLine _ = Unit {0}
 
 -- ---- why a plan is refused
 
--- all lines read are worked, or none is read
-abbrev pub IsWaiting : Problem → Plan → List Part → Type 0
-IsWaiting P L h = (L.lines ≡ []) ⊎ IsWorked P L (view_of P h)
+-- all lines read are worked, and all that is asked there passes
+pub record AreDone (P : Problem) (L : Plan) (most : ℕ) (instance : ℕ → List Test) (h : List Part) : Type 0 where
+  pub worked : IsWorked P L (view_of P h)
+  pub passed : NoneFails P L most instance h
+
+-- so it is, or none is read
+abbrev pub IsWaiting : Problem → Plan → ℕ → (ℕ → List Test) → List Part → Type 0
+IsWaiting P L most instance h = (L.lines ≡ []) ⊎ AreDone P L most instance h
 
 -- the verdict on a line that is none: its number, and where it is refused
 abbrev pub NamesFault : PlanFault → Verdict Frac64 → Type 0
@@ -137,9 +103,9 @@ NamesFault (faults.LineTooLong n) v = v ≡ Other (LineTooLong n)
 NamesFault faults.Memory v = ⊥
 
 -- the lines before are worked, and the next is none
-pub record IsBadLine (d : Pair) (P : Problem) (before : List Line) (fault : PlanFault) (L : Plan) (h : List Part) (v : Verdict Frac64) : Type 0 where
-  pub lines : L ≡ plan_of d before false
-  pub waits : IsWaiting P L h
+pub record IsBadLine (d : Pair) (P : Problem) (most : ℕ) (before : List Line) (fault : PlanFault) (reading : Reading) (h : List Part) (v : Verdict Frac64) : Type 0 where
+  pub reads : reading ≡ reading_of before false
+  pub waits : IsWaiting P (plan_of d before false) most (instances_of d before) h
   pub names : NamesFault fault v
 
 -- the number of a line in its text, where it is one of a plan
@@ -149,15 +115,9 @@ number_in (Act n time call) = n
 number_in (End n time) = n
 number_in (Step n call) = n
 
--- the line has this time
-abbrev pub HasTime : Line → Time → Type 0
-HasTime (Act n t call) time = t ≡ time
-HasTime (End n t) time = t ≡ time
-HasTime _ time = ⊥
-
 -- why a line cannot be played after those that are worked: it stands after an end; or its time is no
 -- value; or its time is before that of the last line
-pub data TimeFault (P : Problem) (L : Plan) (h : List Part) (n : ℕ) (meant : model.Line) (time : Time) (v : Verdict Frac64) : Type 0 where
+pub data TimeFault (P : Problem) (L : Plan) (h : List Part) (n : ℕ) (meant : plan.Line) (time : Time) (v : Verdict Frac64) : Type 0 where
   after_end : BreaksBy P L h meant AfterEnd → v ≡ Invalid (breaches.AfterEnd n) → TimeFault P L h n meant time v
   no_value :
       (BreaksBy P L h meant AfterEnd → ⊥) → (IsFrac64 (value_of time) → ⊥)
@@ -167,56 +127,37 @@ pub data TimeFault (P : Problem) (L : Plan) (h : List Part) (n : ℕ) (meant : m
       → v ≡ Invalid (breaches.TimeGoesBack n) → TimeFault P L h n meant time v
 
 -- the lines before are worked, and the next cannot be played because of its place or its time
-pub record IsTimeRefused (d : Pair) (P : Problem) (before : List Line) (line : Line) (L : Plan) (h : List Part) (v : Verdict Frac64) : Type 0 where
-  pub lines : L ≡ plan_of d before false
-  pub waits : IsWaiting P L h
-  pub meant : model.Line
+pub record IsTimeRefused (d : Pair) (P : Problem) (most : ℕ) (before : List Line) (line : Line) (reading : Reading) (h : List Part) (v : Verdict Frac64) : Type 0 where
+  pub reads : reading ≡ reading_of before false
+  pub waits : IsWaiting P (plan_of d before false) most (instances_of d before) h
+  pub meant : plan.Line
   pub meant_is : line_meant d line ≡ meant ∷ []
   pub time : Time
   pub time_is : HasTime line time
-  pub why : TimeFault P L h (number_in line) meant time v
+  pub why : TimeFault P (plan_of d before false) h (number_in line) meant time v
 
--- the lines of this plan are worked in a beginning of the history
-pub record AreWorked (P : Problem) (L : Plan) (h : List Part) : Type 0 where
+-- these lines are worked in a beginning of the history
+pub record AreWorked (d : Pair) (P : Problem) (most : ℕ) (lines : List Line) (h : List Part) : Type 0 where
   pub front : List Part
-  pub prefix : Prefix P L front
-  pub waits : IsWaiting P L front
+  pub prefix : Prefix P (plan_of d lines false) front
+  pub waits : IsWaiting P (plan_of d lines false) most (instances_of d lines) front
   pub begins : Begins front h
 
--- the lines before are worked, and then a breach or a limit stands on the way to the next line or in it
-pub record IsStopped (d : Pair) (P : Problem) (most : ℕ) (before : List Line) (line : Line) (L : Plan) (h : List Part) (v : Verdict Frac64) : Type 0 where
-  pub lines : L ≡ plan_of d (before ++ line ∷ []) false
-  pub worked : AreWorked P (plan_of d before false) h
-  pub stands : Stands P L most h v
-  pub names : NamesLine (number_in line) (called_label (next_line L (view_of P h))) v
-
--- the instance that a call names has too many nodes, or a literal of its action is no number of the program
-abbrev pub IsBeyondCall : Pair → Call → Verdict Frac64 → Type 0
-IsBeyondCall d c v =
-    (IsTooLarge (called_of d.domain d.problem c.name c.args) × (v ≡ Other (TooMany kinds.Nodes 1000000)))
-    ⊎ ((span : Span) × HasUnfit IsFrac64 d.domain c.name (called_of d.domain d.problem c.name c.args) span
-    × (v ≡ Other (Literal texts.Domain span.start span.«end»)))
-
--- so many actions are acted in the history, then that which the line calls is due, and its instance is over a limit
-pub record IsCallOver (d : Pair) (P : Problem) (L : Plan) (acted : ℕ) (h : List Part) (line : Line) (v : Verdict Frac64) : Type 0 where
-  pub acted_is : (view_of P h).acted ≡ acted
-  pub number : ℕ
-  pub time : Time
-  pub call : Call
-  pub line_is : line ≡ Act number time call
-  pub due : IsDue P L (view_of P h) (called_of d.domain d.problem call.name call.args)
-  pub beyond : IsBeyondCall d call v
-
--- the actions of the lines before are acted, and then that of the next is due, whose instance is over a limit
-pub record IsCallRefused (d : Pair) (P : Problem) (before : List Line) (line : Line) (L : Plan) (h : List Part) (v : Verdict Frac64) : Type 0 where
-  pub lines : L ≡ plan_of d (before ++ line ∷ []) false
-  pub over : IsCallOver d P L (length (plan_of d before false).lines) h line v
+-- the lines before are worked, the next has its place and its time, and then a breach or a limit stands on the way to it or
+-- in it
+pub record IsStopped (d : Pair) (P : Problem) (most : ℕ) (before : List Line) (line : Line) (reading : Reading) (h : List Part) (v : Verdict Frac64) : Type 0 where
+  pub reads : reading ≡ reading_of (before ++ line ∷ []) false
+  pub begun : HasBegun (plan_of d (before ++ line ∷ []) false)
+  pub value : HasValue line
+  pub worked : AreWorked d P most before h
+  pub stands : Stands P (plan_of d (before ++ line ∷ []) false) most (instances_of d (before ++ line ∷ [])) h v
+  pub names : NamesLine (number_in line) (called_label (next_line (plan_of d (before ++ line ∷ []) false) (view_of P h))) v
 
 -- all lines are read and worked, and then a breach or a limit stands at the end
-pub record IsStoppedAtEnd (d : Pair) (P : Problem) (most : ℕ) (before : List Line) (L : Plan) (h : List Part) (v : Verdict Frac64) : Type 0 where
-  pub lines : L ≡ plan_of d before true
-  pub worked : AreWorked P (plan_of d before false) h
-  pub stands : Stands P L most h v
+pub record IsStoppedAtEnd (d : Pair) (P : Problem) (most : ℕ) (before : List Line) (reading : Reading) (h : List Part) (v : Verdict Frac64) : Type 0 where
+  pub reads : reading ≡ reading_of before true
+  pub worked : AreWorked d P most before h
+  pub stands : Stands P (plan_of d before true) most (instances_of d before) h v
   pub names : NamesNoLine v
 
 -- which limit a text is over whose last line, of this number, is cut off behind so many bytes
@@ -224,21 +165,21 @@ abbrev pub cut_verdict : ℕ → ℕ → Early
 cut_verdict n size = if nat_lt line_limit size then LineTooLong n else TooLong texts.Plan
 
 -- all whole lines are worked, and the text goes on behind the limit
-pub record IsCutOff (d : Pair) (P : Problem) (before : List Line) (piece : List ℕ) (L : Plan) (h : List Part) (v : Verdict Frac64) : Type 0 where
-  pub lines : L ≡ plan_of d before false
-  pub waits : IsWaiting P L h
+pub record IsCutOff (d : Pair) (P : Problem) (most : ℕ) (before : List Line) (piece : List ℕ) (reading : Reading) (h : List Part) (v : Verdict Frac64) : Type 0 where
+  pub reads : reading ≡ reading_of before false
+  pub waits : IsWaiting P (plan_of d before false) most (instances_of d before) h
   pub is : v ≡ Other (cut_verdict (length before + 1) (length piece))
 
-abbrev pub EndRefused : Pair → Problem → ℕ → Bool → List ℕ → List Line → Plan → List Part → Verdict Frac64 → Type 0
-EndRefused d P most false piece before L h v = IsStoppedAtEnd d P most before L h v
-EndRefused d P most true piece before L h v = IsCutOff d P before piece L h v
+abbrev pub EndRefused : Pair → Problem → ℕ → Bool → List ℕ → List Line → Reading → List Part → Verdict Frac64 → Type 0
+EndRefused d P most false piece before reading h v = IsStoppedAtEnd d P most before reading h v
+EndRefused d P most true piece before reading h v = IsCutOff d P most before piece reading h v
 
 -- why the plan goes on no further, by what is left of the text behind the lines accepted
-abbrev pub Cause : Pair → Problem → ℕ → Bool → List ℕ → List Line → List (Result Line PlanFault) → Plan → List Part → Verdict Frac64 → Type 0
-Cause d P most goes_on piece before [] L h v = EndRefused d P most goes_on piece before L h v
-Cause d P most goes_on piece before (Err fault ∷ rest) L h v = IsBadLine d P before fault L h v
-Cause d P most goes_on piece before (Ok line ∷ rest) L h v =
-    IsTimeRefused d P before line L h v ⊎ (IsStopped d P most before line L h v ⊎ IsCallRefused d P before line L h v)
+abbrev pub Cause : Pair → Problem → ℕ → Bool → List ℕ → List Line → List (Result Line PlanFault) → Reading → List Part → Verdict Frac64 → Type 0
+Cause d P most goes_on piece before [] reading h v = EndRefused d P most goes_on piece before reading h v
+Cause d P most goes_on piece before (Err fault ∷ rest) reading h v = IsBadLine d P most before fault reading h v
+Cause d P most goes_on piece before (Ok line ∷ rest) reading h v =
+    IsTimeRefused d P most before line reading h v ⊎ IsStopped d P most before line reading h v
 
 -- ---- what follows for every plan that begins so
 
@@ -280,16 +221,19 @@ pub record Refusal (d : Pair) (P : Problem) (most : ℕ) (goes_on : Bool) (whole
   pub before : List Line  -- read and accepted
   pub rest : List (Result Line PlanFault)
   pub read : plan_lines Timed whole ≡ map Ok before ++ rest
-  pub plan : Plan  -- the lines played: those accepted, and perhaps the next
+  pub times : All HasValue before
+  pub reading : Reading  -- the lines played: those accepted, and perhaps the next
   pub history : List Part  -- what happens before the refusal
-  pub prefix : Prefix P plan history
+  pub prefix : Prefix P (plan_in d reading) history
   pub few : entries_of history ≤ most
-  -- no limit stands before, and none here where none is named
-  pub clear : IsClear P plan most history
-  pub alone : IsNoLimit v → NoLimit P plan most history
-  pub cause : Cause d P most goes_on piece before rest plan history v
-  -- it is the one longest that these lines tell
-  pub longest : IsNoLimit v → IsLongest P plan history
+  -- no limit stands before
+  pub clear : IsClear P (plan_in d reading) most (instances_of d reading.lines) history
+  pub cause : Cause d P most goes_on piece before rest reading history v
+  -- it is the one longest before which none stands, and where no limit is named the one longest that these lines tell
+  pub furthest :
+      (other : List Part) → Prefix P (plan_in d reading) other
+      → IsClear P (plan_in d reading) most (instances_of d reading.lines) other → Begins other history
+  pub longest : IsNoLimit v → IsLongest P (plan_in d reading) history
   pub final : Refutes d P (before ++ line_next rest) v
 
 -- a text whose end is cut off, behind its last LF: its whole lines, and a piece of one
@@ -314,5 +258,5 @@ pub record IsRefused (d : Domain) (p : tree.Problem) (most : ℕ) (text : List �
   pub refusal : Refusal (pair d p) (expanded d p) most goes_on whole piece verdict
   pub written :
       bytes
-      ≡ report_of (labels_meant d p) (expanded d p) refusal.plan refusal.history
+      ≡ report_of (labels_meant d p) (expanded d p) (plan_in (pair d p) refusal.reading) refusal.history
       ++ verdict_text fraction_of (labels_meant d p) (expanded d p) verdict

@@ -6,13 +6,14 @@ use Rattle.plus_model.specs.Plan.{Plan}
 use Rattle.plus_model.specs.History.{Part}
 use Rattle.plus_model.specs.Trajectory.{HasBegun, target}
 use Rattle.plus_state.specs.View.{Labels}
+use Rattle.plus_timeline.specs.Tests.{Test}
 use Rattle.plus_timeline.specs.Finish.{IsPaused}
 use Rattle.plus_validator.specs.Standing.{IsPlayed, CanGoOn, CanReach, IsReached, steps_left}
 use Rattle.plus_validator.specs.declared.run.Run.{Run}
 
 -- the run is on its way to the time u, by a history of the plan
-pub record IsOnWay (N : Labels) (P : Problem) (L : Plan) (u : Fraction) (acted : ℕ) (h : List Part) (run : Run) : Type 0 where
-  pub played : IsPlayed N P L h run.timeline run.report.bytes.items
+pub record IsOnWay (N : Labels) (P : Problem) (L : Plan) (instance : ℕ → List Test) (u : Fraction) (acted : ℕ) (h : List Part) (run : Run) : Type 0 where
+  pub played : IsPlayed N P L instance h run.timeline run.report.bytes.items
   pub target_is : target L run.timeline.now ≡ u
   pub acted_is : run.timeline.now.acted ≡ acted
 
@@ -23,8 +24,8 @@ pub record StepsOn (N : Labels) (P : Problem) (u : Fraction) (old new : Run) : T
   pub most : new.timeline.most ≡ old.timeline.most
   pub ended : new.ended ≡ old.ended
   pub on_way :
-      (L : Plan) (acted : ℕ) (h : List Part) → HasBegun L → IsOnWay N P L u acted h old
-      → (h' : List Part) × IsOnWay N P L u acted h' new
+      (L : Plan) (instance : ℕ → List Test) (acted : ℕ) (h : List Part) → HasBegun L → IsOnWay N P L instance u acted h old
+      → (h' : List Part) × IsOnWay N P L instance u acted h' new
 
 -- the time is reached, and nothing is due there
 pub record Reaches (N : Labels) (P : Problem) (u : Fraction) (old new : Run) : Type 0 where
@@ -34,8 +35,8 @@ pub record Reaches (N : Labels) (P : Problem) (u : Fraction) (old new : Run) : T
   pub most : new.timeline.most ≡ old.timeline.most
   pub ended : new.ended ≡ old.ended
   pub reached :
-      (L : Plan) (acted : ℕ) (h : List Part) → HasBegun L → IsOnWay N P L u acted h old
-      → (h' : List Part) × IsReached N P L acted u h' new.timeline new.report.bytes.items
+      (L : Plan) (instance : ℕ → List Test) (acted : ℕ) (h : List Part) → HasBegun L → IsOnWay N P L instance u acted h old
+      → (h' : List Part) × IsReached N P L instance acted u h' new.timeline new.report.bytes.items
 
 abbrev pub Steps : Labels → Problem → Fraction → Run → Run → Bool → Type 0
 Steps N P u old new true = Reaches N P u old new

@@ -16,16 +16,18 @@ use Rattle.plus_report.specs.Text.{entry_text, literals_text, round_text, run_te
 use Rattle.plus_report.specs.Report.{report_of}
 use Rattle.plus_timeline.specs.declared.next.Next.{Next}
 use Rattle.plus_timeline.specs.declared.next.Next.TheVariants.{Round, Run, Entry, There}
-use Rattle.plus_validator.specs.Accepted.{entries_of}
-use Rattle.plus_validator.specs.Refused.{IsClear}
+use Rattle.plus_number.specs.Frac.{IsFrac64}
+use Rattle.plus_timeline.specs.Tests.{Test, AllPass}
+use Rattle.plus_timeline.specs.Asked.{advance_tests, asked}
+use Rattle.plus_validator.specs.Asking.{entries_of, IsClear}
 
--- the timeline and the report are those of this history of the plan, and no limit was reached before
-pub record IsPlayed (N : Labels) (P : Problem) (L : Plan) (h : List Part) (t : TimelineView) (report : List ℕ) : Type 0 where
+-- the timeline and the report are those of this history of the plan, and all that is asked before passes
+pub record IsPlayed (N : Labels) (P : Problem) (L : Plan) (instance : ℕ → List Test) (h : List Part) (t : TimelineView) (report : List ℕ) : Type 0 where
   pub prefix : Prefix P L h
   pub now : t.now ≡ view_of P h
   pub entries : t.entries ≡ entries_of h
   pub written : report ≡ report_of N P L h
-  pub clear : IsClear P L t.most h
+  pub clear : IsClear P L t.most instance h
 
 -- the timeline goes on, with this problem
 pub record CanGoOn (P : Problem) (t : TimelineView) : Type 0 where
@@ -72,20 +74,26 @@ abbrev pub AllActed : List Line → Bool → ℕ → Type 0
 AllActed lines true acted = acted + 1 ≡ length lines
 AllActed lines false acted = acted ≡ length lines
 
--- all lines read are worked, or none is read
-pub record IsReady (N : Labels) (P : Problem) (L : Plan) (ended : Bool) (h : List Part) (t : TimelineView) (report : List ℕ) : Type 0 where
-  pub played : IsPlayed N P L h t report
+-- all lines read are worked, and all that is asked there passes
+pub record HasWorked (P : Problem) (L : Plan) (instance : ℕ → List Test) (t : TimelineView) : Type 0 where
+  pub worked : IsWorked P L t.now
+  pub passed : AllPass IsFrac64 (asked P L t.most instance t.entries t.now)
+
+-- so it is, or none is read
+pub record IsReady (N : Labels) (P : Problem) (L : Plan) (instance : ℕ → List Test) (ended : Bool) (h : List Part) (t : TimelineView) (report : List ℕ) : Type 0 where
+  pub played : IsPlayed N P L instance h t report
   pub not_closed : L.closed ≡ false
   pub last : EndsBy L.lines ended t.now.time
   pub acted : AllActed L.lines ended t.now.acted
   pub moment : t.now.running ≡ None
-  pub worked : (L.lines ≡ []) ⊎ IsWorked P L t.now
+  pub worked : (L.lines ≡ []) ⊎ HasWorked P L instance t
 
 -- up to the time of the next line nothing is left to do
-pub record IsReached (N : Labels) (P : Problem) (L : Plan) (acted : ℕ) (time : Fraction) (h : List Part) (t : TimelineView) (report : List ℕ) : Type 0 where
-  pub played : IsPlayed N P L h t report
+pub record IsReached (N : Labels) (P : Problem) (L : Plan) (instance : ℕ → List Test) (acted : ℕ) (time : Fraction) (h : List Part) (t : TimelineView) (report : List ℕ) : Type 0 where
+  pub played : IsPlayed N P L instance h t report
   pub present : IsPresent P t.now
   pub over : until P L t.now ≡ t.now.time
+  pub passed : AllPass IsFrac64 (advance_tests P t.most t.entries (until P L t.now) t.now)
   pub acted_is : t.now.acted ≡ acted
   pub time_is : t.now.time ≡ time
 
@@ -107,9 +115,10 @@ pub record CanShow (P : Problem) (t : TimelineView) : Type 0 where
   pub atoms : t.atoms ≡ P.atoms
   pub fluents : t.fluents ≡ P.fluents
 
--- what is to be written of the step are events or processes of the problem
+-- what is to be written of the step are events or processes of the problem; an entry without literals leaves the state
+-- on arrival
 abbrev pub IsShown : {Q : Type 0} → Problem → TimelineView → Next Q → Type 0
 IsShown P t Round = All (λ e. e < length P.events) t.events
 IsShown P t Run = All (λ p. p < length P.processes) t.running
-IsShown P t (Entry time) = Unit {0}
+IsShown P t (Entry time) = t.literal ≡ false → t.arrival ≡ t.now.state
 IsShown P t There = Unit {0}

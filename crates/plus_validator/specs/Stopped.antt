@@ -1,12 +1,11 @@
 -- What a run that halts leaves: the report of a history of the lines read, at which its verdict stands.
-use Rattle.std.specs.Prelude.{◌≡◌, ◌⊎◌, ℕ, ◌≤◌, Bool, false, List, [], ◌∷◌, ◌++◌, length, Some}
+use Rattle.std.specs.Prelude.{◌≡◌, ◌⊎◌, ℕ, ◌≤◌, Bool, false, List, [], ◌∷◌, ◌++◌, Some}
 use Rattle.plus_fraction.specs.Fraction.{Fraction}
 use Rattle.plus_model.specs.Terms.{Problem}
 use Rattle.plus_model.specs.Plan as model
 use Rattle.plus_model.specs.Plan.{Plan, ActLine}
 use Rattle.plus_model.specs.History.{Part}
 use Rattle.plus_model.specs.Trajectory.{HasBegun, next_line, Prefix, view_of}
-use Rattle.plus_model.specs.Breach.{IsPresent, IsDue}
 use Rattle.plus_number.specs.declared.frac.Frac64.{Frac64}
 use Rattle.plus_state.specs.View.{Labels}
 use Rattle.plus_plan.specs.declared.forms.Time.{Time}
@@ -17,81 +16,69 @@ use Rattle.plus_report.specs.Report.{called_label, report_of}
 use Rattle.plus_validator.specs.declared.halt.Halt.{Halt}
 use Rattle.plus_validator.specs.declared.halt.Halt.TheVariants.{Refused, Memory}
 use Rattle.plus_validator.specs.declared.run.Run.{Run}
-use Rattle.plus_validator.specs.Accepted.{entries_of}
-use Rattle.plus_validator.specs.Plans.{Pair, line_meant, plan_of}
+use Rattle.plus_timeline.specs.Tests.{Test}
+use Rattle.plus_validator.specs.Asking.{entries_of, call_tests, instances_of, IsClear}
+use Rattle.plus_validator.specs.Plans.{Pair, line_meant, plan_of, plan_in, HasTime, HasValue}
 use Rattle.plus_tree.specs.declared.trees.Call.{Call}
 use Rattle.plus_expansion.specs.Calls.{called_of}
-use Rattle.plus_validator.specs.Standing.{IsPlayed}
+use Rattle.plus_validator.specs.Standing.{IsReached}
 use Rattle.plus_validator.specs.Running.{IsOnWay}
-use Rattle.plus_validator.specs.Playing.{Readied, closed}
-use Rattle.plus_validator.specs.Refused.{NoLimit, IsClear, IsNoLimit, Stands, NamesLine, NamesNoLine, IsWaiting, HasTime, number_in, TimeFault, Refusal, WholeLines, IsBeyondCall, IsCallOver}
+use Rattle.plus_validator.specs.Playing.{Readied, ReadiedFor, closed}
+use Rattle.plus_validator.specs.Refused.{Stands, NamesLine, NamesNoLine, IsWaiting, number_in, TimeFault, Refusal, WholeLines}
 
--- the report is that of a history of the plan, before which no limit stands
-pub record IsReported (N : Labels) (P : Problem) (L : Plan) (most : ℕ) (h : List Part) (report : List ℕ) : Type 0 where
+-- the report is that of a history of the plan, before which all that is asked passes
+pub record IsReported (N : Labels) (P : Problem) (L : Plan) (most : ℕ) (instance : ℕ → List Test) (h : List Part) (report : List ℕ) : Type 0 where
   pub prefix : Prefix P L h
   pub few : entries_of h ≤ most
-  pub clear : IsClear P L most h
+  pub clear : IsClear P L most instance h
   pub written : report ≡ report_of N P L h
 
 -- and the verdict stands there
-pub record IsStoppedAt (N : Labels) (P : Problem) (L : Plan) (most : ℕ) (report : List ℕ) (v : Verdict Frac64) : Type 0 where
+pub record IsStoppedAt (N : Labels) (P : Problem) (L : Plan) (most : ℕ) (instance : ℕ → List Test) (report : List ℕ) (v : Verdict Frac64) : Type 0 where
   pub history : List Part
-  pub reported : IsReported N P L most history report
-  pub stands : Stands P L most history v
-  pub alone : IsNoLimit v → NoLimit P L most history
+  pub reported : IsReported N P L most instance history report
+  pub stands : Stands P L most instance history v
 
 -- ---- on the way to a time
 
-pub record IsStoppedOnWay (N : Labels) (P : Problem) (L : Plan) (most : ℕ) (report : List ℕ) (v : Verdict Frac64) : Type 0 where
-  pub stopped : IsStoppedAt N P L most report v
+pub record IsStoppedOnWay (N : Labels) (P : Problem) (L : Plan) (most : ℕ) (instance : ℕ → List Test) (report : List ℕ) (v : Verdict Frac64) : Type 0 where
+  pub stopped : IsStoppedAt N P L most instance report v
   pub names : NamesNoLine v
 
-abbrev pub StopsOnWay : Labels → Problem → Plan → ℕ → List ℕ → Halt → Type 0
-StopsOnWay N P L most report (Refused v) = IsStoppedOnWay N P L most report v
-StopsOnWay N P L most report Memory = Unit {0}
+abbrev pub StopsOnWay : Labels → Problem → Plan → ℕ → (ℕ → List Test) → List ℕ → Halt → Type 0
+StopsOnWay N P L most instance report (Refused v) = IsStoppedOnWay N P L most instance report v
+StopsOnWay N P L most instance report Memory = Unit {0}
 
 -- the run halts on its way to the time u
 pub record HaltsOnWay (N : Labels) (P : Problem) (u : Fraction) (old new : Run) (halt : Halt) : Type 0 where
   pub stops :
-      (L : Plan) (acted : ℕ) (h : List Part) → HasBegun L → IsOnWay N P L u acted h old
-      → StopsOnWay N P L old.timeline.most new.report.bytes.items halt
+      (L : Plan) (instance : ℕ → List Test) (acted : ℕ) (h : List Part) → HasBegun L → IsOnWay N P L instance u acted h old
+      → StopsOnWay N P L old.timeline.most instance new.report.bytes.items halt
 
 -- the run halts at the end of the text
 pub record HaltsAtEnd (N : Labels) (P : Problem) (old new : Run) (halt : Halt) : Type 0 where
   pub stops :
-      (L : Plan) (h : List Part) → Readied N P L h old
-      → StopsOnWay N P (closed L) old.timeline.most new.report.bytes.items halt
+      (L : Plan) (instance : ℕ → List Test) (h : List Part) → Readied N P L instance h old
+      → StopsOnWay N P (closed L) old.timeline.most instance new.report.bytes.items halt
 
 -- ---- in a line
 
 -- line n, whose action is due
-pub record IsStoppedIn (N : Labels) (P : Problem) (L : Plan) (most n : ℕ) (report : List ℕ) (v : Verdict Frac64) : Type 0 where
-  pub stopped : IsStoppedAt N P L most report v
+pub record IsStoppedIn (N : Labels) (P : Problem) (L : Plan) (most : ℕ) (instance : ℕ → List Test) (n : ℕ) (report : List ℕ) (v : Verdict Frac64) : Type 0 where
+  pub stopped : IsStoppedAt N P L most instance report v
   pub names : NamesLine n (called_label (next_line L (view_of P stopped.history))) v
 
-abbrev pub StopsIn : Labels → Problem → Plan → ℕ → ℕ → List ℕ → Halt → Type 0
-StopsIn N P L most n report (Refused v) = IsStoppedIn N P L most n report v
-StopsIn N P L most n report Memory = Unit {0}
-
--- the instance of a call that is due is over a limit
-pub record IsStoppedAtCall (d : Pair) (N : Labels) (P : Problem) (L : Plan) (most acted : ℕ) (call : Call) (report : List ℕ) (v : Verdict Frac64) : Type 0 where
-  pub history : List Part
-  pub reported : IsReported N P L most history report
-  pub acted_is : (view_of P history).acted ≡ acted
-  pub due : IsDue P L (view_of P history) (called_of d.domain d.problem call.name call.args)
-  pub beyond : IsBeyondCall d call v
-
-abbrev pub StopsInAct : Pair → Labels → Problem → Plan → ℕ → ℕ → ℕ → Call → List ℕ → Halt → Type 0
-StopsInAct d N P L most n acted call report (Refused v) = IsStoppedIn N P L most n report v ⊎ IsStoppedAtCall d N P L most acted call report v
-StopsInAct d N P L most n acted call report Memory = Unit {0}
+abbrev pub StopsIn : Labels → Problem → Plan → ℕ → (ℕ → List Test) → ℕ → List ℕ → Halt → Type 0
+StopsIn N P L most instance n report (Refused v) = IsStoppedIn N P L most instance n report v
+StopsIn N P L most instance n report Memory = Unit {0}
 
 -- the run halts at the action that is due, which line n calls
 pub record HaltsInAct (d : Pair) (N : Labels) (P : Problem) (n : ℕ) (call : Call) (old new : Run) (halt : Halt) : Type 0 where
   pub stops :
-      (L : Plan) (h : List Part) → HasBegun L → IsPlayed N P L h old.timeline old.report.bytes.items
-      → IsPresent P old.timeline.now
+      (L : Plan) (instance : ℕ → List Test) (h : List Part) → HasBegun L → instance old.timeline.now.acted ≡ call_tests d call
+      → IsReached N P L instance old.timeline.now.acted old.timeline.now.time h old.timeline old.report.bytes.items
       → next_line L old.timeline.now ≡ Some (ActLine old.timeline.now.time (called_of d.domain d.problem call.name call.args))
-      → StopsInAct d N P L old.timeline.most n old.timeline.now.acted call new.report.bytes.items halt
+      → StopsIn N P L old.timeline.most instance n new.report.bytes.items halt
 
 abbrev pub TimeHalts : Problem → Plan → List Part → ℕ → model.Line → Time → Halt → Type 0
 TimeHalts P L h n meant time (Refused v) = TimeFault P L h n meant time v
@@ -100,45 +87,43 @@ TimeHalts P L h n meant time Memory = Unit {0}
 -- a line with this number and this time cannot be played
 pub record HaltsAtMoment (n : ℕ) (time : Time) (run : Run) (halt : Halt) : Type 0 where
   pub refused :
-      (N : Labels) (P : Problem) (L : Plan) (h : List Part) (meant : model.Line) → Readied N P L h run
+      (N : Labels) (P : Problem) (L : Plan) (instance : ℕ → List Test) (h : List Part) (meant : model.Line) → Readied N P L instance h run
       → model.time_of meant ≡ value_of time → TimeHalts P L h n meant time halt
 
 -- the lines before are worked, and the report is theirs
-pub record IsStoppedBefore (d : Pair) (N : Labels) (P : Problem) (L : Plan) (most : ℕ) (line : Line) (report : List ℕ) (v : Verdict Frac64) : Type 0 where
+pub record IsStoppedBefore (d : Pair) (N : Labels) (P : Problem) (ls : List Line) (most : ℕ) (line : Line) (report : List ℕ) (v : Verdict Frac64) : Type 0 where
   pub history : List Part
-  pub reported : IsReported N P L most history report
-  pub waits : IsWaiting P L history
+  pub reported : IsReported N P (plan_of d ls false) most (instances_of d ls) history report
+  pub waits : IsWaiting P (plan_of d ls false) most (instances_of d ls) history
   pub meant : model.Line
   pub meant_is : line_meant d line ≡ meant ∷ []
   pub time : Time
   pub time_is : HasTime line time
-  pub why : TimeFault P L history (number_in line) meant time v
+  pub why : TimeFault P (plan_of d ls false) history (number_in line) meant time v
 
--- the instance of the call of this line, which is due, is over a limit
-pub record IsStoppedOver (d : Pair) (N : Labels) (P : Problem) (L : Plan) (most acted : ℕ) (line : Line) (report : List ℕ) (v : Verdict Frac64) : Type 0 where
-  pub history : List Part
-  pub reported : IsReported N P L most history report
-  pub over : IsCallOver d P L acted history line v
+-- the line has its place and its time, and the run halts on the way to it or in it
+pub record IsStoppedBehind (d : Pair) (N : Labels) (P : Problem) (ls : List Line) (most : ℕ) (line : Line) (report : List ℕ) (v : Verdict Frac64) : Type 0 where
+  pub begun : HasBegun (plan_of d (ls ++ line ∷ []) false)
+  pub value : HasValue line
+  pub stopped : IsStoppedIn N P (plan_of d (ls ++ line ∷ []) false) most (instances_of d (ls ++ line ∷ [])) (number_in line) report v
 
-abbrev pub StopsInLine : Pair → Labels → Problem → Plan → ℕ → Line → List ℕ → Halt → Type 0
-StopsInLine d N P L most line report (Refused v) =
-    IsStoppedBefore d N P L most line report v
-    ⊎ (IsStoppedIn N P (record { lines = L.lines ++ line_meant d line; closed = L.closed }) most (number_in line) report v
-    ⊎ IsStoppedOver d N P (record { lines = L.lines ++ line_meant d line; closed = L.closed }) most (length L.lines) line report v)
-StopsInLine d N P L most line report Memory = Unit {0}
+abbrev pub StopsInLine : Pair → Labels → Problem → List Line → ℕ → Line → List ℕ → Halt → Type 0
+StopsInLine d N P ls most line report (Refused v) =
+    IsStoppedBefore d N P ls most line report v ⊎ IsStoppedBehind d N P ls most line report v
+StopsInLine d N P ls most line report Memory = Unit {0}
 
 -- the run halts at a line, or on its way to it
 pub record HaltsInLine (d : Pair) (N : Labels) (P : Problem) (line : Line) (old new : Run) (halt : Halt) : Type 0 where
   pub stops :
-      (L : Plan) (h : List Part) → Readied N P L h old
-      → StopsInLine d N P L old.timeline.most line new.report.bytes.items halt
+      (ls : List Line) (h : List Part) → ReadiedFor d N P ls h old
+      → StopsInLine d N P ls old.timeline.most line new.report.bytes.items halt
 
 -- ---- in a text
 
 -- the plan is refused, and the report is that of the history before
 pub record IsStoppedInText (d : Pair) (N : Labels) (P : Problem) (most : ℕ) (goes_on : Bool) (whole piece report : List ℕ) (v : Verdict Frac64) : Type 0 where
   pub refusal : Refusal d P most goes_on whole piece v
-  pub written : report ≡ report_of N P refusal.plan refusal.history
+  pub written : report ≡ report_of N P (plan_in d refusal.reading) refusal.history
 
 abbrev pub StopsInText : Pair → Labels → Problem → ℕ → Bool → List ℕ → List ℕ → List ℕ → Halt → Type 0
 StopsInText d N P most goes_on whole piece report (Refused v) = IsStoppedInText d N P most goes_on whole piece report v
@@ -147,13 +132,13 @@ StopsInText d N P most goes_on whole piece report Memory = Unit {0}
 -- the run halts in these lines, whatever stands behind them
 pub record HaltsInLines (d : Pair) (N : Labels) (P : Problem) (whole : List ℕ) (old new : Run) (halt : Halt) : Type 0 where
   pub stops :
-      (goes_on : Bool) (piece : List ℕ) (h : List Part) → Readied N P (plan_of d [] false) h old
+      (goes_on : Bool) (piece : List ℕ) (h : List Part) → ReadiedFor d N P [] h old
       → StopsInText d N P old.timeline.most goes_on whole piece new.report.bytes.items halt
 
 -- the run halts in a text that goes on so
 pub record HaltsInText (d : Pair) (N : Labels) (P : Problem) (goes_on : Bool) (whole piece : List ℕ) (old new : Run) (halt : Halt) : Type 0 where
   pub stops :
-      (h : List Part) → Readied N P (plan_of d [] false) h old
+      (h : List Part) → ReadiedFor d N P [] h old
       → StopsInText d N P old.timeline.most goes_on whole piece new.report.bytes.items halt
 
 -- the run halts in a plan text

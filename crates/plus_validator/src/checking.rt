@@ -83,7 +83,6 @@ fn refuse<O: Sink>(out: &mut O, fault: GroundFault) -> Outcome
 // Reads the plan text.
 fn read_text<S: Shelf>(alloc: Global, shelf: &mut S, plan: &str) -> Result<PlanText, Outcome>
     ensures read { IfOk result (λ t. IfSome (S.bytes shelf.old plan.now) (λ bytes. IsRead bytes t.bytes.items t.goes_on)) }
-    ensures few { IfOk result (λ t. length t.bytes.items ≤ 1048576) }
     // The shelf failed, or memory is wanting.
     ensures refused { IfErr result (ReadsNot (S.faults shelf.old) (S.faults shelf.new)) }
     ensures reads { ReadsOnce S.bytes S.picked S.rest S.picks 1048577 plan.now shelf.old shelf.new }

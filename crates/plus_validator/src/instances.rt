@@ -4,7 +4,8 @@ ghost use Rattle.plus_number.specs.Frac.{fraction_of, IsFrac64};
 ghost use Rattle.plus_state.specs.View.{action_of};
 ghost use Rattle.plus_expansion.specs.Calls.{called_of};
 ghost use Rattle.plus_ground.specs.Refusals.{RefusesCall};
-ghost use Rattle.plus_validator.specs.Made.{IsMade, AreMade, StayMade, HasMade, kept_at};
+ghost use Rattle.plus_validator.specs.Made.{IsMade, AreMade, StayMade, HasMade, made_at};
+ghost use Rattle.plus_validator.specs.declared.instances.Place.{Place};
 
 use indexmap::IndexMap;
 use plus_ground::{InstanceFault, instance};
@@ -18,6 +19,19 @@ use std::alloc::{AllocError, Global};
 /// The most conditions and effects of the instances that are kept together.
 const MOST_KEPT: u32 = 1_000_000;
 
+/// The fewest conditions and effects of an instance that is kept where its call has arguments: a smaller
+/// one is made faster than it is found.
+const LEAST_KEPT: u32 = 64;
+
+/// Where an instance stands, until the next call of `place`.
+#[derive(Clone, Copy)]
+pub enum Place {
+    /// Among those that are kept.
+    Listed(usize),
+    /// It is the last one made, and not kept.
+    Last,
+}
+
 /// An instance, with its call.
 #[derive(Drop)]
 struct Kept {
@@ -25,8 +39,9 @@ struct Kept {
     action: Action<Frac64>,
 }
 
-/// The instances of the actions of a pair. One that was made is kept, and found again by its call,
-/// until those kept have more than 1,000,000 conditions and effects together: then all are let go.
+/// The instances of the actions of a pair. A large one is kept, and one without arguments, and found
+/// again by its call, until those kept have more than 1,000,000 conditions and effects together: then all
+/// are let go.
 #[derive(Drop)]
 pub struct Instances<'a> {
     pub numbering: &'a Numbering<'a>,
@@ -35,6 +50,10 @@ pub struct Instances<'a> {
     places: IndexMap<Vec<u8>, usize>,
     // how many conditions and effects they have
     size: u32,
+    // whether one with arguments is kept
+    with_arguments: bool,
+    // the last one that was made and not kept
+    last: Option<Action<Frac64>>,
 }
 
 // How many conditions a condition has, with itself.
@@ -80,6 +99,10 @@ fn spelled(alloc: Global, call: &Call) -> Result<Vec<u8>, AllocError> {
     Ok(text)
 }
 
+fn has_arguments(call: &Call) -> bool {
+    !call.args.as_slice().is_empty()
+}
+
 fn copied_args(alloc: Global, args: &[Name]) -> Result<NameArgs, AllocError>
     ensures { IfOk result (λ copy. copy ≡ args.now) }
 {
@@ -123,38 +146,64 @@ impl<'a> Instances<'a> {
             kept: Vec::new(alloc),
             places: IndexMap::new(alloc),
             size: 0,
+            with_arguments: false,
+            last: None,
         }
     }
 
     /// The place of the instance of a call, until the next call of `place`. It is made where it is not
     /// kept. An `Err` comes as from `plus_ground::instance`.
-    pub fn place(&mut self, alloc: Global, call: &Call) -> Result<usize, InstanceFault>
+    pub fn place(&mut self, alloc: Global, call: &Call) -> Result<Place, InstanceFault>
         requires { AreMade self.old }
         ensures kept { StayMade self.old self.new }
         ensures made { IfOk result (HasMade self.old.numbering.now.typed.now self.new call.now.name call.now.args) }
         ensures refused { IfErr result (RefusesCall IsFrac64 self.old.numbering.now.typed.now.domain call.now.name
             (called_of self.old.numbering.now.typed.now.domain self.old.numbering.now.typed.now.problem call.now.name call.now.args)) }
     {
-        let text = spelled(alloc, call)?;
-        if let Some(place) = self.found(&text, call) {
-            return Ok(place);
+        if let Some(place) = self.kept_place(alloc, call)? {
+            return Ok(Place::Listed(place));
         }
         let action = instance::<Frac64>(alloc, self.numbering, call)?;
-        Ok(self.keep(alloc, text, call, action)?)
+        let size = size_of(&action);
+        if size < LEAST_KEPT && has_arguments(call) {
+            self.last = Some(action);
+            return Ok(Place::Last);
+        }
+        Ok(Place::Listed(self.keep(alloc, call, action, size)?))
     }
 
     /// The instance at a place.
-    pub fn at(&self, place: usize) -> &Action<Frac64>
-        requires { IsSome (kept_at self.now place) }
-        ensures { kept_at self.now place ≡ Some (action_of fraction_of result.now) }
+    pub fn at(&self, place: Place) -> &Action<Frac64>
+        requires { IsSome (made_at self.now place) }
+        ensures { made_at self.now place ≡ Some (action_of fraction_of result.now) }
     {
-        &self.kept[place].action
+        match place {
+            Place::Listed(place) => &self.kept[place].action,
+            Place::Last => match &self.last {
+                Some(action) => action,
+                None => unreachable!(),
+            },
+        }
     }
 
     // The place of the instance of a call, where it is kept.
+    fn kept_place(&self, alloc: Global, call: &Call) -> Result<Option<usize>, AllocError>
+        requires { AreMade self.now }
+        ensures { IfOk result (λ found. IfSome found (λ place.
+            HasMade self.now.numbering.now.typed.now self.now call.now.name call.now.args (Place.Listed place))) }
+    {
+        if has_arguments(call) && !self.with_arguments {
+            return Ok(None);
+        }
+        let text = spelled(alloc, call)?;
+        Ok(self.found(&text, call))
+    }
+
+    // The place of the instance of a call that is spelled so, where it is kept.
     fn found(&self, text: &[u8], call: &Call) -> Option<usize>
         requires { AreMade self.now }
-        ensures { IfSome result (HasMade self.now.numbering.now.typed.now self.now call.now.name call.now.args) }
+        ensures { IfSome result (λ place.
+            HasMade self.now.numbering.now.typed.now self.now call.now.name call.now.args (Place.Listed place)) }
     {
         let place = *self.places.get(text)?;
         let kept = self.kept.get(place)?;
@@ -177,28 +226,31 @@ impl<'a> Instances<'a> {
         self.kept.clear();
         self.places.clear();
         self.size = 0;
+        self.with_arguments = false;
     }
 
     // Keeps the instance of a call, and answers its place.
     fn keep(
         &mut self,
         alloc: Global,
-        text: Vec<u8>,
         call: &Call,
         action: Action<Frac64>,
+        size: u32,
     ) -> Result<usize, AllocError>
         requires kept { AreMade self.old }
         requires made { IsMade self.old.numbering.now.typed.now call.now.name call.now.args (action_of fraction_of action) }
         ensures kept { StayMade self.old self.new }
-        ensures made { IfOk result (HasMade self.old.numbering.now.typed.now self.new call.now.name call.now.args) }
+        ensures made { IfOk result (λ place.
+            HasMade self.old.numbering.now.typed.now self.new call.now.name call.now.args (Place.Listed place)) }
     {
-        let size = size_of(&action);
         self.make_room(size);
-        let call = copied(alloc, call)?;
+        let text = spelled(alloc, call)?;
+        let copy = copied(alloc, call)?;
         let place = self.kept.len();
         self.places.insert(text, place)?;
-        self.kept.push(Kept { call, action })?;
+        self.kept.push(Kept { call: copy, action })?;
         self.size = self.size.saturating_add(size);
+        self.with_arguments = self.with_arguments || has_arguments(call);
         Ok(place)
     }
 }

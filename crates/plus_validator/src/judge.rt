@@ -4,6 +4,7 @@ ghost use Rattle.plus_state.specs.View.{problem_of, labels_of};
 ghost use Rattle.plus_state.specs.Fits.{ProblemFits};
 ghost use Rattle.plus_number.specs.Frac.{fraction_of, IsFrac64};
 ghost use Rattle.plus_expansion.specs.Counting.{IsGroundable};
+ghost use Rattle.plus_validator.specs.Limits.{text_limit};
 ghost use Rattle.plus_validator.specs.Plans.{pair_in};
 ghost use Rattle.plus_validator.specs.Playing.{IsGroundOf, PlaysAll, PlaysWhole};
 ghost use Rattle.plus_model.specs.Terms.{Problem};
@@ -49,6 +50,7 @@ const LINE_LIMIT: usize = 4096;
 pub struct PlanText {
     pub bytes: Vec<u8>,
     pub goes_on: bool,
+    ghost within: { length bytes.items ≤ text_limit },
 }
 
 /// The report of a plan and its verdict line.
@@ -141,7 +143,6 @@ fn play_text(
     requires expands { IsGroundOf numbering.now.typed.now.domain numbering.now.typed.now.problem ground.now }
     requires can { CanGoOn (problem_of fraction_of ground.now) run.old.timeline }
     requires moment { run.old.timeline.now.running ≡ None }
-    requires few { length text.now.bytes.items ≤ 1048576 }
     ensures plays { OnOk result (PlaysWhole (pair_in numbering.now.typed.now) (labels_of ground.now)
         (problem_of fraction_of ground.now) text.now.bytes.items text.now.goes_on run.old run.new) }
     ensures stops { IfErr result (HaltsInPlan (pair_in numbering.now.typed.now) (labels_of ground.now)
@@ -193,7 +194,6 @@ pub fn judge(
     requires fits { ProblemFits (problem_of fraction_of ground.now) }
     requires groundable { IsGroundable IsFrac64 numbering.now.typed.now.domain numbering.now.typed.now.problem }
     requires some { 1 ≤ happenings }
-    requires few { length text.now.bytes.items ≤ 1048576 }
     ensures judged { IfOk result (IsJudged numbering.now.typed.now.domain numbering.now.typed.now.problem happenings
         text.now.bytes.items text.now.goes_on) }
     ensures memory { IfErr result (λ halt. halt ≡ Halt.Memory) }

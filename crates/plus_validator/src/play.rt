@@ -6,7 +6,6 @@ ghost use Rattle.plus_model.specs.Trajectory.{is_below};
 ghost use Rattle.plus_plan.specs.Answers.{HasBottom};
 ghost use Rattle.plus_state.specs.View.{problem_of, labels_of};
 ghost use Rattle.plus_timeline.specs.Finish.{IsPaused};
-ghost use Rattle.plus_expansion.specs.Calls.{called_of};
 ghost use Rattle.plus_validator.specs.Plans.{pair_in};
 ghost use Rattle.plus_validator.specs.Made.{AreMade, StayMade};
 ghost use Rattle.plus_validator.specs.Halts.{CallHalts, HaltFits};
@@ -124,8 +123,8 @@ impl Run {
         requires kept { AreMade instances.old }
         requires can { CanGoOn (problem_of fraction_of ground.now) self.old.timeline }
         requires paused { IsPaused self.old.timeline }
-        ensures acts { OnOk result (ActsOnce (labels_of ground.now) (problem_of fraction_of ground.now)
-            (called_of instances.old.numbering.now.typed.now.domain instances.old.numbering.now.typed.now.problem call.now.name call.now.args) self.old self.new) }
+        ensures acts { OnOk result (ActsOnce (pair_in instances.old.numbering.now.typed.now) (labels_of ground.now)
+            (problem_of fraction_of ground.now) call.now self.old self.new) }
         ensures stops { IfErr result (HaltsInAct (pair_in instances.old.numbering.now.typed.now) (labels_of ground.now)
             (problem_of fraction_of ground.now) line call.now self.old self.new) }
         ensures kept { StayMade instances.old instances.new }

@@ -14,7 +14,7 @@ use crate::halt::Halt;
 use crate::memory::Report;
 use plus_io::Failed;
 use plus_number::frac::Frac64;
-use plus_report::{write_entry, write_literals, write_round, write_run};
+use plus_report::{write_entry, write_entry_changes, write_literals, write_round, write_run};
 use plus_state::problem::Ground;
 use plus_timeline::{Next, Timeline};
 use std::alloc::Global;
@@ -56,11 +56,11 @@ fn write_next(
         ),
         Next::Run => write_run(report, ground, timeline.running()),
         Next::Entry { time } => {
-            write_entry(report, ground, time, timeline.before(), timeline.arrival())?;
             if timeline.has_literals() {
+                write_entry(report, ground, time, timeline.before(), timeline.arrival())?;
                 return write_literals(report, ground, timeline.arrival(), timeline.state());
             }
-            Ok(())
+            write_entry_changes(report, ground, time, timeline.before(), timeline.changes())
         }
         Next::There => Ok(()),
     }

@@ -2,4 +2,4 @@ use Rattle.plus_timeline.proofs.Follows as follows
 use Rattle.plus_timeline.proofs.laws.act_breaks.Goals as goal
 
 pub returns : goal.returns
-returns g c = follows.act_breaks g.Q.Exact.value g.Q.Exact.fits
+returns g c = follows.act_breaks g.Q.Exact.value

@@ -2,4 +2,4 @@ use Rattle.plus_timeline.proofs.Follows as follows
 use Rattle.plus_timeline.proofs.laws.act_follows.Goals as goal
 
 pub returns : goal.returns
-returns g c = follows.act_follows g.Q.Exact.fits
+returns c = follows.act_follows

@@ -2,4 +2,4 @@ use Rattle.plus_timeline.proofs.Follows as follows
 use Rattle.plus_timeline.proofs.laws.finish_breaks.Goals as goal
 
 pub returns : goal.returns
-returns g c = follows.finish_breaks g.Q.Exact.fits
+returns c = follows.finish_breaks

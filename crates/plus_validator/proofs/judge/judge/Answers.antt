@@ -17,7 +17,7 @@ returns-clause-judged c =
     let P = problem_of fraction_of c.args.ground.now in
     let j : Judgement = record { bytes = c.write_verdict.new.out.bytes; outcome = c.outcome_of-outcome.result } in
     judged c.args.numbering.now.typed.now.domain c.args.numbering.now.typed.now.problem N P c.args.happenings c.args.text.now.bytes.items c.args.text.now.goes_on
-    c.in_ok-run.run' c.play_text.new.run c.requires.groundable j c.play_text.result c.in_ok-verdict.verdict c.requires.few c.requires.expands.expands
+    c.in_ok-run.run' c.play_text.new.run c.requires.groundable j c.play_text.result c.in_ok-verdict.verdict c.args.text.now.within c.requires.expands.expands
     c.requires.expands.labels c.in_ok-run.ensures.begins c.play_text.ensures.plays c.play_text.ensures.stops c.play_text.ensures.fits c.in_ok-verdict.ensures.gives
     c.outcome_of-outcome.ensures
     (took_all c.play_text.new.run.report.bytes.items c.write_verdict.new.out.bytes.items (verdict_text fraction_of N P c.in_ok-verdict.verdict)

@@ -1,30 +1,45 @@
 use Rattle.std.proofs.Common.{◌≡◌, false, sym, subst}
+use Rattle.std.specs.Prelude.{Ok, Err}
 use Rattle.plus_model.specs.Terms.{State}
 use Rattle.plus_state.specs.Changes.{patched, RisesIn}
 use Rattle.plus_state.specs.View.{problem_of, action_of}
-use Rattle.plus_timeline.specs.Act.{ActsOn}
+use Rattle.plus_timeline.specs.Asked.{act_tests}
+use Rattle.plus_timeline.specs.Act.{ActsOn, BreaksAct, EffectTold}
 use Rattle.plus_timeline.proofs.StillWorld.{nothing_fires}
+use Rattle.plus_timeline.proofs.Telling.{refusal_told}
 use Rattle.plus_timeline.proofs.timeline.Timeline.act.Goals as goal
 
 pub put_changes-requires-clause-rises : goal.put_changes-requires-clause-rises
 put_changes-requires-clause-rises g c = subst (λ (s : State). RisesIn s c.in-Ok.changes) c.state.ensures.state c.in-Ok.ensures.rises
 
-pub returns-in-Ok-put_changes-clause-ok : goal.returns-in-Ok-put_changes-clause-ok
-returns-in-Ok-put_changes-clause-ok g c =
+pub returns-in-Ok-put_changes-clause-told : goal.returns-in-Ok-put_changes-clause-told
+returns-in-Ok-put_changes-clause-told g c =
     let a = action_of g.Q.Exact.value c.args.action.now in
     let v = c.args.self.now in
     let going : v.ended ≡ false = sym c.if-has_ended.ensures in
-    let after = patched v.now.state c.in-Ok.changes in
-    let on : ActsOn g.Q.Exact.fits a v.now.state after =
-    subst (λ (s : State). ActsOn g.Q.Exact.fits a s (patched s c.in-Ok.changes)) c.state.ensures.state c.in-Ok.ensures.ok in
+    let told =
+    subst (λ (s : State). EffectTold g.Q.Exact.value g.Q.Exact.fits a c.args.line s (patched s) (Ok c.in-Ok.changes)) c.state.ensures.state c.in-Ok.ensures.told v.now.acted in
     record {
-      moment = c.in-Ok-put_changes.ensures.moment;
-      tests = on.tests;
-      after = after;
-      acts = record {
-        still = nothing_fires (problem_of g.Q.Exact.value c.args.ground.now) v.now.state (c.requires.serves going).still;
-        may = on.may;
-        effect = on.effect;
+      going = going;
+      pass = told.pass;
+      does = record {
+        moment = c.in-Ok-put_changes.ensures.moment;
+        after = patched v.now.state c.in-Ok.changes;
+        acts = record {
+          still = nothing_fires (problem_of g.Q.Exact.value c.args.ground.now) v.now.state (c.requires.serves going).still;
+          may = told.does.may;
+          effect = told.does.effect;
+        };
+        is = c.in-Ok-put_changes.ensures.ok;
       };
-      is = c.in-Ok-put_changes.ensures.ok;
     }
+
+pub returns-in-Err-clause-told : goal.returns-in-Err-clause-told
+returns-in-Err-clause-told g c =
+    let a = action_of g.Q.Exact.value c.args.action.now in
+    let v = c.args.self.now in
+    let going : v.ended ≡ false = sym c.if-has_ended.ensures in
+    let told =
+    subst (λ (s : State). EffectTold g.Q.Exact.value g.Q.Exact.fits a c.args.line s (patched s) (Err c.in-Err.stop)) c.state.ensures.state c.in-Err.ensures.told v.now.acted in
+    refusal_told {B = Unit {0}} g.Q.Exact.value g.Q.Exact.fits v.now.acted v.ended (act_tests v.now.acted a v.now.state)
+    (λ t. ActsOn a v.now.state (patched v.now.state t)) (λ _. Unit {0}) (BreaksAct a c.args.line v.now.state) c.in-Err.stop going told

@@ -17,21 +17,21 @@ returns-in_err-push-clause-kept c = record {
 
 pub returns-clause-kept : goal.returns-clause-kept
 returns-clause-kept c =
-    let k : Kept = record { call = c.in_ok-call.call; action = c.args.action } in
+    let k : Kept = record { call = c.in_ok-copy.copy; action = c.args.action } in
     let t = c.args.self.now.numbering.now.typed.now in
     let u = c.make_room.new.self.numbering.now.typed.now in
     record {
       same = c.make_room.ensures.same;
       made = record {
         all = all_kept u k c.make_room.new.self.kept.items c.push.new.self.items c.make_room.ensures.made.all
-            (kept_copy t u k c.args.call.now.name c.args.call.now.args (ap (λ r. r.now.typed.now) c.make_room.ensures.same) c.in_ok-call.ensures.name c.in_ok-call.ensures.args c.requires.made)
+            (kept_copy t u k c.args.call.now.name c.args.call.now.args (ap (λ r. r.now.typed.now) c.make_room.ensures.same) c.in_ok-copy.ensures.name c.in_ok-copy.ensures.args c.requires.made)
             c.in_ok-push.ensures.items;
       };
     }
 
 pub returns-clause-made : goal.returns-clause-made
 returns-clause-made c =
-    let k : Kept = record { call = c.in_ok-call.call; action = c.args.action } in
+    let k : Kept = record { call = c.in_ok-copy.copy; action = c.args.action } in
     let e : c.len-place.result ≡ length c.make_room.new.self.kept.items = first_of (omega arith, search rules, cc) in
     record {
       action = action_of fraction_of c.args.action;

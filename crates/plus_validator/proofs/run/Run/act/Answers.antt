@@ -4,7 +4,6 @@ use Rattle.plus_state.specs.Changes.{patched, RisesIn}
 use Rattle.plus_number.specs.Frac.{fraction_of}
 use Rattle.plus_state.specs.View.{problem_of, labels_of, action_of}
 use Rattle.plus_validator.specs.declared.run.Run.{Run}
-use Rattle.plus_expansion.specs.Calls.{called_of}
 use Rattle.plus_validator.proofs.Shown.{act_reported}
 use Rattle.plus_validator.proofs.Played.{acts_once}
 use Rattle.plus_validator.proofs.Grounded.{instance_fits}
@@ -14,7 +13,7 @@ use Rattle.plus_validator.specs.Halts.{stop_halt, HaltFits}
 use Rattle.plus_validator.proofs.Halting.{from_err, act_halts}
 use Rattle.plus_validator.specs.Stopped.{HaltsInAct}
 use Rattle.plus_validator.proofs.Stopping.{call_halts_in, act_halts_in}
-use Rattle.plus_validator.proofs.Making.{made_at}
+use Rattle.plus_validator.proofs.Making.{made_here}
 use Rattle.plus_validator.proofs.run.Run.act.Goals as goal
 
 pub write_act_changes-requires-clause-changes : goal.write_act_changes-requires-clause-changes
@@ -25,8 +24,8 @@ returns-clause-acts c =
     let N = labels_of c.args.ground.now in
     let P = problem_of fraction_of c.args.ground.now in
     let new : Run = record { timeline = c.act.new.self; report = c.write_act_changes.new.out; ended = c.args.self.now.ended } in
-    acts_once N P (called_of c.args.instances.now.numbering.now.typed.now.domain c.args.instances.now.numbering.now.typed.now.problem c.args.call.now.name c.args.call.now.args) (action_of fraction_of c.at-action.result.now)
-    c.args.self.now new c.requires.can (made_at _ _ _ _ _ _ c.in-Ok.ensures.made c.at-action.ensures).called.is c.in_ok-act.ensures.ok c.in_ok-act.ensures.limit refl
+    acts_once (pair_in c.args.instances.now.numbering.now.typed.now) N P c.args.call.now (action_of fraction_of c.at-action.result.now)
+    c.args.self.now new c.requires.can (made_here _ _ _ _ _ _ c.in-Ok.ensures.made c.at-action.ensures).called c.in_ok-act.ensures.told.pass c.in_ok-act.ensures.told.does refl
     (act_reported c.args.self.now.report.bytes.items c.write_act_changes.new.out.bytes.items N c.at-action.result.now.label c.before-2.result.now (patched c.before-2.result.now c.changes.result.now)
     c.act.new.self.before c.act.new.self.now.state c.in_ok-write_act_changes.ensures.outcome c.before-2.ensures.state (ap (λ (s : State). patched s c.changes.result.now) c.before-2.ensures.state ∙ sym c.changes.ensures.is))
 
@@ -38,9 +37,9 @@ returns-in_err-act-clause-fits c =
     let P = problem_of fraction_of c.args.ground.now in
     let stop = c.in_err-act.field-0.0 in
     from_err c.from_residual.result (λ (h : Halt). h ≡ stop_halt stop) (HaltFits P) c.from_residual.ensures.1
-    (λ h e. act_halts P (action_of fraction_of c.at-action.result.now) c.args.line c.args.self.now.timeline stop h P.atoms
-    (instance_fits c.args.instances.now.numbering.now.typed.now.domain c.args.instances.now.numbering.now.typed.now.problem c.args.ground.now (action_of fraction_of c.at-action.result.now) c.requires.expands (made_at _ _ _ _ _ _ c.in-Ok.ensures.made c.at-action.ensures).fits).1
-    e c.in_err-act.ensures.breach c.in_err-act.ensures.limit)
+    (λ h e. act_halts P (action_of fraction_of c.at-action.result.now) c.args.line c.args.self.now.timeline c.act.new.self stop h P.atoms
+    (instance_fits c.args.instances.now.numbering.now.typed.now.domain c.args.instances.now.numbering.now.typed.now.problem c.args.ground.now (action_of fraction_of c.at-action.result.now) c.requires.expands (made_here _ _ _ _ _ _ c.in-Ok.ensures.made c.at-action.ensures).fits).1
+    e c.in_err-act.ensures.told)
 
 pub returns-in-Err-clause-stops : goal.returns-in-Err-clause-stops
 returns-in-Err-clause-stops c =
@@ -55,5 +54,5 @@ returns-in_err-act-clause-stops c =
     let new : Run = record { timeline = c.act.new.self; report = c.args.self.now.report; ended = c.args.self.now.ended } in
     let stop = c.in_err-act.field-0.0 in
     from_err c.from_residual.result (λ (h : Halt). h ≡ stop_halt stop) (HaltsInAct d N P c.args.line c.args.call.now c.args.self.now new) c.from_residual.ensures.1
-    (λ h e. act_halts_in d N P c.args.line c.args.call.now (action_of fraction_of c.at-action.result.now) c.args.self.now new stop h c.requires.can (made_at _ _ _ _ _ _ c.in-Ok.ensures.made c.at-action.ensures).called.is e
-    c.in_err-act.ensures.breach c.in_err-act.ensures.limit refl)
+    (λ h e. act_halts_in d N P c.args.line c.args.call.now (action_of fraction_of c.at-action.result.now) c.args.self.now new stop h c.requires.can (made_here _ _ _ _ _ _ c.in-Ok.ensures.made c.at-action.ensures).called e
+    c.in_err-act.ensures.told refl)

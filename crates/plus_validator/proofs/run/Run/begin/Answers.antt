@@ -5,6 +5,7 @@ use Rattle.plus_validator.specs.declared.run.Run.{Run}
 use Rattle.plus_timeline.specs.declared.next.Next.TheVariants.{Entry}
 use Rattle.plus_validator.specs.Standing.{next_text}
 use Rattle.plus_validator.proofs.Closing.{begins}
+use Rattle.plus_validator.proofs.Steps.{begun_shown}
 use Rattle.plus_validator.proofs.run.Run.begin.Goals as goal
 
 pub returns-clause-begins : goal.returns-clause-begins
@@ -15,3 +16,6 @@ returns-clause-begins c =
     begins N P c.args.happenings c.time.result new c.requires.fits c.requires.still c.requires.some c.in_ok-timeline.ensures refl
     c.time.ensures
     (c.in_ok-write_next.ensures ∙ ap (λ x. x ++ next_text fraction_of N P c.in_ok-timeline.timeline (Entry c.time.result)) c.new-report.ensures)
+
+pub write_next-requires-clause-shown : goal.write_next-requires-clause-shown
+write_next-requires-clause-shown c = λ _. begun_shown (problem_of fraction_of c.args.ground.now) c.args.happenings c.in_ok-timeline.timeline c.requires.still c.in_ok-timeline.ensures

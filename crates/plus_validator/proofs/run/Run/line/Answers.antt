@@ -1,11 +1,11 @@
 use Rattle.plus_validator.specs.Plans.{pair_in}
-use Rattle.std.proofs.Common.{◌≡◌, refl, sym, subst, true}
+use Rattle.std.proofs.Common.{◌≡◌, refl, sym, subst, true, inl, inr}
 use Rattle.plus_number.specs.Frac.{fraction_of}
 use Rattle.plus_state.specs.View.{problem_of, labels_of}
 use Rattle.plus_validator.specs.declared.run.Run.{Run}
 use Rattle.std.specs.Prelude.{OnOk, Result, Ok, Err}
 use Rattle.plus_validator.specs.Playing.{PlaysLine}
-use Rattle.plus_validator.proofs.Played.{act_played, end_played}
+use Rattle.plus_validator.proofs.Played.{act_played, end_played, IsNoLine, nothing_played}
 use Rattle.plus_validator.specs.declared.halt.Halt.{Halt}
 use Rattle.plus_validator.specs.Halts.{HaltFits}
 use Rattle.plus_validator.proofs.Halting.{from_err}
@@ -43,6 +43,15 @@ returns-in_ok-reach-in-End-clause-plays c =
     subst (λ l. PlaysLine d N P l c.args.self.now new) (sym c.in-End.is)
     (end_played d N P c.in-End.line c.in-End.time c.in_ok-until-in-End.until c.args.self.now c.reach-in-End.new.self new
     c.in_ok-until-in-End.ensures.ok c.in_ok-reach-in-End.ensures.reaches refl refl refl)
+
+pub returns-in-Blank-clause-plays : goal.returns-in-Blank-clause-plays
+returns-in-Blank-clause-plays c =
+    let q : IsNoLine c.args.read.now = elim c.in-Blank.is [
+      | inl e ↦ subst IsNoLine (sym e) tt
+      | inr e ↦ subst IsNoLine (sym e.2) tt
+    ] in
+    nothing_played (pair_in c.args.instances.now.numbering.now.typed.now) (labels_of c.args.ground.now) (problem_of fraction_of c.args.ground.now)
+    c.args.read.now c.args.self.now q c.requires.can c.requires.moment
 
 pub returns-in_err-until-in-Act-clause-fits : goal.returns-in_err-until-in-Act-clause-fits
 returns-in_err-until-in-Act-clause-fits c =
@@ -89,7 +98,7 @@ returns-in_err-reach-in-Act-clause-stops c =
     let at = c.in_ok-until-in-Act.until in
     from_err c.from_residual-in_err-reach-in-Act.result (λ (h : Halt). h ≡ c.in_err-reach-in-Act.field-0.0) (HaltsInLine d N P c.args.read.now c.args.self.now c.reach.new.self) c.from_residual-in_err-reach-in-Act.ensures.1
     (λ h e. subst (λ (l : Line). HaltsInLine d N P l c.args.self.now c.reach.new.self h) (sym c.in-Act.is)
-    (halts_before d N P line (ActLine (value_of c.in-Act.time) (called_of d.domain d.problem c.in-Act.call.name c.in-Act.call.args)) c.in-Act.time at c.args.self.now c.reach.new.self h refl refl
+    (halts_before d N P line (ActLine (value_of c.in-Act.time) (called_of d.domain d.problem c.in-Act.call.name c.in-Act.call.args)) c.in-Act.time at c.args.self.now c.reach.new.self h refl refl (λ t k. k)
     c.in_ok-until-in-Act.ensures.ok
     (subst (HaltsOnWay N P (fraction_of at) c.args.self.now c.reach.new.self) (sym e) c.in_err-reach-in-Act.ensures.stops)))
 
@@ -102,7 +111,7 @@ returns-in_err-reach-in-End-clause-stops c =
     let at = c.in_ok-until-in-End.until in
     from_err c.from_residual-in_err-reach-in-End.result (λ (h : Halt). h ≡ c.in_err-reach-in-End.field-0.0) (HaltsInLine d N P c.args.read.now c.args.self.now c.reach-in-End.new.self) c.from_residual-in_err-reach-in-End.ensures.1
     (λ h e. subst (λ (l : Line). HaltsInLine d N P l c.args.self.now c.reach-in-End.new.self h) (sym c.in-End.is)
-    (halts_before d N P line (EndLine (value_of c.in-End.time)) c.in-End.time at c.args.self.now c.reach-in-End.new.self h refl refl
+    (halts_before d N P line (EndLine (value_of c.in-End.time)) c.in-End.time at c.args.self.now c.reach-in-End.new.self h refl refl (λ t k. k)
     c.in_ok-until-in-End.ensures.ok
     (subst (HaltsOnWay N P (fraction_of at) c.args.self.now c.reach-in-End.new.self) (sym e) c.in_err-reach-in-End.ensures.stops)))
 
