@@ -9,6 +9,7 @@ use Rattle.plus_model.specs.Terms.{Effect, Event, State, Problem}
 use Rattle.plus_model.specs.Value.{holds}
 use Rattle.plus_model.specs.Firing.{numbers_of, firing, effects_at, effects_of}
 use Rattle.plus_state.specs.declared.problem.Event as code
+use Rattle.plus_number.specs.declared.exact.Exact.{Ghosts}
 use Rattle.plus_state.specs.declared.problem.Ground.{Ground}
 use Rattle.plus_state.specs.View.{event_of, effect_of, problem_of}
 use Rattle.plus_state.specs.Fits.{EventFits, StateFits}
@@ -116,7 +117,7 @@ module _ (fits : Fraction → Type 0) (P : Problem) (due : List Due) (e : ℕ) (
   joining_stop : (m : Step) → FirstStop fits (add_steps es s) m → FirstStop fits (add_steps (effects_of P whole) s) m
   joining_stop m u = h.stop m (subst (λ (ns : List Step). FirstStop fits ns m) (sym steps_here) (fail_left (Passes fits) _ _ m u))
 
-pub below_all : {Q : Type 0} (v : Q → Fraction) (g : Ground Q) (es : List ℕ) → All (λ e. e < length g.events.items) es → All (λ e. e < length (problem_of v g).events) es
+pub below_all : {Q : Type 0} {E : Ghosts Q} (v : Q → Fraction) (g : Ground Q E) (es : List ℕ) → All (λ e. e < length g.events.items) es → All (λ e. e < length (problem_of v g).events) es
 below_all v g es h = subst (λ (n : ℕ). All (λ e. e < n) es) (sym (length-map g.events.items (event_of v))) h
 
 -- the stop of the effects of one event
@@ -127,7 +128,7 @@ joining_stops v fits P due e rest whole s es h k (Number o) u = joining_stop fit
 joining_stops v fits P due e rest whole s es h k Memory u = tt
 
 -- the next event is one of the list
-pub joining_inside : {Q : Type 0} (v : Q → Fraction) (fits : Fraction → Type 0) (g : Ground Q) (due : List Due) (e : ℕ) (rest whole : List ℕ) (s : State) → Joining fits (problem_of v g) due (e ∷ rest) whole s → e < length g.events.items
+pub joining_inside : {Q : Type 0} {E : Ghosts Q} (v : Q → Fraction) (fits : Fraction → Type 0) (g : Ground Q E) (due : List Due) (e : ℕ) (rest whole : List ℕ) (s : State) → Joining fits (problem_of v g) due (e ∷ rest) whole s → e < length g.events.items
 joining_inside v fits g due e rest whole s h =
     let below : e < length (map (event_of v) g.events.items) = All-head (λ e. e < length (map (event_of v) g.events.items)) e rest h.inside in
     rw length-map at below

@@ -1,7 +1,5 @@
 // The events that have fired in a cascade.
 ghost use Rattle.std.specs.Prelude.{◌≡◌, ◌<◌, false, length, replicate, option_map, All, IfOk};
-ghost use Rattle.plus_state.specs.View.{problem_of};
-ghost use Rattle.plus_state.specs.Fits.{ProblemFits};
 ghost use Rattle.plus_cascade.specs.Fired.{event_numbers, with_fired, first_repeated};
 
 use plus_number::exact::Exact;
@@ -28,7 +26,6 @@ impl Model for Cascade {
 
 /// The empty set, for the events of this problem.
 pub fn begin<Q: Exact>(alloc: Global, ground: &Ground<Q>) -> Result<Cascade, AllocError>
-    requires { ProblemFits (problem_of Q.value ground.now) }
     ensures { IfOk result (λ c. c ≡ replicate (length (ground.now.events.items)) false) }
 {
     Ok(Cascade {

@@ -2,7 +2,7 @@
 ghost use Rattle.std.specs.Prelude.{◌≡◌, ◌<◌, [], ◌∷◌, ◌++◌, length, map, All, IfOk, OnErr, MatchResult, if◌then◌else◌};
 ghost use Rattle.plus_model.specs.Firing.{firing as firing_of, effects_of};
 ghost use Rattle.plus_state.specs.View.{problem_of};
-ghost use Rattle.plus_state.specs.Fits.{ProblemFits, StateFits};
+ghost use Rattle.plus_state.specs.Fits.{StateFits};
 ghost use Rattle.plus_state.specs.Changes.{RisesIn};
 ghost use Rattle.plus_state.specs.Asked.{AllFit};
 ghost use Rattle.plus_state.specs.Applies.{ChangesJointly};
@@ -37,7 +37,6 @@ pub fn firing<Q: Exact>(
     ground: &Ground<Q>,
     state: &State<Q>,
 ) -> Result<Vec<EventId>, CascadeStop<Q>>
-    requires fits { ProblemFits (problem_of Q.value ground.now) }
     requires state { StateFits (length (ground.now.atoms.items)) (length (ground.now.fluents.items)) state.now }
     ensures { MatchResult result
         (λ events. AllFit Q.fits (condition_nodes ((problem_of Q.value ground.now).events) state.now)
@@ -64,7 +63,6 @@ pub fn changed_together<Q: Exact>(
     events: &[EventId],
     state: &State<Q>,
 ) -> Result<Changes<Q>, JointStop<Q>>
-    requires fits { ProblemFits (problem_of Q.value ground.now) }
     requires state { StateFits (length (ground.now.atoms.items)) (length (ground.now.fluents.items)) state.now }
     requires events { All (λ e. e < length (ground.now.events.items)) (event_numbers events.now) }
     ensures rises { IfOk result (RisesIn state.now) }

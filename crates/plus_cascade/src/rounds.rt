@@ -1,7 +1,7 @@
 //! One round of a cascade.
 ghost use Rattle.std.specs.Prelude.{◌≡◌, length, IfOk, IfSome};
 ghost use Rattle.plus_state.specs.View.{problem_of};
-ghost use Rattle.plus_state.specs.Fits.{ProblemFits, StateFits};
+ghost use Rattle.plus_state.specs.Fits.{StateFits};
 ghost use Rattle.plus_state.specs.Changes.{RisesIn};
 ghost use Rattle.plus_cascade.specs.Rounds.{Rounds, RoundChanges, of_joint, set_after};
 
@@ -71,7 +71,6 @@ pub fn round_changes<Q: Exact>(
     ground: &Ground<Q>,
     state: &State<Q>,
 ) -> Result<Option<DueRound<Q>>, CascadeStop<Q>>
-    requires fits { ProblemFits (problem_of Q.value ground.now) }
     requires state { StateFits (length (ground.now.atoms.items)) (length (ground.now.fluents.items)) state.now }
     requires events { length cascade.now ≡ length (ground.now.events.items) }
     ensures told { RoundChanges Q.value Q.fits (problem_of Q.value ground.now) cascade.now state.now result }
@@ -99,7 +98,6 @@ pub fn round<Q: Exact>(
     ground: &Ground<Q>,
     state: &State<Q>,
 ) -> Result<Option<FiredRound<Q>>, CascadeStop<Q>>
-    requires fits { ProblemFits (problem_of Q.value ground.now) }
     requires state { StateFits (length (ground.now.atoms.items)) (length (ground.now.fluents.items)) state.now }
     requires events { length cascade.old ≡ length (ground.now.events.items) }
     ensures told { Rounds Q.value Q.fits (problem_of Q.value ground.now) cascade.old state.now result }

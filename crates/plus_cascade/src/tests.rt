@@ -1,7 +1,7 @@
 // Rounds of small sets of events over the atoms (a), (b) and (c), of which (a) holds at first.
 ghost use Rattle.std.specs.Prelude.{◌≡◌, ◌<◌, ◌^◌, length, map, All, IfOk};
-ghost use Rattle.plus_state.specs.View.{condition_of, effect_of, event_of, write_of, problem_of};
-ghost use Rattle.plus_state.specs.Fits.{AllEffectsFit, EventFits, Fits, ProblemFits, StateFits, WriteFits, comparisons};
+ghost use Rattle.plus_state.specs.View.{condition_of, effect_of, event_of, write_of};
+ghost use Rattle.plus_state.specs.Fits.{AllEffectsFit, EventFits, Fits, StateFits, WriteFits, comparisons};
 
 use crate::{Cascade, CascadeStop, FiredRound, begin, round};
 use plus_number::exact::Exact;
@@ -97,7 +97,6 @@ fn first_state(alloc: Global) -> Result<State<Frac64>, AllocError>
 fn problem(alloc: Global, events: Vec<Event<Frac64>>) -> Result<Ground<Frac64>, AllocError>
     requires fits { All (λ e. EventFits 3 0 (event_of ⟦<Frac64 as Exact>⟧.value e)) events.items }
     requires few { length events.items < 2 ^ 32 }
-    ensures fits_all { IfOk result (λ g. ProblemFits (problem_of ⟦<Frac64 as Exact>⟧.value g)) }
     ensures atoms { IfOk result (λ g. length g.atoms.items ≡ 3) }
     ensures fluents { IfOk result (λ g. length g.fluents.items ≡ 0) }
 {
@@ -121,7 +120,6 @@ fn problem(alloc: Global, events: Vec<Event<Frac64>>) -> Result<Ground<Frac64>, 
 
 // No event has fired.
 fn none_fired(alloc: Global, ground: &Ground<Frac64>) -> Result<Cascade, AllocError>
-    requires { ProblemFits (problem_of ⟦<Frac64 as Exact>⟧.value ground.now) }
     ensures { IfOk result (λ c. length c ≡ length ground.now.events.items) }
 {
     Ok(begin(alloc, ground)?)
@@ -134,7 +132,6 @@ fn turn(
     ground: &Ground<Frac64>,
     state: &mut State<Frac64>,
 ) -> Result<Vec<EventId>, Option<EventId>>
-    requires fits { ProblemFits (problem_of ⟦<Frac64 as Exact>⟧.value ground.now) }
     requires atoms { length ground.now.atoms.items ≡ 3 }
     requires fluents { length ground.now.fluents.items ≡ 0 }
     requires state { StateFits 3 0 state.old }
@@ -164,7 +161,6 @@ fn fires(
     events: &[EventId],
     atoms: [bool; 3],
 ) -> bool
-    requires fits { ProblemFits (problem_of ⟦<Frac64 as Exact>⟧.value ground.now) }
     requires atoms { length ground.now.atoms.items ≡ 3 }
     requires fluents { length ground.now.fluents.items ≡ 0 }
     requires state { StateFits 3 0 state.old }
@@ -196,7 +192,6 @@ fn repeats(
     state: &mut State<Frac64>,
     event: EventId,
 ) -> bool
-    requires fits { ProblemFits (problem_of ⟦<Frac64 as Exact>⟧.value ground.now) }
     requires atoms { length ground.now.atoms.items ≡ 3 }
     requires fluents { length ground.now.fluents.items ≡ 0 }
     requires state { StateFits 3 0 state.old }
@@ -213,7 +208,6 @@ fn repeats(
 // An event that makes (b) of (a), one that makes (c) of (b), and, where it is asked for, one that holds
 // where (c) does and has no effect.
 fn chain(alloc: Global, repeats: bool) -> Result<Ground<Frac64>, AllocError>
-    ensures fits_all { IfOk result (λ g. ProblemFits (problem_of ⟦<Frac64 as Exact>⟧.value g)) }
     ensures atoms { IfOk result (λ g. length g.atoms.items ≡ 3) }
     ensures fluents { IfOk result (λ g. length g.fluents.items ≡ 0) }
 {
@@ -228,7 +222,6 @@ fn chain(alloc: Global, repeats: bool) -> Result<Ground<Frac64>, AllocError>
 
 // Two events that hold where (a) does: one deletes it, one makes (b).
 fn pair(alloc: Global) -> Result<Ground<Frac64>, AllocError>
-    ensures fits_all { IfOk result (λ g. ProblemFits (problem_of ⟦<Frac64 as Exact>⟧.value g)) }
     ensures atoms { IfOk result (λ g. length g.atoms.items ≡ 3) }
     ensures fluents { IfOk result (λ g. length g.fluents.items ≡ 0) }
 {

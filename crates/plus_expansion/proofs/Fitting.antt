@@ -120,13 +120,13 @@ problem-fits d p e counts =
       processes = λ k x h. record { condition = (processes k x h).0; rates = (processes k x h).1; few = omega (arith, few_p k x h) };
       events = λ k x h. record { condition = (events k x h).0; effects = (events k x h).1; few = omega (arith, few_e k x h) };
       timed = All-nil (λ (x : Timed). x.atom < atoms_of m);
+      in_order = tt;
       initial = record { atoms_fit = length-truths _ 0 (atoms_of m); fluents_fit = length-values _ 0 (fluents_of m) };
       goal = condition-fits m m t.same p.goal [] [] true tt t.goal;
       few_atoms = omega (arith, w.atoms);
       few_fluents = omega (arith, w.fluents);
       few_processes = omega (arith, w.processes);
       few_events = omega (arith, w.events);
-      few_timed = omega arith;
     }
 
 pub expansion_fits : (d : Domain) (p : tree.Problem) → ExpansionFits d p

@@ -60,8 +60,10 @@ fn same(
 {
     let second = term(alloc, reader, room)?;
     let last = reader.close(room)?;
+    let first = Box::new(alloc, first.term(alloc)?)?;
+    let second = Box::new(alloc, second)?;
     Ok(CondTree {
-        node: CondNode::Same(first.term(alloc)?, second),
+        node: CondNode::Same(first, second),
         span: around(front, last.span),
     })
 }
@@ -85,6 +87,8 @@ fn compared(
     let left = expressions::from_token(alloc, reader, room, &token)?;
     let right = expressions::next(alloc, reader, room)?;
     let last = reader.close(room)?;
+    let left = Box::new(alloc, left)?;
+    let right = Box::new(alloc, right)?;
     Ok(CondTree {
         node: CondNode::Compare(sign, left, right),
         span: around(front, last.span),
@@ -113,7 +117,7 @@ fn plain(
             let atom = use_end(alloc, reader, Allowed::Terms, room, front, head)?;
             let span = atom.span;
             Ok(CondTree {
-                node: CondNode::Atom(atom),
+                node: CondNode::Atom(Box::new(alloc, atom)?),
                 span,
             })
         }

@@ -50,7 +50,7 @@ fn effect(
         HeadWord::When => {
             let ((condition, writes), last) = guarded(alloc, reader, room)?;
             Ok(EffectTree {
-                node: EffectNode::When(condition, writes),
+                node: EffectNode::When(Box::new(alloc, condition)?, writes),
                 span: around(front, last),
             })
         }
@@ -58,7 +58,7 @@ fn effect(
             let leaf = leaves::behind(alloc, reader, room, front, &token)?;
             let span = leaf.span;
             Ok(EffectTree {
-                node: EffectNode::Leaf(leaf),
+                node: EffectNode::Leaf(Box::new(alloc, leaf)?),
                 span,
             })
         }

@@ -9,7 +9,7 @@ use Rattle.std.proofs.lemmas.List.Sums.{prefix_len-le-length}
 use Rattle.std.proofs.lemmas.Bool.Decides.{nat_tests}
 use Rattle.plus_fraction.specs.Fraction.{Fraction}
 use Rattle.plus_literal.specs.Value.{LiteralFits}
-use Rattle.plus_model.specs.Terms.{Action, Process, Event, State, Condition}
+use Rattle.plus_model.specs.Terms.{Action, Process, Event, State, Condition, Timed}
 use Rattle.plus_model.specs.Plan as plan
 use Rattle.plus_tree.specs.declared.terms.Literal.{Literal}
 use Rattle.plus_tree.specs.declared.trees.Schema.{Schema}
@@ -84,16 +84,16 @@ labels_many c n (h ∷ hs) =
 
 -- the ground problem by its parts
 pub expanded_is :
-    (d : Domain) (p : Problem) (atoms fluents : List (List ℕ)) (processes : List Process) (events : List Event) (s : State) (goal : Condition)
+    (d : Domain) (p : Problem) (atoms fluents : List (List ℕ)) (processes : List Process) (events : List Event) (timed : List Timed) (s : State) (goal : Condition)
     → atoms ≡ ground_labels (problem_context d p) d.predicates → fluents ≡ ground_labels (problem_context d p) d.functions
     → processes ≡ instances_of (problem_context d p) (process_meant (problem_context d p)) d.processes
     → events ≡ instances_of (problem_context d p) (event_meant (problem_context d p)) d.events
-    → s ≡ initial_state (problem_context d p) p.init → goal ≡ condition_meant (problem_context d p) [] true p.goal
-    → record { atoms = length atoms; fluents = length fluents; processes = processes; events = events; timed = []; initial = s; goal = goal } ≡ expanded d p
-expanded_is d p atoms fluents processes events s goal a f ps es i g =
+    → timed ≡ [] → s ≡ initial_state (problem_context d p) p.init → goal ≡ condition_meant (problem_context d p) [] true p.goal
+    → record { atoms = length atoms; fluents = length fluents; processes = processes; events = events; timed = timed; initial = s; goal = goal } ≡ expanded d p
+expanded_is d p atoms fluents processes events timed s goal a f ps es ts i g =
     let names = ap length a ∙ labels_many (problem_context d p) 0 d.predicates in
     let fs = ap length f ∙ labels_many (problem_context d p) 0 d.functions in
-    λ j. record { atoms = names j; fluents = fs j; processes = ps j; events = es j; timed = []; initial = i j; goal = g j }
+    λ j. record { atoms = names j; fluents = fs j; processes = ps j; events = es j; timed = ts j; initial = i j; goal = g j }
 
 pub labels_is :
     (d : Domain) (p : Problem) (atoms fluents : List (List ℕ))

@@ -1,17 +1,15 @@
 //! The ground problem of a well-typed pair, and the instance of a call.
 
-ghost use Rattle.std.specs.Prelude.{◌≡◌, All, None, Some, length, slice_get, nat_eq, IfOk, MatchResult, MatchOption, if◌then◌else◌};
+ghost use Rattle.std.specs.Prelude.{◌≡◌, None, Some, length, slice_get, nat_eq, IfOk, MatchResult, MatchOption, if◌then◌else◌};
 ghost use Rattle.std.specs.List.{list_any, position_or_len};
 ghost use Rattle.std.specs.Str.{bytes_eq};
-ghost use Rattle.plus_literal.specs.Value.{LiteralFits};
 ghost use Rattle.plus_state.specs.View.{problem_of, labels_of, action_of};
-ghost use Rattle.plus_state.specs.Fits.{ProblemFits, ActionFits};
+ghost use Rattle.plus_state.specs.Fits.{ActionFits};
 ghost use Rattle.plus_types.specs.Faults.{action_names};
 ghost use Rattle.plus_numbering.specs.Numbered.{context};
 ghost use Rattle.plus_numbering.specs.Numbers.{ground_names};
 ghost use Rattle.plus_expansion.specs.Expansion.{expanded, labels_meant};
 ghost use Rattle.plus_expansion.specs.Calls.{called_of, bound_by};
-ghost use Rattle.plus_expansion.specs.Literals.{literals_of};
 ghost use Rattle.plus_expansion.specs.Counting.{IsGroundable};
 ghost use Rattle.plus_ground.specs.Refusals.{IsInstance, RefusesGround, RefusesCall};
 
@@ -50,9 +48,9 @@ fn limits<Q: FromParts>(numbering: &Numbering) -> Result<(), GroundFault>
     }
 }
 
-// The ground problem of a pair whose literals are values of the type of numbers.
+// The ground problem of a pair inside the limits, whose literals are values of the type of numbers.
 fn expand<Q: FromParts>(alloc: Global, numbering: &Numbering) -> Result<Ground<Q>, AllocError>
-    requires { All (λ l. LiteralFits Q.fits l.1) (literals_of numbering.now.typed.now.domain numbering.now.typed.now.problem) }
+    requires { IsGroundable Q.fits numbering.now.typed.now.domain numbering.now.typed.now.problem }
     ensures expands { IfOk result (λ g. problem_of Q.value g ≡ expanded numbering.now.typed.now.domain numbering.now.typed.now.problem) }
     ensures labels { IfOk result (λ g. labels_of g ≡ labels_meant numbering.now.typed.now.domain numbering.now.typed.now.problem) }
 {
@@ -82,7 +80,6 @@ fn expand<Q: FromParts>(alloc: Global, numbering: &Numbering) -> Result<Ground<Q
 pub fn ground<Q: FromParts>(alloc: Global, numbering: &Numbering) -> Result<Ground<Q>, GroundFault>
     ensures expands { IfOk result (λ g. problem_of Q.value g ≡ expanded numbering.now.typed.now.domain numbering.now.typed.now.problem) }
     ensures labels { IfOk result (λ g. labels_of g ≡ labels_meant numbering.now.typed.now.domain numbering.now.typed.now.problem) }
-    ensures fits { IfOk result (λ g. ProblemFits (expanded numbering.now.typed.now.domain numbering.now.typed.now.problem)) }
     ensures limits { MatchResult result
         (λ _. IsGroundable Q.fits numbering.now.typed.now.domain numbering.now.typed.now.problem)
         (RefusesGround Q.fits numbering.now.typed.now.domain numbering.now.typed.now.problem) }

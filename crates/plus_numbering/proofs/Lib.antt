@@ -8,3 +8,5 @@ pub mod NumberLemmas
 pub mod RankSteps
 pub mod TupleLemmas
 pub mod CountLemmas
+pub mod KindLemmas
+pub mod LabelLemmas

@@ -1,7 +1,6 @@
 -- Objects that are put into the lists of types, one after the other.
-use Rattle.std.proofs.Common.{◌≡◌, ℕ, zero, suc, ◌+◌, ◌-◌, ◌<◌, ◌≤◌, Bool, true, false, List, [], ◌∷◌, ◌++◌, ap, sym, refl, ◌∙◌, length, map, cond, ◌||◌, nat_eq, get_or, set, take, true≢false, not, add-one, subst, append_assoc, length-append, position, Option, Some, None, Vec, Global, arith}
+use Rattle.std.proofs.Common.{◌≡◌, ℕ, zero, suc, ◌+◌, ◌<◌, ◌≤◌, Bool, true, false, List, [], ◌∷◌, ◌++◌, ap, sym, refl, ◌∙◌, length, map, cond, ◌||◌, nat_eq, get_or, set, take, not, add-one, subst, append_assoc, length-append, position, Option, Some, None, Vec, Global, arith}
 use Rattle.std.proofs.Math.Seq.{take-suc}
-use Rattle.std.specs.List.{list_any}
 use Rattle.std.specs.Str.{bytes_eq}
 use Rattle.std.proofs.lemmas.List.{length-map, map-set, get_or-map, append-nil, length-take-le}
 use Rattle.std.proofs.lemmas.List.Folds.{list_any_more}
@@ -14,7 +13,7 @@ use Rattle.std.proofs.lemmas.Bool.Decides.{Decides-eqb}
 use Rattle.plus_tree.specs.declared.terms.TypedName.{TypedName}
 use Rattle.plus_types.specs.Types.{is_among, Binding, bindings_of, is_under}
 use Rattle.plus_types.proofs.KindsLemmas.{map-append}
-use Rattle.plus_types.proofs.TypesLemmas.{same-bytes, bytes-self, bytes-swap, or-false}
+use Rattle.plus_types.proofs.TypesLemmas.{same-bytes, bytes-self, bytes-swap}
 use Rattle.plus_numbering.specs.Objects.{places_from}
 use Rattle.plus_numbering.specs.Tables.{places_of, IsPlace, AreBelow, ends_with, once}
 use Rattle.plus_numbering.proofs.ObjectsLemmas.{places-append, length-bindings}

@@ -1,10 +1,12 @@
 -- What the tables of a numbering hold.
-use Rattle.std.specs.Prelude.{◌≡◌, ◌<◌, ℕ, ◌+◌, Bool, true, false, nat_eq, List, [], ◌∷◌, ◌++◌, length, get_or, if◌then◌else◌}
+use Rattle.std.specs.Prelude.{◌≡◌, ◌<◌, ℕ, ◌+◌, Bool, true, false, nat_eq, List, [], ◌∷◌, ◌++◌, map, length, get_or, if◌then◌else◌}
+use Rattle.std.specs.List.{position_or_len}
 use Rattle.std.specs.Str.{bytes_eq}
+use Rattle.plus_tree.specs.declared.terms.TypedName.{TypedName}
 use Rattle.plus_tree.specs.declared.trees.Head.{Head}
 use Rattle.plus_types.specs.declared.typed.Typed.{Typed}
 use Rattle.plus_types.specs.Faults.{Context, problem_context}
-use Rattle.plus_numbering.specs.Objects.{members_of, extents_of, tuples}
+use Rattle.plus_numbering.specs.Objects.{extents_of, tuples}
 
 -- what a well-typed pair declares
 abbrev pub context : Typed → Context
@@ -35,6 +37,11 @@ ends_with p (x ∷ xs) = nat_eq (get_or (x ∷ xs) (length xs) 0) p
 -- a list with a number at its end, which may stand there already
 abbrev pub once : ℕ → List ℕ → List ℕ
 once p xs = if ends_with p xs then xs else xs ++ p ∷ []
+
+-- the numbers of the lists of the types of parameters, by the names of the types with a list; that of a type without
+-- one is how many there are
+abbrev pub list_numbers : List (List ℕ) → List TypedName → List ℕ
+list_numbers names params = map (λ p. position_or_len (bytes_eq p.kind.name) names) params
 
 -- Where the ground atoms or fluents of each predicate or function begin among all, counted on from n; at the end, how
 -- many there are.

@@ -1,6 +1,7 @@
 //! The objects of a well-typed pair by their types.
 
 ghost use Rattle.std.specs.Prelude.{◌≡◌, ℕ, List, map, false, ◌+◌, ◌<◌, ◌≤◌, ◌^◌, [], ◌∷◌, ◌++◌, length, slice_index_or, if◌then◌else◌, OnOk, IfOk};
+ghost use Rattle.std.specs.List.{position_or_len};
 ghost use Rattle.std.specs.Str.{bytes_eq};
 ghost use Rattle.plus_types.specs.Types.{is_among, is_under, bindings_of, bound_names, objects_of};
 ghost use Rattle.plus_numbering.specs.Objects.{places_from, members_of};
@@ -20,6 +21,7 @@ pub struct Extents<'a> {
     pub typed: &'a Typed,
     names: Names,
     lists: Vec<Vec<u32>>,
+    ghost sizes: { length names ≡ length lists.items },
     ghost few: { length (objects_of typed.now.domain typed.now.problem) ≤ 10000 },
     ghost lists_are: { (kind : List ℕ) → places_of names (map (λ v. v.items) lists.items) kind ≡ members_of (context typed.now) kind },
 }
@@ -180,6 +182,29 @@ impl<'a> Extents<'a> {
             names,
             lists,
         })
+    }
+
+    /// The number of the list of a type; where it has none, how many lists there are.
+    pub fn number(&self, kind: &[u8]) -> usize
+        ensures { result ≡ position_or_len (bytes_eq kind.now) self.now.names }
+    {
+        match self.names.number(kind) {
+            None => self.names.len(),
+            Some(place) => place,
+        }
+    }
+
+    /// The objects of a type, in order, by the number of its list.
+    pub fn numbered(&self, number: usize, kind: &[u8]) -> &[u32]
+        requires { number ≡ position_or_len (bytes_eq kind.now) self.now.names }
+        ensures members { result.now ≡ members_of (context self.now.typed.now) kind.now }
+        ensures few { length result.now ≤ 10000 }
+    {
+        if number < self.lists.len() {
+            self.lists[number].as_slice()
+        } else {
+            self.of_type(kind)
+        }
     }
 
     /// The objects of a type, in order.

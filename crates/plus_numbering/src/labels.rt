@@ -3,12 +3,33 @@
 ghost use Rattle.std.specs.Prelude.{◌≡◌, ◌<◌, ◌++◌, [], map, length, slice_index_or, IfOk, OnOk};
 ghost use Rattle.plus_numbering.specs.Objects.{extents_of, tuples, object_names};
 ghost use Rattle.plus_numbering.specs.Numbers.{label_of, ground_labels};
-ghost use Rattle.plus_numbering.specs.Tables.{context, starts_from};
+ghost use Rattle.plus_numbering.specs.Tables.{context, starts_from, list_numbers};
 
 use crate::extents::Extents;
 use plus_state::Label;
 use plus_tree::{Head, TypedName};
 use std::alloc::{AllocError, Global};
+
+// Makes a text that of a label: the name, and the names of these objects.
+fn spell(
+    extents: &Extents<'_>,
+    name: &[u8],
+    objects: &[u32],
+    text: &mut Vec<u8>,
+) -> Result<(), AllocError>
+    ensures { OnOk result (text.new.items ≡ label_of name.now
+        (object_names (context extents.now.typed.now) objects.now)) }
+{
+    text.clear();
+    text.push(b'(')?;
+    text.extend_from_slice(name)?;
+    'objects: for object in objects {
+        text.push(b' ')?;
+        text.extend_from_slice(extents.name(*object))?;
+    }
+    text.push(b')')?;
+    Ok(())
+}
 
 /// The label of a ground form: the name, and the names of these objects.
 pub fn label(
@@ -21,38 +42,36 @@ pub fn label(
         (object_names (context extents.now.typed.now) objects.now)) }
 {
     let mut text = Vec::new(alloc);
-    text.push(b'(')?;
-    text.extend_from_slice(name)?;
-    'objects: for object in objects {
-        text.push(b' ')?;
-        text.extend_from_slice(extents.name(*object))?;
-    }
-    text.push(b')')?;
+    spell(extents, name, objects, &mut text)?;
     Label::new(alloc, &text)
 }
 
-// The list at a place among those that take one object of each parameter's type, of which there are `size`.
+// Makes `objects` the list at a place among those that take one object of each parameter's type, of which
+// there are `size`.
 fn objects_at(
-    alloc: Global,
     extents: &Extents<'_>,
     params: &[TypedName],
+    kinds: &[usize],
     size: u32,
     place: u32,
-) -> Result<Vec<u32>, AllocError>
+    objects: &mut Vec<u32>,
+) -> Result<(), AllocError>
+    requires kinds { kinds.now ≡ list_numbers extents.now.names params.now }
     requires size { size ≡ length (tuples (extents_of (context extents.now.typed.now) params.now)) }
     requires within { place < size }
-    ensures { IfOk result (λ v. v.items ≡ slice_index_or (tuples (extents_of (context extents.now.typed.now) params.now)) place []) }
+    ensures { OnOk result (objects.new.items
+        ≡ slice_index_or (tuples (extents_of (context extents.now.typed.now) params.now)) place []) }
 {
-    let mut objects = Vec::new(alloc);
     let mut step = size;
     let mut left = place;
-    'params: for param in params {
-        let extent = extents.of_type(param.kind.name.bytes());
+    objects.clear();
+    'params: for (i, param) in params.iter().enumerate() {
+        let extent = extents.numbered(kinds[i], param.kind.name.bytes());
         step /= extent.len() as u32;
         objects.push(extent[(left / step) as usize])?;
         left %= step;
     }
-    Ok(objects)
+    Ok(())
 }
 
 // Adds the labels of the ground atoms or fluents of one predicate or function, of which there are `size`.
@@ -60,17 +79,23 @@ fn add_labels(
     alloc: Global,
     extents: &Extents<'_>,
     head: &Head,
+    kinds: &[usize],
     size: u32,
     labels: &mut Vec<Label>,
 ) -> Result<(), AllocError>
-    requires { size ≡ length (tuples (extents_of (context extents.now.typed.now) head.now.params)) }
+    requires kinds { kinds.now ≡ list_numbers extents.now.names head.now.params }
+    requires size { size ≡ length (tuples (extents_of (context extents.now.typed.now) head.now.params)) }
     ensures { OnOk result (labels.new.items ≡ labels.old.items
         ++ map (λ t. label_of head.now.name.name (object_names (context extents.now.typed.now) t))
         (tuples (extents_of (context extents.now.typed.now) head.now.params))) }
 {
+    let mut objects = Vec::new(alloc);
+    let mut text = Vec::new(alloc);
     'places: for place in 0..size {
-        let objects = objects_at(alloc, extents, head.params.as_slice(), size, place)?;
-        labels.push(label(alloc, extents, head.name.name.bytes(), &objects)?)?;
+        let params = head.params.as_slice();
+        objects_at(extents, params, kinds, size, place, &mut objects)?;
+        spell(extents, head.name.name.bytes(), &objects, &mut text)?;
+        labels.push(Label::new(alloc, &text)?)?;
     }
     Ok(())
 }
@@ -81,14 +106,16 @@ pub fn labels(
     extents: &Extents<'_>,
     heads: &[Head],
     starts: &[u32],
+    kinds: &[Vec<usize>],
 ) -> Result<Vec<Label>, AllocError>
-    requires { starts.now ≡ starts_from (context extents.now.typed.now) 0 heads.now }
+    requires kinds { map (λ ks. ks.items) kinds.now ≡ map (λ h. list_numbers extents.now.names h.params) heads.now }
+    requires starts { starts.now ≡ starts_from (context extents.now.typed.now) 0 heads.now }
     ensures { IfOk result (λ ls. ls.items ≡ ground_labels (context extents.now.typed.now) heads.now) }
 {
     let mut labels = Vec::new(alloc);
     'heads: for (i, head) in heads.iter().enumerate() {
         let size = starts[i + 1] - starts[i];
-        add_labels(alloc, extents, head, size, &mut labels)?;
+        add_labels(alloc, extents, head, &kinds[i], size, &mut labels)?;
     }
     Ok(labels)
 }

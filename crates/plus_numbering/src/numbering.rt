@@ -1,19 +1,19 @@
 //! The numbers of the ground atoms and ground fluents of a pair.
 
-ghost use Rattle.std.specs.Prelude.{◌≡◌, ℕ, List, ◌≤◌, ◌<◌, ◌^◌, length, None, MatchResult, MatchOption, IfOk, IfSome, position};
+ghost use Rattle.std.specs.Prelude.{◌≡◌, ℕ, List, map, ◌≤◌, ◌<◌, ◌^◌, length, None, MatchResult, MatchOption, IfOk, IfSome, position};
 ghost use Rattle.std.specs.Str.{bytes_eq};
 ghost use Rattle.plus_tree.specs.declared.trees.Domain.{Domain as DomainTree};
 ghost use Rattle.plus_tree.specs.declared.trees.Problem.{Problem as ProblemTree};
 ghost use Rattle.plus_types.specs.Types.{bound_names};
 ghost use Rattle.plus_numbering.specs.Objects.{members_of, object_place, object_names};
 ghost use Rattle.plus_numbering.specs.Numbers.{ground_names, ground_labels, number_of, label_of};
-ghost use Rattle.plus_numbering.specs.Tables.{context, starts_from};
+ghost use Rattle.plus_numbering.specs.Tables.{context, starts_from, list_numbers};
 ghost use Rattle.plus_numbering.specs.Counts.{first_over, name_counts, RefusesCount};
 
 use crate::extents::{Extents, MOST_OBJECTS};
 use crate::faults::{Count, CountFault};
 use crate::labels::{label, labels};
-use crate::numbers::number;
+use crate::numbers::{kinds, number};
 use crate::starts::starts;
 use plus_state::{AtomId, FluentId, Label};
 use plus_types::Typed;
@@ -34,10 +34,14 @@ pub struct Numbering<'a> {
     extents: Extents<'a>,
     atoms: Vec<u32>,
     fluents: Vec<u32>,
+    atom_kinds: Vec<Vec<usize>>,
+    fluent_kinds: Vec<Vec<usize>>,
     ghost within: { first_over (name_counts (context typed.now)) ≡ None },
     ghost extents_are: { extents.typed.now ≡ typed.now },
     ghost atoms_are: { atoms.items ≡ starts_from (context typed.now) 0 typed.now.domain.predicates },
     ghost fluents_are: { fluents.items ≡ starts_from (context typed.now) 0 typed.now.domain.functions },
+    ghost atom_kinds_are: { map (λ ks. ks.items) atom_kinds.items ≡ map (λ h. list_numbers extents.names h.params) typed.now.domain.predicates },
+    ghost fluent_kinds_are: { map (λ ks. ks.items) fluent_kinds.items ≡ map (λ h. list_numbers extents.names h.params) typed.now.domain.functions },
 }
 
 impl<'a> Numbering<'a> {
@@ -61,11 +65,15 @@ impl<'a> Numbering<'a> {
         let atoms = starts(alloc, &extents, predicates, Count::Atoms, MOST_ATOMS)?;
         let functions = typed.domain.functions.as_slice();
         let fluents = starts(alloc, &extents, functions, Count::Fluents, MOST_FLUENTS)?;
+        let atom_kinds = kinds(alloc, &extents, predicates)?;
+        let fluent_kinds = kinds(alloc, &extents, functions)?;
         Ok(Numbering {
             typed,
             extents,
             atoms,
             fluents,
+            atom_kinds,
+            fluent_kinds,
         })
     }
 
@@ -116,6 +124,7 @@ impl<'a> Numbering<'a> {
             &self.extents,
             &self.predicates(),
             &self.atoms,
+            &self.atom_kinds,
             predicate,
             objects,
         ))
@@ -131,6 +140,7 @@ impl<'a> Numbering<'a> {
             &self.extents,
             &self.functions(),
             &self.fluents,
+            &self.fluent_kinds,
             function,
             objects,
         ))
@@ -164,6 +174,7 @@ impl<'a> Numbering<'a> {
             &self.extents,
             self.typed.domain.predicates.as_slice(),
             &self.atoms,
+            &self.atom_kinds,
         )
     }
 
@@ -177,6 +188,7 @@ impl<'a> Numbering<'a> {
             &self.extents,
             self.typed.domain.functions.as_slice(),
             &self.fluents,
+            &self.fluent_kinds,
         )
     }
 

@@ -308,7 +308,7 @@ fn expr(
             let fluent = use_end(alloc, reader, Allowed::Terms, room, front, &token)?;
             let span = fluent.span;
             Ok(ExprTree {
-                node: ExprNode::Fluent(fluent),
+                node: ExprNode::Fluent(Box::new(alloc, fluent)?),
                 span,
             })
         }

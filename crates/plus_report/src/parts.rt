@@ -2,7 +2,6 @@
 ghost use Rattle.std.specs.Prelude.{◌≡◌, ◌++◌, codes, length, All, ◌<◌};
 ghost use Rattle.plus_state.specs.View.{labels_of, problem_of};
 ghost use Rattle.plus_state.specs.Changes.{patched, RisesIn};
-ghost use Rattle.plus_state.specs.Fits.{ProblemFits};
 ghost use Rattle.plus_report.specs.Labels.{event_label, process_label};
 ghost use Rattle.plus_report.specs.Puts.{Puts};
 ghost use Rattle.plus_report.specs.Wrote.{Wrote};
@@ -117,7 +116,6 @@ pub fn write_entry<Q: Exact, O: Sink>(
     before: &State<Q>,
     arrival: &State<Q>,
 ) -> Result<(), Failed>
-    requires fits { ProblemFits (problem_of Q.value ground.now) }
     requires before_fits { FitsIn (problem_of Q.value ground.now) before.now }
     requires arrival_fits { FitsIn (problem_of Q.value ground.now) arrival.now }
     ensures { Wrote O.taken O.faults out.old out.new
@@ -155,7 +153,6 @@ pub fn write_literals<Q: Exact, O: Sink>(
     arrival: &State<Q>,
     after: &State<Q>,
 ) -> Result<(), Failed>
-    requires fits { ProblemFits (problem_of Q.value ground.now) }
     requires arrival_fits { FitsIn (problem_of Q.value ground.now) arrival.now }
     requires after_fits { FitsIn (problem_of Q.value ground.now) after.now }
     ensures { Wrote O.taken O.faults out.old out.new
@@ -194,7 +191,6 @@ pub fn write_round<Q: Exact, O: Sink>(
     before: &State<Q>,
     after: &State<Q>,
 ) -> Result<(), Failed>
-    requires fits { ProblemFits (problem_of Q.value ground.now) }
     requires events { AreEvents (problem_of Q.value ground.now) events.now }
     requires before_fits { FitsIn (problem_of Q.value ground.now) before.now }
     requires after_fits { FitsIn (problem_of Q.value ground.now) after.now }
@@ -238,7 +234,6 @@ pub fn write_act<Q: Exact, O: Sink>(
     before: &State<Q>,
     after: &State<Q>,
 ) -> Result<(), Failed>
-    requires fits { ProblemFits (problem_of Q.value ground.now) }
     requires before_fits { FitsIn (problem_of Q.value ground.now) before.now }
     requires after_fits { FitsIn (problem_of Q.value ground.now) after.now }
     ensures { Wrote O.taken O.faults out.old out.new

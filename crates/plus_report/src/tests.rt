@@ -1,6 +1,7 @@
 //! The printed texts, and what a fault leaves of one.
-ghost use Rattle.std.specs.Prelude.{◌≡◌, ◌<ℤ◌, pos, IfOk, length};
-ghost use Rattle.plus_state.specs.View.{problem_of};
+ghost use Rattle.std.specs.Prelude.{◌≡◌, ◌<◌, ◌^◌, ◌<ℤ◌, pos, IfOk, length, All};
+ghost use Rattle.plus_state.specs.View.{condition_of, event_of, process_of, problem_of};
+ghost use Rattle.plus_state.specs.Fits.{Fits, EventFits, ProcessFits, StateFits, comparisons};
 ghost use Rattle.plus_report.specs.Verdicts.{VerdictFits};
 
 use crate::{Early, Kinds, Text, Verdict, Word, write_early, write_verdict};
@@ -21,39 +22,81 @@ fn fraction(n: i64, d: i64) -> Frac64
     Frac64::ratio(n, d).unwrap_or(zero())
 }
 
-// a ground problem with two atoms, and one fluent, event and process
-fn tank(alloc: Global) -> Result<Ground<Frac64>, AllocError>
-    ensures fluents { IfOk result (λ g. length g.fluents.items ≡ 1) }
-    ensures processes { IfOk result (λ g. length g.processes.items ≡ 1) }
-    ensures events { IfOk result (λ g. length g.events.items ≡ 1) }
+// A condition that always holds.
+fn always(alloc: Global) -> Cond<Frac64>
+    ensures fits { Fits 2 1 (condition_of ⟦<Frac64 as Exact>⟧.value result) }
+    ensures few { comparisons (condition_of ⟦<Frac64 as Exact>⟧.value result) ≡ 0 }
 {
-    let initial = State::new(alloc, 2, 1)?;
+    Cond::All(Vec::new(alloc))
+}
+
+fn process(alloc: Global) -> Result<Process<Frac64>, AllocError>
+    ensures { IfOk result (λ p. ProcessFits 2 1 (process_of ⟦<Frac64 as Exact>⟧.value p)) }
+{
+    Ok(Process {
+        label: Label::new(alloc, b"(fill)")?,
+        condition: always(alloc),
+        rates: Vec::new(alloc),
+    })
+}
+
+fn event(alloc: Global) -> Result<Event<Frac64>, AllocError>
+    ensures { IfOk result (λ e. EventFits 2 1 (event_of ⟦<Frac64 as Exact>⟧.value e)) }
+{
+    Ok(Event {
+        label: Label::new(alloc, b"(full)")?,
+        condition: always(alloc),
+        effects: Vec::new(alloc),
+    })
+}
+
+fn initial(alloc: Global) -> Result<State<Frac64>, AllocError>
+    ensures { IfOk result (λ s. StateFits 2 1 s) }
+{
+    Ok(State::new(alloc, 2, 1)?)
+}
+
+// A ground problem with two atoms and one fluent.
+fn ground(
+    alloc: Global,
+    processes: Vec<Process<Frac64>>,
+    events: Vec<Event<Frac64>>,
+) -> Result<Ground<Frac64>, AllocError>
+    requires processes_fit { All (λ p. ProcessFits 2 1 (process_of ⟦<Frac64 as Exact>⟧.value p)) processes.items }
+    requires events_fit { All (λ e. EventFits 2 1 (event_of ⟦<Frac64 as Exact>⟧.value e)) events.items }
+    requires few_processes { length processes.items < 2 ^ 32 }
+    requires few_events { length events.items < 2 ^ 32 }
+    ensures fluents { IfOk result (λ g. length g.fluents.items ≡ 1) }
+    ensures processes { IfOk result (λ g. length g.processes.items ≡ length processes.items) }
+    ensures events { IfOk result (λ g. length g.events.items ≡ length events.items) }
+{
     let mut atoms = Vec::new(alloc);
     atoms.push(Label::new(alloc, b"(open)")?)?;
     atoms.push(Label::new(alloc, b"(shut)")?)?;
     let mut fluents = Vec::new(alloc);
     fluents.push(Label::new(alloc, b"(level)")?)?;
-    let mut processes = Vec::new(alloc);
-    processes.push(Process {
-        label: Label::new(alloc, b"(fill)")?,
-        condition: Cond::All(Vec::new(alloc)),
-        rates: Vec::new(alloc),
-    })?;
-    let mut events = Vec::new(alloc);
-    events.push(Event {
-        label: Label::new(alloc, b"(full)")?,
-        condition: Cond::All(Vec::new(alloc)),
-        effects: Vec::new(alloc),
-    })?;
     Ok(Ground {
         atoms,
         fluents,
         processes,
         events,
         timed: Vec::new(alloc),
-        initial,
-        goal: Cond::All(Vec::new(alloc)),
+        initial: initial(alloc)?,
+        goal: always(alloc),
     })
+}
+
+// a ground problem with two atoms, and one fluent, event and process
+fn tank(alloc: Global) -> Result<Ground<Frac64>, AllocError>
+    ensures fluents { IfOk result (λ g. length g.fluents.items ≡ 1) }
+    ensures processes { IfOk result (λ g. length g.processes.items ≡ 1) }
+    ensures events { IfOk result (λ g. length g.events.items ≡ 1) }
+{
+    let mut processes = Vec::new(alloc);
+    processes.push(process(alloc)?)?;
+    let mut events = Vec::new(alloc);
+    events.push(event(alloc)?)?;
+    Ok(ground(alloc, processes, events)?)
 }
 
 static REFUSALS: [(Early, &str); 8] = [

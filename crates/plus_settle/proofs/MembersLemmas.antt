@@ -12,6 +12,7 @@ use Rattle.plus_model.specs.Running.{IsRising, rates_at}
 use Rattle.plus_model.proofs.Members.{in_cases}
 use Rattle.plus_state.specs.declared.term.ProcessId.{ProcessId}
 use Rattle.plus_state.specs.declared.problem.Process as code
+use Rattle.plus_number.specs.declared.exact.Exact.{Ghosts}
 use Rattle.plus_state.specs.declared.problem.Ground.{Ground}
 use Rattle.plus_state.specs.View.{process_of, rate_of, problem_of}
 use Rattle.plus_state.specs.Fits.{ProcessFits, StateFits}
@@ -79,10 +80,10 @@ module _ {Q : Type 0} (v : Q → Fraction) where
   pub rates_here : (items : List (code.Process Q)) (i : ℕ) (x : code.Process Q) → i < length items → x ≡ get_or items i x → rates_at (slice_get (map (process_of v) items) i) ≡ map (rate_of v) x.rates.items
   rates_here items i x h e = ap rates_at (process_here items i x h e)
 
-pub below_all : {Q : Type 0} (v : Q → Fraction) (g : Ground Q) (ps : List ℕ) → All (λ p. p < length g.processes.items) ps → All (λ p. p < length (problem_of v g).processes) ps
+pub below_all : {Q : Type 0} {E : Ghosts Q} (v : Q → Fraction) (g : Ground Q E) (ps : List ℕ) → All (λ p. p < length g.processes.items) ps → All (λ p. p < length (problem_of v g).processes) ps
 below_all v g ps h = subst (λ (n : ℕ). All (λ p. p < n) ps) (sym (length-map g.processes.items (process_of v))) h
 
-pub are_members : {Q : Type 0} (v : Q → Fraction) (g : Ground Q) (ps : List ℕ) → AreMembers (length g.processes.items) ps → AreMembers (length (problem_of v g).processes) ps
+pub are_members : {Q : Type 0} {E : Ghosts Q} (v : Q → Fraction) (g : Ground Q E) (ps : List ℕ) → AreMembers (length g.processes.items) ps → AreMembers (length (problem_of v g).processes) ps
 are_members v g ps h = record { inside = below_all v g ps h.inside; rising = h.rising }
 
 -- no process past the end

@@ -11,6 +11,7 @@ use Rattle.plus_model.specs.Terms.{Rate, State, Problem}
 use Rattle.plus_model.specs.Value.{value, fluent_of}
 use Rattle.plus_model.specs.Piece.{rate_of}
 use Rattle.plus_model.specs.Running.{add_at, rated, then_rates, add_rates, rates_at, sum_rates, rates}
+use Rattle.plus_number.specs.declared.exact.Exact.{Ghosts}
 use Rattle.plus_state.specs.declared.problem.Ground.{Ground}
 use Rattle.plus_state.specs.View.{process_of, problem_of}
 use Rattle.plus_state.specs.Fits.{RateFits}
@@ -165,7 +166,7 @@ module _ (fits : Fraction → Type 0) (P : Problem) (p : ℕ) (rest whole : List
   summing_stop v (Number o) u n = (early _ u, tt)
   summing_stop v Memory u n = (tt, tt)
 
-pub summing_inside : {Q : Type 0} (v : Q → Fraction) (fits : Fraction → Type 0) (g : Ground Q) (p : ℕ) (rest whole : List ℕ) (s : State) (now : List Fraction) → Summing fits (problem_of v g) (p ∷ rest) whole s now → p < length g.processes.items
+pub summing_inside : {Q : Type 0} {E : Ghosts Q} (v : Q → Fraction) (fits : Fraction → Type 0) (g : Ground Q E) (p : ℕ) (rest whole : List ℕ) (s : State) (now : List Fraction) → Summing fits (problem_of v g) (p ∷ rest) whole s now → p < length g.processes.items
 summing_inside v fits g p rest whole s now h =
     let below : p < length (map (process_of v) g.processes.items) = All-head (λ p. p < length (map (process_of v) g.processes.items)) p rest h.inside in
     rw length-map at below

@@ -2,7 +2,7 @@
 ghost use Rattle.std.specs.Prelude.{◌≡◌, [], ◌∷◌, ◌++◌, length, IfOk, MatchResult, if◌then◌else◌};
 ghost use Rattle.plus_model.specs.Running.{holding as holding_of, GoesOn};
 ghost use Rattle.plus_state.specs.View.{problem_of};
-ghost use Rattle.plus_state.specs.Fits.{ProblemFits, StateFits};
+ghost use Rattle.plus_state.specs.Fits.{StateFits};
 ghost use Rattle.plus_state.specs.Asked.{AllFit};
 ghost use Rattle.plus_settle.specs.Steps.{AllPass};
 ghost use Rattle.plus_settle.specs.Members.{process_numbers};
@@ -34,7 +34,6 @@ pub fn holding<Q: Exact>(
     ground: &Ground<Q>,
     state: &State<Q>,
 ) -> Result<Vec<ProcessId>, SettleStop<Q>>
-    requires fits { ProblemFits (problem_of Q.value ground.now) }
     requires state { StateFits (length (ground.now.atoms.items)) (length (ground.now.fluents.items)) state.now }
     ensures { MatchResult result
         (λ members. AllFit Q.fits (condition_nodes ((problem_of Q.value ground.now).processes) state.now)
@@ -77,7 +76,6 @@ pub fn chosen<Q: Exact>(
     state: &State<Q>,
     rates: &Rates<Q>,
 ) -> Result<Vec<ProcessId>, SettleStop<Q>>
-    requires fits { ProblemFits (problem_of Q.value ground.now) }
     requires state { StateFits (length (ground.now.atoms.items)) (length (ground.now.fluents.items)) state.now }
     requires rates { length rates.now ≡ length (state.now.fluents) }
     ensures { MatchResult result

@@ -3,7 +3,7 @@ ghost use Rattle.std.specs.Prelude.{◌≡◌, ◌+◌, length};
 ghost use Rattle.plus_model.specs.Firing.{is_in};
 ghost use Rattle.plus_model.specs.Running.{IsRising};
 ghost use Rattle.plus_state.specs.View.{process_of, problem_of};
-ghost use Rattle.plus_state.specs.Fits.{ProcessFits, ProblemFits, StateFits};
+ghost use Rattle.plus_state.specs.Fits.{ProcessFits, StateFits};
 ghost use Rattle.plus_settle.specs.Members.{process_numbers, AreMembers, AreFrom};
 ghost use Rattle.plus_settle.specs.Confirms.{SoonTells, Confirms, GoAnswers, differ as differ_of};
 
@@ -74,7 +74,6 @@ pub fn first_other<Q: Exact>(
     state: &State<Q>,
     rates: &Rates<Q>,
 ) -> Result<Option<ProcessId>, GoStop<Q>>
-    requires fits { ProblemFits (problem_of Q.value ground.now) }
     requires state { StateFits (length (ground.now.atoms.items)) (length (ground.now.fluents.items)) state.now }
     requires members { AreMembers (length (ground.now.processes.items)) (process_numbers members.now) }
     requires rates { length rates.now ≡ length (state.now.fluents) }
@@ -103,7 +102,6 @@ pub fn goes_on<Q: Exact>(
     running: &Running<Q>,
     state: &State<Q>,
 ) -> Result<bool, GoStop<Q>>
-    requires fits { ProblemFits (problem_of Q.value ground.now) }
     requires state { StateFits (length (ground.now.atoms.items)) (length (ground.now.fluents.items)) state.now }
     requires members { AreMembers (length (ground.now.processes.items)) (process_numbers running.now.members.items) }
     requires rates { length (running.now.rates) ≡ length (ground.now.fluents.items) }

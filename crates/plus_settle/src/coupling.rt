@@ -2,7 +2,7 @@
 ghost use Rattle.std.specs.Prelude.{◌≡◌, ◌<◌, length, map, option_map, find, All};
 ghost use Rattle.plus_model.specs.Running.{names, names_of_rates, first_coupled as first_coupled_of};
 ghost use Rattle.plus_state.specs.View.{expression_of, rate_of, problem_of};
-ghost use Rattle.plus_state.specs.Fits.{IsIn, RateFits, ProblemFits};
+ghost use Rattle.plus_state.specs.Fits.{IsIn, RateFits};
 ghost use Rattle.plus_settle.specs.Members.{process_numbers, AreMembers};
 ghost use Rattle.plus_settle.specs.Settles.{moves, first_some};
 
@@ -63,7 +63,6 @@ pub fn first_coupled<Q: Exact>(
     members: &[ProcessId],
     rates: &Rates<Q>,
 ) -> Option<(ProcessId, FluentId)>
-    requires fits { ProblemFits (problem_of Q.value ground.now) }
     requires members { AreMembers (length (ground.now.processes.items)) (process_numbers members.now) }
     requires rates { length rates.now ≡ length (ground.now.fluents.items) }
     ensures { option_map (λ c. (c.0.0, c.1.0)) result ≡ first_coupled_of (problem_of Q.value ground.now) (process_numbers members.now) rates.now }

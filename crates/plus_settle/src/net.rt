@@ -3,7 +3,7 @@ ghost use Rattle.std.specs.Prelude.{◌≡◌, ◌<◌, [], ◌∷◌, length, m
 ghost use Rattle.plus_model.specs.Value.{value as value_of, fluent_of};
 ghost use Rattle.plus_model.specs.Running.{rated, add_rates, rates as rates_of};
 ghost use Rattle.plus_state.specs.View.{rate_of, problem_of, overflow_of};
-ghost use Rattle.plus_state.specs.Fits.{RateFits, ProblemFits, StateFits};
+ghost use Rattle.plus_state.specs.Fits.{RateFits, StateFits};
 ghost use Rattle.plus_state.specs.Asked.{result_of, node};
 ghost use Rattle.plus_settle.specs.Steps.{asks, AllPass, FirstStop};
 ghost use Rattle.plus_settle.specs.Rates.{sign_of, rate_steps, add_rates_steps, rates_steps, RatesTell, NetRates};
@@ -95,7 +95,6 @@ pub fn net_rates<Q: Exact>(
     members: &[ProcessId],
     state: &State<Q>,
 ) -> Result<Rates<Q>, RateStop<Q>>
-    requires fits { ProblemFits (problem_of Q.value ground.now) }
     requires state { StateFits (length (ground.now.atoms.items)) (length (ground.now.fluents.items)) state.now }
     requires members { AreMembers (length (ground.now.processes.items)) (process_numbers members.now) }
     ensures size { IfOk result (λ rs. length rs ≡ length (state.now.fluents)) }

@@ -2,7 +2,7 @@
 ghost use Rattle.std.specs.Prelude.{◌≡◌, length, IfOk};
 ghost use Rattle.plus_model.specs.Running.{rates as rates_of};
 ghost use Rattle.plus_state.specs.View.{problem_of};
-ghost use Rattle.plus_state.specs.Fits.{ProblemFits, StateFits};
+ghost use Rattle.plus_state.specs.Fits.{StateFits};
 ghost use Rattle.plus_settle.specs.Steps.{AllPass};
 ghost use Rattle.plus_settle.specs.Rates.{rates_steps};
 ghost use Rattle.plus_settle.specs.Members.{process_numbers, AreMembers};
@@ -44,7 +44,6 @@ fn own_rates<Q: Exact>(
     members: &[ProcessId],
     state: &State<Q>,
 ) -> Result<Rates<Q>, SettleStop<Q>>
-    requires fits { ProblemFits (problem_of Q.value ground.now) }
     requires state { StateFits (length (ground.now.atoms.items)) (length (ground.now.fluents.items)) state.now }
     requires members { AreMembers (length (ground.now.processes.items)) (process_numbers members.now) }
     ensures size { IfOk result (λ rs. length rs ≡ length (state.now.fluents)) }
@@ -63,7 +62,6 @@ fn confirmed<Q: Exact>(
     state: &State<Q>,
     rates: &Rates<Q>,
 ) -> Result<(), SettleStop<Q>>
-    requires fits { ProblemFits (problem_of Q.value ground.now) }
     requires state { StateFits (length (ground.now.atoms.items)) (length (ground.now.fluents.items)) state.now }
     requires members { AreMembers (length (ground.now.processes.items)) (process_numbers members.now) }
     requires rates { length rates.now ≡ length (state.now.fluents) }
@@ -92,7 +90,6 @@ pub fn settle<Q: Exact>(
     ground: &Ground<Q>,
     state: &State<Q>,
 ) -> Result<Running<Q>, SettleStop<Q>>
-    requires fits { ProblemFits (problem_of Q.value ground.now) }
     requires state { StateFits (length (ground.now.atoms.items)) (length (ground.now.fluents.items)) state.now }
     ensures told { SettleAnswers Q.value Q.fits (problem_of Q.value ground.now) state.now result }
     ensures members { IfOk result (λ r. AreMembers (length (ground.now.processes.items)) (process_numbers r.members.items)) }

@@ -1,7 +1,7 @@
 // Running sets of small problems with one fluent (x).
 ghost use Rattle.std.specs.Prelude.{◌≡◌, ◌<◌, ◌^◌, length, All, IfOk};
-ghost use Rattle.plus_state.specs.View.{condition_of, process_of, problem_of};
-ghost use Rattle.plus_state.specs.Fits.{Fits, ProblemFits, ProcessFits, StateFits, comparisons};
+ghost use Rattle.plus_state.specs.View.{condition_of, process_of};
+ghost use Rattle.plus_state.specs.Fits.{Fits, ProcessFits, StateFits, comparisons};
 ghost use Rattle.plus_settle.specs.Members.{process_numbers, AreMembers};
 
 use crate::{Running, SettleStop, goes_on, settle};
@@ -68,7 +68,6 @@ fn with_value(alloc: Global, value: i64) -> Result<State<Frac64>, AllocError>
 fn problem(alloc: Global, processes: Vec<Process<Frac64>>) -> Result<Ground<Frac64>, AllocError>
     requires fits { All (λ p. ProcessFits 0 1 (process_of ⟦<Frac64 as Exact>⟧.value p)) processes.items }
     requires few { length processes.items < 2 ^ 32 }
-    ensures fits_all { IfOk result (λ g. ProblemFits (problem_of ⟦<Frac64 as Exact>⟧.value g)) }
     ensures atoms { IfOk result (λ g. length g.atoms.items ≡ 0) }
     ensures fluents { IfOk result (λ g. length g.fluents.items ≡ 1) }
 {
@@ -87,7 +86,6 @@ fn problem(alloc: Global, processes: Vec<Process<Frac64>>) -> Result<Ground<Frac
 
 // A process with a condition that it ends by itself.
 fn growing(alloc: Global) -> Result<Ground<Frac64>, AllocError>
-    ensures fits_all { IfOk result (λ g. ProblemFits (problem_of ⟦<Frac64 as Exact>⟧.value g)) }
     ensures atoms { IfOk result (λ g. length g.atoms.items ≡ 0) }
     ensures fluents { IfOk result (λ g. length g.fluents.items ≡ 1) }
 {
@@ -98,7 +96,6 @@ fn growing(alloc: Global) -> Result<Ground<Frac64>, AllocError>
 
 // A process without a condition, and one that holds it where (x) is 5.
 fn sticking(alloc: Global) -> Result<Ground<Frac64>, AllocError>
-    ensures fits_all { IfOk result (λ g. ProblemFits (problem_of ⟦<Frac64 as Exact>⟧.value g)) }
     ensures atoms { IfOk result (λ g. length g.atoms.items ≡ 0) }
     ensures fluents { IfOk result (λ g. length g.fluents.items ≡ 1) }
 {
@@ -114,7 +111,6 @@ fn settled(
     ground: &Ground<Frac64>,
     value: i64,
 ) -> Result<Running<Frac64>, Option<ProcessId>>
-    requires fits { ProblemFits (problem_of ⟦<Frac64 as Exact>⟧.value ground.now) }
     requires atoms { length ground.now.atoms.items ≡ 0 }
     requires fluents { length ground.now.fluents.items ≡ 1 }
     ensures members { IfOk result (λ r. AreMembers (length ground.now.processes.items) (process_numbers r.members.items)) }
@@ -136,7 +132,6 @@ fn runs(
     members: &[ProcessId],
     rate: i64,
 ) -> bool
-    requires fits { ProblemFits (problem_of ⟦<Frac64 as Exact>⟧.value ground.now) }
     requires atoms { length ground.now.atoms.items ≡ 0 }
     requires fluents { length ground.now.fluents.items ≡ 1 }
 {
@@ -151,7 +146,6 @@ fn runs(
 
 // Whether this process is unsettled where (x) has this value.
 fn is_unsettled(alloc: Global, ground: &Ground<Frac64>, value: i64, process: ProcessId) -> bool
-    requires fits { ProblemFits (problem_of ⟦<Frac64 as Exact>⟧.value ground.now) }
     requires atoms { length ground.now.atoms.items ≡ 0 }
     requires fluents { length ground.now.fluents.items ≡ 1 }
 {
@@ -163,7 +157,6 @@ fn is_unsettled(alloc: Global, ground: &Ground<Frac64>, value: i64, process: Pro
 
 // Whether the running set at the first value goes on at the second.
 fn goes_on_at(alloc: Global, ground: &Ground<Frac64>, value: i64, later: i64) -> Option<bool>
-    requires fits { ProblemFits (problem_of ⟦<Frac64 as Exact>⟧.value ground.now) }
     requires atoms { length ground.now.atoms.items ≡ 0 }
     requires fluents { length ground.now.fluents.items ≡ 1 }
 {

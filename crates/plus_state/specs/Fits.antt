@@ -1,5 +1,6 @@
 -- Ids fit: an id is a place in the list of its kind, so it is below the number of members there.
-use Rattle.std.specs.Prelude.{◌≡◌, ℕ, ◌<◌, ◌+◌, ◌^◌, List, [], ◌∷◌, length, All}
+use Rattle.std.specs.Prelude.{◌≡◌, ℕ, ◌<◌, ◌+◌, ◌^◌, List, [], ◌∷◌, length, All, pos}
+use Rattle.plus_fraction.specs.Fraction.{Fraction, whole, ◌≤ℚ◌}
 use Rattle.plus_model.specs.Terms.{Expression, Number, Fluent, Sum, Difference, Product, Quotient, Condition, Always, Never, Both, Either, Atom, Compare, Write, Add, Delete, Assign, Increase, Decrease, ScaleUp, ScaleDown, Effect, Rate, Action, Event, Process, Timed, State, Problem}
 
 -- each fluent of an expression is below this number
@@ -67,15 +68,21 @@ pub record StateFits (atoms fluents : ℕ) (s : State) : Type 0 where
   pub atoms_fit : length s.atoms ≡ atoms
   pub fluents_fit : length s.fluents ≡ fluents
 
--- all ids of a ground problem fit, its initial state is one for its atoms and fluents, and an id has 32 bits
+-- the times of these literals do not fall, from this time on
+abbrev pub AreInOrder : Fraction → List Timed → Type 0
+AreInOrder from [] = Unit {0}
+AreInOrder from (t ∷ ts) = (from ≤ℚ t.time) × AreInOrder t.time ts
+
+-- all ids of a ground problem fit, its initial state is one for its atoms and fluents, its timed literals come in the order
+-- of their times, none before 0, and an id has 32 bits
 pub record ProblemFits (P : Problem) : Type 0 where
   pub processes : All (ProcessFits P.atoms P.fluents) P.processes
   pub events : All (EventFits P.atoms P.fluents) P.events
   pub timed : All (λ (t : Timed). t.atom < P.atoms) P.timed
+  pub in_order : AreInOrder (whole (pos 0)) P.timed
   pub initial : StateFits P.atoms P.fluents P.initial
   pub goal : Fits P.atoms P.fluents P.goal
   pub few_atoms : P.atoms < 2 ^ 32
   pub few_fluents : P.fluents < 2 ^ 32
   pub few_processes : length P.processes < 2 ^ 32
   pub few_events : length P.events < 2 ^ 32
-  pub few_timed : length P.timed < 2 ^ 32

@@ -1,4 +1,8 @@
 // Ground actions, events and processes, and the ground problem.
+ghost use Rattle.plus_state.specs.Meaning.{problem_from};
+ghost use Rattle.plus_state.specs.Fits.{ProblemFits};
+ghost use Rattle.plus_state.specs.FitsOnce.{ProblemFits-prop};
+
 use crate::labels::Label;
 use crate::states::State;
 use crate::term::{AtomId, Cond, Effect, Rate};
@@ -37,7 +41,7 @@ pub struct Timed<Q> {
 }
 
 /// A ground problem. An id is a place in the list of its kind: `atoms` and `fluents` are the labels
-/// of the ground atoms and fluents, and all lists stand in ground order.
+/// of the ground atoms and fluents, and all lists stand in ground order: timed literals by their times.
 #[derive(Drop)]
 pub struct Ground<Q: Exact> {
     pub atoms: Vec<Label>,
@@ -47,4 +51,5 @@ pub struct Ground<Q: Exact> {
     pub timed: Vec<Timed<Q>>,
     pub initial: State<Q>,
     pub goal: Cond<Q>,
+    pub ghost fits: { ProblemFits (problem_from Q.value atoms.items fluents.items processes.items events.items timed.items initial goal) } by { ProblemFits-prop (problem_from Q.value atoms.items fluents.items processes.items events.items timed.items initial goal) },
 }

@@ -4,7 +4,7 @@ use Rattle.std.specs.Prelude.{Option, Some, None}
 use Rattle.plus_fraction.specs.Fraction.{Fraction, ◌<ℚ◌, ◌≤ℚ◌}
 use Rattle.plus_model.specs.Terms.{Action, Problem}
 use Rattle.plus_model.proofs.Moments.{<ℚ-≤ℚ}
-use Rattle.plus_state.specs.Fits.{ProblemFits, ActionFits}
+use Rattle.plus_state.specs.Fits.{ActionFits}
 use Rattle.plus_timeline.specs.declared.next.Next.{Next}
 use Rattle.plus_timeline.specs.declared.next.Next.TheVariants.{Round, Run, Entry, There}
 use Rattle.plus_timeline.specs.Timeline.{TimelineView, begun}
@@ -13,11 +13,11 @@ use Rattle.plus_timeline.specs.Advance.{Advances, IsThere, IsAhead}
 use Rattle.plus_timeline.specs.Act.{DoesAct}
 use Rattle.plus_timeline.specs.Finish.{IsPaused}
 
-pub begun_serves : (P : Problem) (most : ℕ) → ProblemFits P → IsStill P → Serves P (begun P most)
-begun_serves P most f h = record { fits = f; atoms = refl; fluents = refl; still = h }
+pub begun_serves : (P : Problem) (most : ℕ) → IsStill P → Serves P (begun P most)
+begun_serves P most h = record { atoms = refl; fluents = refl; still = h }
 
 kept : (P : Problem) (old new : TimelineView) → new.atoms ≡ old.atoms → new.fluents ≡ old.fluents → Serves P old → Serves P new
-kept P old new a f s = record { fits = s.fits; atoms = a ∙ s.atoms; fluents = f ∙ s.fluents; still = s.still }
+kept P old new a f s = record { atoms = a ∙ s.atoms; fluents = f ∙ s.fluents; still = s.still }
 
 pub advance_serves : {Q : Type 0} (value : Q → Fraction) (P : Problem) (u : Fraction) (old new : TimelineView) (answer : Next Q) → Advances value P u old new answer → Serves P old → Serves P new
 advance_serves value P u old new Round r s = kept P old new (ap (λ v. v.atoms) r.is) (ap (λ v. v.fluents) r.is) s

@@ -1,7 +1,6 @@
 -- Which problems a timeline is played with.
 use Rattle.std.specs.Prelude.{◌≡◌, []}
 use Rattle.plus_model.specs.Terms.{Problem}
-use Rattle.plus_state.specs.Fits.{ProblemFits}
 use Rattle.plus_timeline.specs.Timeline.{TimelineView}
 
 -- there are no events, no processes and no timed literals. The calls ask for it as long as they know none,
@@ -11,10 +10,8 @@ pub record IsStill (P : Problem) : Type 0 where
   pub processes : P.processes ≡ []
   pub timed : P.timed ≡ []
 
--- a problem that may be handed in: its ids fit, and it has the atoms and fluents of the one that the
--- timeline was begun with
+-- a problem that may be handed in: it has the atoms and fluents of the one that the timeline was begun with
 pub record Serves (P : Problem) (v : TimelineView) : Type 0 where
-  pub fits : ProblemFits P
   pub atoms : v.atoms ≡ P.atoms
   pub fluents : v.fluents ≡ P.fluents
   pub still : IsStill P

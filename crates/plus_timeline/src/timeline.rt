@@ -5,7 +5,7 @@ ghost use Rattle.plus_model.specs.History.{view_after, Enter, Act, Run as Runs};
 ghost use Rattle.plus_model.specs.Trajectory.{is_below};
 ghost use Rattle.plus_state.specs.View.{problem_of, action_of};
 ghost use Rattle.plus_state.specs.Changes.{patched, RisesIn, LeadsTo};
-ghost use Rattle.plus_state.specs.Fits.{StateFits, ProblemFits, ActionFits};
+ghost use Rattle.plus_state.specs.Fits.{StateFits, ActionFits};
 ghost use Rattle.plus_timeline.specs.Still.{IsStill, Serves};
 ghost use Rattle.plus_timeline.specs.Timeline.{TimelineView, begun, next_of, event_numbers, process_numbers};
 ghost use Rattle.plus_timeline.specs.Stops.{IsGoing};
@@ -104,7 +104,6 @@ impl<Q: Exact> Timeline<Q> {
         happenings: u64,
     ) -> Result<Timeline<Q>, AllocError>
         requires some { 1 ≤ happenings }
-        requires fits { ProblemFits (problem_of Q.value ground.now) }
         requires still { IsStill (problem_of Q.value ground.now) }
         ensures { IfOk result (λ t. t ≡ begun (problem_of Q.value ground.now) happenings) }
     {

@@ -10,8 +10,8 @@ use Rattle.plus_tree.specs.Effect.{Effect, e_all, e_forall, e_when, e_leaf, effe
 abbrev pub effect_view : EffectNode → Span → Effect
 effect_view (All es) s = e_all (effects_of es.items) s
 effect_view (ForAll vs e) s = e_forall vs e.value s
-effect_view (When c ls) s = e_when c ls s
-effect_view (Leaf l) s = e_leaf l s
+effect_view (When c ls) s = e_when c.value ls s
+effect_view (Leaf l) s = e_leaf l.value s
 
 pub most_le : (es : List Effect) → most (λ e. effect_size e + 1) es ≤ effects_size (effects_of es)
 most_le [] = omega arith

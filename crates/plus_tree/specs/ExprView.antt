@@ -10,7 +10,7 @@ use Rattle.plus_tree.specs.Expr.{Expr, x_number, x_clock, x_fluent, x_sum, x_pro
 abbrev pub expr_view : ExprNode → Span → Expr
 expr_view (Number n) s = x_number n s
 expr_view Clock s = x_clock s
-expr_view (Fluent u) s = x_fluent u s
+expr_view (Fluent u) s = x_fluent u.value s
 expr_view (Sum es) s = x_sum (exprs_of es.items) s
 expr_view (Product es) s = x_product (exprs_of es.items) s
 expr_view (Minus e) s = x_minus e.value s

@@ -3,6 +3,7 @@
 ghost use Rattle.std.specs.Prelude.{◌≡◌, [], IfOk, map};
 ghost use Rattle.plus_tree.specs.Lowered.{lowered};
 
+use smallvec::SmallVec;
 use std::alloc::{AllocError, Global};
 use std::default::MadeWith;
 use std::marker::Model;
@@ -14,10 +15,11 @@ pub struct Span {
     pub end: usize,
 }
 
-/// A name in small letters. Contracts see it as the list of its bytes.
+/// A name in small letters, of which up to 16 bytes need no memory of their own. Contracts see it as the
+/// list of its bytes.
 #[derive(Debug, Drop)]
 pub struct Name {
-    bytes: Vec<u8>,
+    bytes: SmallVec<u8, 16>,
 }
 
 impl Model for Name {
@@ -32,7 +34,7 @@ impl Model for Name {
 impl MadeWith<Global> for Name {
     fn made_with(alloc: Global) -> Name {
         Name {
-            bytes: Vec::new(alloc),
+            bytes: SmallVec::new(alloc),
         }
     }
 }
@@ -43,7 +45,7 @@ impl Name {
         ensures { IfOk result (λ name. name ≡ bytes.now) }
     {
         Ok(Name {
-            bytes: Vec::from_slice(alloc, bytes)?,
+            bytes: SmallVec::from_slice(alloc, bytes)?,
         })
     }
 
@@ -51,7 +53,7 @@ impl Name {
     pub fn of_word(alloc: Global, word: &[u8]) -> Result<Name, AllocError>
         ensures { IfOk result (λ name. name ≡ lowered word.now) }
     {
-        let lower: Vec<u8> = word.iter().map(|b| b.to_ascii_lowercase()).collect(alloc)?;
+        let lower: SmallVec<u8, 16> = word.iter().map(|b| b.to_ascii_lowercase()).collect(alloc)?;
         Ok(Name { bytes: lower })
     }
 
@@ -59,7 +61,7 @@ impl Name {
     pub fn bytes(&self) -> &[u8]
         ensures { result.now ≡ self.now }
     {
-        &self.bytes
+        self.bytes.as_slice()
     }
 }
 
@@ -77,7 +79,7 @@ impl Spelled {
     {
         Spelled {
             name: Name {
-                bytes: Vec::new(alloc),
+                bytes: SmallVec::new(alloc),
             },
             span: Span { start: 0, end: 0 },
         }

@@ -23,7 +23,7 @@ pub enum ExprNode {
     /// The time that passes in a process: `#t`.
     Clock,
     /// The value of this fluent. Its place is that of the expression.
-    Fluent(Use),
+    Fluent(Box<Use>),
     /// `(+ ..)`, of two or more.
     Sum(Vec<ExprTree>),
     /// `(* ..)`, of two or more.
@@ -80,11 +80,11 @@ pub enum CondNode {
     /// It holds for some objects in place of the variables: `(exists (..) ..)`.
     Exists(Members<TypedName>, Box<CondTree>),
     /// This atom is true. Its place is that of the condition.
-    Atom(Use),
+    Atom(Box<Use>),
     /// The two are the same object: `(= ..)`.
-    Same(Term, Term),
+    Same(Box<Term>, Box<Term>),
     /// The two numbers compare so.
-    Compare(Comparison, ExprTree, ExprTree),
+    Compare(Comparison, Box<ExprTree>, Box<ExprTree>),
 }
 
 impl Model for CondTree {
@@ -149,9 +149,9 @@ pub enum EffectNode {
     /// This for all objects in place of the variables: `(forall (..) ..)`.
     ForAll(Members<TypedName>, Box<EffectTree>),
     /// These writes where the condition holds: `(when ..)`.
-    When(CondTree, Members<Leaf>),
+    When(Box<CondTree>, Members<Leaf>),
     /// This one write. Its place is that of the effect.
-    Leaf(Leaf),
+    Leaf(Box<Leaf>),
 }
 
 impl Model for EffectTree {

@@ -1,5 +1,5 @@
 -- Searching a table of names is searching the list of their bytes.
-use Rattle.std.proofs.Common.{◌≡◌, ℕ, zero, suc, ◌+◌, ◌<◌, ◌≤◌, Bool, true, false, List, [], ◌∷◌, ap, sym, refl, ◌∙◌, map, length, cond, position, ◌||◌, drop, drop-cons, get_or, arith, Vec, Global, ◌&&◌}
+use Rattle.std.proofs.Common.{◌≡◌, ℕ, zero, suc, ◌+◌, ◌<◌, ◌≤◌, Bool, true, false, List, [], ◌∷◌, ap, sym, refl, ◌∙◌, map, length, cond, position, ◌||◌, drop, drop-cons, get_or, arith, Vec, Global, Bor, ◌&&◌}
 use Rattle.std.specs.Str.{bytes_eq}
 use Rattle.std.specs.Cmp.Lexicographic.{pointwise}
 use Rattle.plus_types.specs.Faults.{same_names}
@@ -30,18 +30,18 @@ any-passed p (x ∷ xs) (suc i) h = any-passed p xs i (omega arith)
 
 -- two keys are the same where their names are
 pub same-shown :
-    (xs ys : List (Vec ℕ Global))
-    → pointwise (λ x y. bytes_eq x.items y.items) xs ys ≡ same_names (map (λ n. n.items) xs) (map (λ n. n.items) ys)
+    (xs ys : List (Bor (List ℕ)))
+    → pointwise (λ x y. bytes_eq x.now y.now) xs ys ≡ same_names (map (λ n. n.now) xs) (map (λ n. n.now) ys)
 same-shown [] [] = refl
 same-shown [] (y ∷ ys) = refl
 same-shown (x ∷ xs) [] = refl
-same-shown (x ∷ xs) (y ∷ ys) = ap (λ b. bytes_eq x.items y.items && b) (same-shown xs ys)
+same-shown (x ∷ xs) (y ∷ ys) = ap (λ b. bytes_eq x.now y.now && b) (same-shown xs ys)
 
 pub any-same-shown :
-    (k : List (Vec ℕ Global)) (keys : List (Vec (Vec ℕ Global) Global))
-    → list_any (λ y. pointwise (λ x z. bytes_eq x.items z.items) k y.items) keys
-    ≡ list_any (same_names (map (λ n. n.items) k)) (map (λ key. map (λ n. n.items) key.items) keys)
+    (k : List (Bor (List ℕ))) (keys : List (Vec (Bor (List ℕ)) Global))
+    → list_any (λ y. pointwise (λ x z. bytes_eq x.now z.now) k y.items) keys
+    ≡ list_any (same_names (map (λ n. n.now) k)) (map (λ key. map (λ n. n.now) key.items) keys)
 any-same-shown k [] = refl
 any-same-shown k (y ∷ ys) =
-    ap (λ b. b || list_any (λ z. pointwise (λ x w. bytes_eq x.items w.items) k z.items) ys) (same-shown k y.items)
-    ∙ ap (λ b. same_names (map (λ n. n.items) k) (map (λ n. n.items) y.items) || b) (any-same-shown k ys)
+    ap (λ b. b || list_any (λ z. pointwise (λ x w. bytes_eq x.now w.now) k z.items) ys) (same-shown k y.items)
+    ∙ ap (λ b. same_names (map (λ n. n.now) k) (map (λ n. n.now) y.items) || b) (any-same-shown k ys)

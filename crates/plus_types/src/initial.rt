@@ -16,11 +16,11 @@ use std::marker::Model;
 
 /// The ground fluents that have a first value. Contracts see each as the list of its names.
 #[derive(Drop)]
-struct Valued {
-    table: IndexSet<Vec<Vec<u8>>>,
+struct Valued<'a> {
+    table: IndexSet<Vec<&'a [u8]>>,
 }
 
-impl Model for Valued {
+impl<'a> Model for Valued<'a> {
     ghost use Rattle.std.specs.Prelude.{List, ℕ, map};
     ghost use Rattle.std.specs.Coded.{coded_list, coded_ℕ};
 
@@ -28,7 +28,7 @@ impl Model for Valued {
 
     ghost coded = { coded_list (coded_list (coded_list coded_ℕ)) };
 
-    ghost view = { λ v. map (λ key. map (λ name. name.items) key.items) v.table.keys };
+    ghost view = { λ v. map (λ key. map (λ name. name.now) key.items) v.table.keys };
 }
 
 // The bytes of the name of a term.
@@ -41,19 +41,19 @@ fn term_name(term: &Term) -> &[u8]
 }
 
 // The names of a ground fluent.
-fn key(alloc: Global, fluent: &Use) -> Result<Vec<Vec<u8>>, AllocError>
-    ensures { IfOk result (λ key. map (λ name. name.items) key.items ≡ ground_name fluent.now) }
+fn key<'a>(alloc: Global, fluent: &'a Use) -> Result<Vec<&'a [u8]>, AllocError>
+    ensures { IfOk result (λ key. map (λ name. name.now) key.items ≡ ground_name fluent.now) }
 {
     let mut names = Vec::new(alloc);
-    names.push(Vec::from_slice(alloc, fluent.head.name.bytes())?)?;
+    names.push(fluent.head.name.bytes())?;
     'terms: for arg in fluent.args.as_slice() {
-        names.push(Vec::from_slice(alloc, term_name(arg))?)?;
+        names.push(term_name(arg))?;
     }
     Ok(names)
 }
 
-impl Valued {
-    fn new(alloc: Global) -> Valued
+impl<'a> Valued<'a> {
+    fn new(alloc: Global) -> Valued<'a>
         ensures { result ≡ [] }
     {
         Valued {
@@ -62,7 +62,7 @@ impl Valued {
     }
 
     // Adds a ground fluent at the end, and answers whether it was new.
-    fn add(&mut self, alloc: Global, fluent: &Use) -> Result<bool, AllocError>
+    fn add(&mut self, alloc: Global, fluent: &'a Use) -> Result<bool, AllocError>
         ensures fresh { IfOk result (λ fresh. fresh ≡ not (list_any (same_names (ground_name fluent.now)) self.old)) }
         ensures added { IfOk result (λ fresh. self.new ≡ (if fresh then self.old ++ ground_name fluent.now ∷ [] else self.old)) }
     {
@@ -73,12 +73,12 @@ impl Valued {
 }
 
 #[tactic(auto, using(crate::proofs::WalkLemmas::walking))]
-fn initial(
+fn initial<'a>(
     alloc: Global,
     known: &Known<'_>,
     none: &Kinds,
-    valued: &mut Valued,
-    member: &Init,
+    valued: &mut Valued<'a>,
+    member: &'a Init,
 ) -> Result<(), TypeFault>
     requires { none.now ≡ [] }
     ensures walks { Walks (initial_faults (context known.now) valued.old member.now) result }

@@ -11,7 +11,6 @@ use Rattle.plus_model.proofs.Moments.{≤ℚ_refl}
 use Rattle.plus_number.specs.declared.frac.Frac64.{Frac64}
 use Rattle.plus_number.specs.Frac.{fraction_of, IsFrac64}
 use Rattle.plus_state.specs.View.{Labels}
-use Rattle.plus_state.specs.Fits.{ProblemFits}
 use Rattle.plus_timeline.specs.Timeline as timeline
 use Rattle.plus_timeline.specs.Timeline.{TimelineView, begun}
 use Rattle.plus_timeline.specs.Still.{IsStill}
@@ -51,13 +50,13 @@ first_report N P L most time e =
     ∙ ap (λ x. entry_text N (whole (pos 0)) P.initial P.initial ++ x) (literals_shown N P (whole (pos 0)) P.initial (literals P (whole (pos 0)) P.initial))
     ∙ sym (append-nil _)
 
-pub begins : (N : Labels) (P : Problem) (most : ℕ) (time : Frac64) (run : Run) → ProblemFits P → IsStill P → 1 ≤ most → run.timeline ≡ begun P most → run.ended ≡ false → fraction_of time ≡ run.timeline.now.time → run.report.bytes.items ≡ [] ++ next_text fraction_of N P run.timeline (Entry time) → Begins N P most run
-begins N P most time run f s some e n t r =
+pub begins : (N : Labels) (P : Problem) (most : ℕ) (time : Frac64) (run : Run) → IsStill P → 1 ≤ most → run.timeline ≡ begun P most → run.ended ≡ false → fraction_of time ≡ run.timeline.now.time → run.report.bytes.items ≡ [] ++ next_text fraction_of N P run.timeline (Entry time) → Begins N P most run
+begins N P most time run s some e n t r =
     let now : fraction_of time ≡ whole (pos 0) = t ∙ ap (λ v. v.now.time) e in
     record {
       rests = record {
         can = record {
-          serves = record { fits = f; atoms = ap (λ v. v.atoms) e; fluents = ap (λ v. v.fluents) e; still = s };
+          serves = record { atoms = ap (λ v. v.atoms) e; fluents = ap (λ v. v.fluents) e; still = s };
           going = ap (λ v. v.ended) e;
           within = (let a : run.timeline.entries ≡ 1 = ap (λ v. v.entries) e in let b : run.timeline.most ≡ most = ap (λ v. v.most) e in omega arith);
         };

@@ -5,6 +5,7 @@ use Rattle.plus_number.specs.declared.frac.Frac64.{Frac64}
 use Rattle.plus_number.specs.Frac.{fraction_of}
 use Rattle.plus_state.specs.Fits.{ActionFits}
 use Rattle.plus_state.specs.View.{problem_of}
+use Rattle.plus_number.specs.declared.exact.Exact.{Ghosts}
 use Rattle.plus_state.specs.declared.problem.Ground.{Ground}
 use Rattle.plus_tree.specs.declared.trees.Domain.{Domain}
 use Rattle.plus_tree.specs.declared.trees.Problem as tree
@@ -17,7 +18,7 @@ use Rattle.plus_expansion.specs.Expansion.{expanded, instances_of, event_meant, 
 use Rattle.plus_timeline.specs.Still.{IsStill}
 use Rattle.plus_validator.specs.Playing.{IsGroundOf}
 
-pub instance_fits : (d : Domain) (p : tree.Problem) (g : Ground Frac64) (a : Action) → IsGroundOf d p g
+pub instance_fits : {E : Ghosts Frac64} (d : Domain) (p : tree.Problem) (g : Ground Frac64 E) (a : Action) → IsGroundOf d p g
     → ActionFits (length (ground_names (problem_context d p) d.predicates)) (length (ground_names (problem_context d p) d.functions)) a
     → ActionFits (problem_of fraction_of g).atoms (problem_of fraction_of g).fluents a
 instance_fits d p g a i f = subst (λ (P : Problem). ActionFits P.atoms P.fluents a) (sym i.expands) f
@@ -53,5 +54,5 @@ still d p w =
       timed = refl;
     }
 
-pub ground_still : (d : Domain) (p : tree.Problem) (g : Ground Frac64) → IsTrue (is_well_typed d p) → IsGroundOf d p g → IsStill (problem_of fraction_of g)
+pub ground_still : {E : Ghosts Frac64} (d : Domain) (p : tree.Problem) (g : Ground Frac64 E) → IsTrue (is_well_typed d p) → IsGroundOf d p g → IsStill (problem_of fraction_of g)
 ground_still d p g w i = subst IsStill (sym i.expands) (still d p w)

@@ -40,7 +40,7 @@ use Rattle.plus_validator.specs.Standing.{IsPlayed, CanReach, IsReached, HasRoom
 -- ---- the timeline may go on after a step
 
 pub serves_still : (P : Problem) (old new : TimelineView) → new.atoms ≡ old.atoms → new.fluents ≡ old.fluents → Serves P old → Serves P new
-serves_still P old new a f s = record { fits = s.fits; atoms = a ∙ s.atoms; fluents = f ∙ s.fluents; still = s.still }
+serves_still P old new a f s = record { atoms = a ∙ s.atoms; fluents = f ∙ s.fluents; still = s.still }
 
 round_goes : (P : Problem) (u : Fraction) (old new : TimelineView) → CanReach P u old → FiresRound P old new → CanReach P u new
 round_goes P u old new c r =

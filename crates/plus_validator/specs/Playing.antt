@@ -7,6 +7,7 @@ use Rattle.plus_model.specs.History.{Part}
 use Rattle.plus_model.specs.Trajectory.{HasBegun, next_line, Trajectory}
 use Rattle.plus_number.specs.declared.frac.Frac64.{Frac64}
 use Rattle.plus_number.specs.Frac.{fraction_of}
+use Rattle.plus_number.specs.declared.exact.Exact.{Ghosts}
 use Rattle.plus_state.specs.declared.problem.Ground.{Ground}
 use Rattle.plus_state.specs.View.{Labels, problem_of, labels_of}
 use Rattle.plus_tree.specs.declared.trees.Domain.{Domain}
@@ -27,7 +28,7 @@ use Rattle.plus_validator.specs.Standing.{IsPlayed, CanGoOn, IsReady, IsReached}
 use Rattle.plus_validator.specs.declared.run.Run.{Run}
 
 -- the ground form of a pair
-pub record IsGroundOf (d : Domain) (p : tree.Problem) (g : Ground Frac64) : Type 0 where
+pub record IsGroundOf {E : Ghosts Frac64} (d : Domain) (p : tree.Problem) (g : Ground Frac64 E) : Type 0 where
   pub expands : problem_of fraction_of g ≡ expanded d p
   pub labels : labels_of g ≡ labels_meant d p
 

@@ -7,7 +7,6 @@ use Rattle.plus_model.specs.History.{Part}
 use Rattle.plus_model.specs.Trajectory.{until, IsWorked, Prefix, view_of}
 use Rattle.plus_model.specs.Breach.{IsPresent}
 use Rattle.plus_state.specs.View.{Labels}
-use Rattle.plus_state.specs.Fits.{ProblemFits}
 use Rattle.plus_timeline.specs.Timeline.{TimelineView}
 use Rattle.plus_timeline.specs.Still.{Serves}
 use Rattle.plus_timeline.specs.Stops.{IsGoing}
@@ -111,7 +110,6 @@ is_there There = true
 
 -- the timeline is one of a ground problem that fits
 pub record CanShow (P : Problem) (t : TimelineView) : Type 0 where
-  pub fits : ProblemFits P
   pub atoms : t.atoms ≡ P.atoms
   pub fluents : t.fluents ≡ P.fluents
 

@@ -1,7 +1,6 @@
 //! The report and the verdict of a plan text.
 ghost use Rattle.std.specs.Prelude.{◌≡◌, ◌≤◌, None, [], true, false, length, drop, take, OnOk, IfOk, IfErr};
 ghost use Rattle.plus_state.specs.View.{problem_of, labels_of};
-ghost use Rattle.plus_state.specs.Fits.{ProblemFits};
 ghost use Rattle.plus_number.specs.Frac.{fraction_of, IsFrac64};
 ghost use Rattle.plus_expansion.specs.Counting.{IsGroundable};
 ghost use Rattle.plus_validator.specs.Limits.{text_limit};
@@ -191,7 +190,6 @@ pub fn judge(
     happenings: u64,
 ) -> Result<Judgement, Halt>
     requires expands { IsGroundOf numbering.now.typed.now.domain numbering.now.typed.now.problem ground.now }
-    requires fits { ProblemFits (problem_of fraction_of ground.now) }
     requires groundable { IsGroundable IsFrac64 numbering.now.typed.now.domain numbering.now.typed.now.problem }
     requires some { 1 ≤ happenings }
     ensures judged { IfOk result (IsJudged numbering.now.typed.now.domain numbering.now.typed.now.problem happenings

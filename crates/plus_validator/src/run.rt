@@ -2,7 +2,6 @@
 ghost use Rattle.std.specs.Prelude.{◌≡◌, ◌≤◌, ◌++◌, OnOk, IfOk, IfErr};
 ghost use Rattle.plus_number.specs.Frac.{fraction_of};
 ghost use Rattle.plus_state.specs.View.{problem_of, labels_of};
-ghost use Rattle.plus_state.specs.Fits.{ProblemFits};
 ghost use Rattle.plus_timeline.specs.Still.{IsStill};
 ghost use Rattle.plus_validator.specs.Running.{Steps, Reaches};
 ghost use Rattle.plus_validator.specs.Halts.{HaltFits};
@@ -70,7 +69,6 @@ impl Run {
     /// Begins a run: the first entry, at time 0.
     pub fn begin(alloc: Global, ground: &Ground<Frac64>, happenings: u64) -> Result<Run, Halt>
         requires some { 1 ≤ happenings }
-        requires fits { ProblemFits (problem_of fraction_of ground.now) }
         requires still { IsStill (problem_of fraction_of ground.now) }
         ensures begins { IfOk result (Begins (labels_of ground.now) (problem_of fraction_of ground.now) happenings) }
         ensures memory { IfErr result (λ halt. halt ≡ Halt.Memory) }

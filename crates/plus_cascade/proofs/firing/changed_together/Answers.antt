@@ -26,7 +26,7 @@ pub add_dues-requires-clause-effects : goal.add_dues-requires-clause-effects
 add_dues-requires-clause-effects g c =
     let e = next_number c.args.events.now c.each.event-index (record { 0 = 0 }) c.each-test.true in
     let h : (get_or c.args.events.now c.each.event-index (record { 0 = 0 })).0 < length c.args.ground.now.events.items = joining_inside g.Q.Exact.value _ c.args.ground.now _ _ _ _ _ (rw e at c.each.invariant) in
-    rw c.deref.ensures.value (event_fits g.Q.Exact.value _ _ c.args.ground.now.events.items _ c.index.result.now h c.index.ensures (all_fit _ _ _ _ c.requires.state c.requires.fits.events)).effects
+    rw c.deref.ensures.value (event_fits g.Q.Exact.value _ _ c.args.ground.now.events.items _ c.index.result.now h c.index.ensures (all_fit _ _ _ _ c.requires.state c.args.ground.now.fits.events)).effects
 
 pub returns-in-Err-clause-told : goal.returns-in-Err-clause-told
 returns-in-Err-clause-told g c =

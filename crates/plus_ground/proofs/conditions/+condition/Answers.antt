@@ -1,8 +1,10 @@
-use Rattle.std.proofs.Common.{◌≡◌, ◌+◌, ◌∙◌, All, rules, refl, inl, inr}
+use Rattle.std.proofs.Common.{◌≡◌, ◌+◌, ◌∙◌, All, ap, sym, rules, refl, inl, inr}
+use Rattle.plus_model.specs.Terms.{Atom}
 use Rattle.plus_tree.specs.Cond.{cond_size, conds_size, conds_of}
 use Rattle.plus_types.specs.Faults.{problem_context}
 use Rattle.plus_literal.specs.Value.{LiteralFits}
-use Rattle.plus_expansion.specs.Environments.{environments}
+use Rattle.plus_expansion.specs.Environments.{environments, atom_number}
+use Rattle.plus_expansion.specs.Expansion.{condition_meant}
 use Rattle.plus_expansion.specs.Literals.{expression_literals, condition_literals, conditions_literals}
 use Rattle.plus_ground.proofs.ExpressionsLemmas.{all_left, all_right}
 use Rattle.plus_ground.proofs.ConditionsLemmas.{member_fits, member_smaller, all_returned, any_returned, forall_returned, exists_returned}
@@ -21,12 +23,12 @@ condition-requires-in-Not g t c κs within =
 pub compare-requires-clause-left : goal.compare-requires-clause-left
 compare-requires-clause-left g t c =
     let h = rw (← c.cond.view_is, c.in-Compare.is) at c.requires in
-    all_left (LiteralFits g.Q.Exact.fits) (expression_literals c.in-Compare.left) (expression_literals c.in-Compare.right) h
+    rw c.deref-in-Compare.ensures (all_left (LiteralFits g.Q.Exact.fits) (expression_literals c.in-Compare.left.value) (expression_literals c.in-Compare.right.value) h)
 
 pub compare-requires-clause-right : goal.compare-requires-clause-right
 compare-requires-clause-right g t c =
     let h = rw (← c.cond.view_is, c.in-Compare.is) at c.requires in
-    all_right (LiteralFits g.Q.Exact.fits) (expression_literals c.in-Compare.left) (expression_literals c.in-Compare.right) h
+    rw c.deref-in-Compare-2.ensures (all_right (LiteralFits g.Q.Exact.fits) (expression_literals c.in-Compare.left.value) (expression_literals c.in-Compare.right.value) h)
 
 pub condition-requires-in-choices : goal.condition-requires-in-choices
 condition-requires-in-choices g t c κs within =
@@ -76,3 +78,9 @@ returns-after-choices g t c =
           c.deref-inner-items.result.now c.choices.inner-index _ _
           (rw (← c.cond.view_is, e) refl) c.signed-all.ensures c.asks_all.ensures c.choices-test.false es c.choices.invariant c.joined-in-ForAll.ensures
     ]
+
+pub returns-in_ok-atom-in-Atom : goal.returns-in_ok-atom-in-Atom
+returns-in_ok-atom-in-Atom g t c =
+    let k = problem_context c.args.numbering.now.typed.now.domain c.args.numbering.now.typed.now.problem in
+    let meant : condition_meant k c.args.env.now c.args.positive c.args.cond.now ≡ Atom (atom_number k c.args.env.now c.in-Atom.used.value) c.args.positive = rw (← c.cond.view_is, c.in-Atom.is) refl in
+    ap (λ u. Atom u c.args.positive) (c.in_ok-atom-in-Atom.ensures ∙ ap (λ u. atom_number k c.args.env.now u) c.deref-in-Atom.ensures) ∙ sym meant

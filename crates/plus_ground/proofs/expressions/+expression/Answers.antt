@@ -1,6 +1,8 @@
-use Rattle.std.proofs.Common.{◌≡◌, rules, refl}
+use Rattle.std.proofs.Common.{◌≡◌, ◌∙◌, ap, sym, rules, refl}
 use Rattle.plus_tree.specs.Expr.{expr_size, exprs_size, exprs_of}
-use Rattle.plus_model.specs.Terms.{Sum, Product}
+use Rattle.plus_model.specs.Terms.{Fluent, Sum, Product}
+use Rattle.plus_expansion.specs.Environments.{fluent_number}
+use Rattle.plus_expansion.specs.Expansion.{expression_meant}
 use Rattle.plus_types.specs.Faults.{problem_context}
 use Rattle.plus_literal.specs.Value.{LiteralFits}
 use Rattle.plus_expansion.specs.Literals.{expression_literals}
@@ -52,3 +54,9 @@ pub expression-requires-in-Quotient-2 : goal.expression-requires-in-Quotient-2
 expression-requires-in-Quotient-2 g t c κs within =
     let h = rw (← c.expr.view_is, c.in-Quotient.is) at c.requires in
     (search rules, (within, rw c.deref-in-Quotient-2.ensures (all_right (LiteralFits g.Q.Exact.fits) (expression_literals c.in-Quotient.left.value) (expression_literals c.in-Quotient.right.value) h)))
+
+pub returns-in_ok-fluent-in-Fluent : goal.returns-in_ok-fluent-in-Fluent
+returns-in_ok-fluent-in-Fluent g t c =
+    let k = problem_context c.args.numbering.now.typed.now.domain c.args.numbering.now.typed.now.problem in
+    let meant : expression_meant k c.args.env.now c.args.expr.now ≡ Fluent (fluent_number k c.args.env.now c.in-Fluent.used.value) = rw (← c.expr.view_is, c.in-Fluent.is) refl in
+    ap Fluent (c.in_ok-fluent-in-Fluent.ensures ∙ ap (λ u. fluent_number k c.args.env.now u) c.deref.ensures) ∙ sym meant

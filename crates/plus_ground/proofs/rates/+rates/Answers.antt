@@ -16,7 +16,9 @@ rates-requires g t c κs within =
     (search rules, (within, member_fits g.Q.Exact.fits c.deref-member-items.result.now c.members.member-index c.member-item.result c.members-test.true c.member-item.is h))
 
 pub rate-requires : goal.rate-requires
-rate-requires g t c = rw (← c.effect.view_is, c.in-Leaf.is) at c.requires
+rate-requires g t c =
+    let h = rw (← c.effect.view_is, c.in-Leaf.is) at c.requires in
+    rw c.deref-in-Leaf.ensures h
 
 pub returns-after-members : goal.returns-after-members
 returns-after-members g t c =

@@ -28,5 +28,5 @@ returns-in_ok-condition-in-Imply g t c =
 
 pub returns-in_ok-expression-in-Compare : goal.returns-in_ok-expression-in-Compare
 returns-in_ok-expression-in-Compare g t c =
-    rw (← c.cond.view_is, c.in-Compare.is)
+    rw (← c.cond.view_is, c.in-Compare.is, ← c.deref-in-Compare.ensures, ← c.deref-in-Compare-2.ensures)
     (then_tests g.Q.Exact.fits _ _ c.expression-in-Compare.result c.in_ok-expression-in-Compare.ensures c.expression-in-Compare.ensures)

@@ -20,5 +20,5 @@ returns-in_err-effect-in-All g t c =
 
 pub returns-in_ok-condition-in-When : goal.returns-in_ok-condition-in-When
 returns-in_ok-condition-in-When g t c =
-    rw (← c.effect_tree.view_is, c.in-When.is, ← c.as_slice.ensures)
+    rw (← c.effect_tree.view_is, c.in-When.is, ← c.deref-in-When.ensures, ← c.as_slice.ensures)
     (then_tests g.Q.Exact.fits _ _ c.leaves.result c.in_ok-condition-in-When.ensures c.leaves.ensures)

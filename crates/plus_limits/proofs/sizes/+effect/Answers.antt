@@ -19,6 +19,6 @@ returns-in-When t c =
     let k = context c.args.numbering.now in
     let ls = c.as_slice-in-When.result.now in
     let e =
-    c.leaves.ensures ∙ ap (λ (g : ℕ). held (sum_by (leaf_size g) ls)) c.condition.ensures ∙ held-guard (condition_size k c.in-When.guard) ls
-    ∙ ap (λ xs. held (sum_by (leaf_size (condition_size k c.in-When.guard)) xs)) c.as_slice-in-When.ensures in
-    rw (← c.effect_tree.view_is, c.in-When.is) e
+    c.leaves.ensures ∙ ap (λ (g : ℕ). held (sum_by (leaf_size g) ls)) c.condition.ensures ∙ held-guard (condition_size k c.deref-in-When.result.now) ls
+    ∙ ap (λ xs. held (sum_by (leaf_size (condition_size k c.deref-in-When.result.now)) xs)) c.as_slice-in-When.ensures in
+    rw (← c.effect_tree.view_is, c.in-When.is, ← c.deref-in-When.ensures) e

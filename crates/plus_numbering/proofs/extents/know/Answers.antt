@@ -1,4 +1,4 @@
-use Rattle.std.proofs.Common.{◌≡◌, ◌∙◌, sym, subst, ◌++◌, ◌∷◌, []}
+use Rattle.std.proofs.Common.{sym, subst}
 use Rattle.plus_numbering.specs.Tables.{IsPlace}
 use Rattle.plus_numbering.proofs.PutLemmas.{place-some, place-new, not-named, known-new}
 use Rattle.plus_numbering.proofs.extents.know.Goals as goal

@@ -1,11 +1,14 @@
-use Rattle.std.proofs.Common.{◌≡◌, ◌∙◌, ◌<◌, ap, sym, length, arith, rules}
+use Rattle.std.proofs.Common.{◌≡◌, ◌∙◌, ◌<◌, ℕ, Vec, Global, ap, sym, length, arith, rules}
 use Rattle.std.specs.List.{position_or_len}
 use Rattle.std.specs.Str.{bytes_eq}
+use Rattle.std.proofs.lemmas.List.{length-map}
 use Rattle.plus_tree.specs.declared.trees.Head.{Head}
 use Rattle.plus_types.specs.Faults.{problem_context}
 use Rattle.plus_numbering.specs.Objects.{extents_of, tuples}
 use Rattle.plus_numbering.specs.Numbers.{head_names}
+use Rattle.plus_numbering.specs.Tables.{list_numbers}
 use Rattle.plus_numbering.proofs.SizeLemmas.{length-starts}
+use Rattle.plus_numbering.proofs.KindLemmas.{kinds-at}
 use Rattle.plus_numbering.proofs.NumberLemmas.{all-starts, own-starts, starts-rise, length-names, number-none, number-found, number-nowhere}
 use Rattle.plus_numbering.proofs.numbers.number.Goals as goal
 
@@ -41,8 +44,8 @@ overflow_sub-size c =
     let l : c.in-Some.place < length H = omega (arith, ap length same, length-names H, c.in-Some.ensures.within) in
     starts-rise C H c.args.starts.now c.in-Some.place c.requires.starts l
 
-pub rank-rank-requires : goal.rank-rank-requires
-rank-rank-requires c =
+pub rank-rank-requires-clause-size : goal.rank-rank-requires-clause-size
+rank-rank-requires-clause-size c =
     let C = problem_context c.args.extents.now.typed.now.domain c.args.extents.now.typed.now.problem in
     let same : c.args.declared.now.names.now ≡ head_names c.args.declared.now.heads.now = search rules in
     let h = c.index-declared-place.result in
@@ -51,6 +54,31 @@ rank-rank-requires c =
     let ps : c.as_slice.result.now ≡ h.params = c.as_slice.ensures ∙ ap (λ (x : Head). x.params) (sym c.index-declared-place.is) in
     let params : length (tuples (extents_of C c.as_slice.result.now)) ≡ length (tuples (extents_of C h.params)) = ap (λ ps. length (tuples (extents_of C ps))) ps in
     omega (arith, own, params)
+
+pub bounds-kinds-place : goal.bounds-kinds-place
+bounds-kinds-place c =
+    let H = c.args.declared.now.heads.now in
+    let same : c.args.declared.now.names.now ≡ head_names H = search rules in
+    omega (
+      arith,
+      ap length c.requires.kinds,
+      length-map c.args.kinds.now (λ (v : Vec ℕ Global). v.items),
+      length-map H (λ (x : Head). list_numbers c.args.extents.now.names x.params),
+      ap length same,
+      length-names H,
+      c.in-Some.ensures.within,
+    )
+
+pub rank-rank-requires-clause-kinds : goal.rank-rank-requires-clause-kinds
+rank-rank-requires-clause-kinds c =
+    let H = c.args.declared.now.heads.now in
+    let names = c.args.extents.now.names in
+    let same : c.args.declared.now.names.now ≡ head_names H = search rules in
+    let l : c.in-Some.place < length H = omega (arith, ap length same, length-names H, c.in-Some.ensures.within) in
+    let h = c.index-declared-place.result in
+    let ps : c.as_slice.result.now ≡ h.params = c.as_slice.ensures ∙ ap (λ (x : Head). x.params) (sym c.index-declared-place.is) in
+    c.deref.ensures.value ∙ kinds-at names c.args.kinds.now H c.in-Some.place c.index-kinds-place.result h c.requires.kinds l c.index-kinds-place.is c.index-declared-place.is
+    ∙ ap (list_numbers names) (sym ps)
 
 pub returns-then-rank-size : goal.returns-then-rank-size
 returns-then-rank-size c =

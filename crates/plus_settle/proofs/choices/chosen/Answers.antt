@@ -8,7 +8,7 @@ use Rattle.plus_settle.proofs.ChoicesLemmas.{choosing_start, choosing_inside, ch
 use Rattle.plus_settle.proofs.choices.chosen.Goals as goal
 
 pub each-init : goal.each-init
-each-init g c = choosing_start _ (problem_of g.Q.Exact.value c.args.ground.now) _ _ _ (ap process_numbers c.new-members.ensures.items) (all_fit _ _ _ _ c.requires.state c.requires.fits.processes)
+each-init g c = choosing_start _ (problem_of g.Q.Exact.value c.args.ground.now) _ _ _ (ap process_numbers c.new-members.ensures.items) (all_fit _ _ _ _ c.requires.state c.args.ground.now.fits.processes)
 
 pub runs_after-requires-clause-fits : goal.runs_after-requires-clause-fits
 runs_after-requires-clause-fits g c =

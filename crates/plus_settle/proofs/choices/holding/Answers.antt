@@ -7,7 +7,7 @@ use Rattle.plus_settle.proofs.ChoicesLemmas.{gathering_start, gathering_inside, 
 use Rattle.plus_settle.proofs.choices.holding.Goals as goal
 
 pub each-init : goal.each-init
-each-init g c = gathering_start _ _ _ _ (ap process_numbers c.new-members.ensures.items) (all_fit _ _ _ _ c.requires.state c.requires.fits.processes)
+each-init g c = gathering_start _ _ _ _ (ap process_numbers c.new-members.ensures.items) (all_fit _ _ _ _ c.requires.state c.args.ground.now.fits.processes)
 
 pub holds-requires : goal.holds-requires
 holds-requires g c =

@@ -9,7 +9,7 @@ use Rattle.plus_settle.proofs.confirms.first_other.Goals as goal
 
 pub each-init : goal.each-init
 each-init g c = (
-  confirming_start _ (problem_of g.Q.Exact.value c.args.ground.now) _ _ _ (all_fit _ _ _ _ c.requires.state c.requires.fits.processes),
+  confirming_start _ (problem_of g.Q.Exact.value c.args.ground.now) _ _ _ (all_fit _ _ _ _ c.requires.state c.args.ground.now.fits.processes),
   from_start _ c.requires.members.rising,
 )
 

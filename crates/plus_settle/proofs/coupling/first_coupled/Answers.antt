@@ -20,7 +20,7 @@ moving_rate-requires g c =
     let e = next_number c.args.members.now c.each.member-index (record { 0 = 0 }) c.each-test.true in
     let inv = rw e at c.each.invariant in
     let h : (get_or c.args.members.now c.each.member-index (record { 0 = 0 })).0 < length c.args.ground.now.processes.items = rw length-map at (pairing_inside _ _ _ _ _ _ inv refl) in
-    rw (c.deref.ensures.value, c.requires.rates) (process_fits g.Q.Exact.value _ _ c.args.ground.now.processes.items _ c.index.result.now h c.index.ensures c.requires.fits.processes).rates
+    rw (c.deref.ensures.value, c.requires.rates) (process_fits g.Q.Exact.value _ _ c.args.ground.now.processes.items _ c.index.result.now h c.index.ensures c.args.ground.now.fits.processes).rates
 
 pub returns-in-Some : goal.returns-in-Some
 returns-in-Some g c =

@@ -18,7 +18,7 @@ pub add_all-requires-clause-fits : goal.add_all-requires-clause-fits
 add_all-requires-clause-fits g c =
     let e = next_number c.args.members.now c.each.member-index (record { 0 = 0 }) c.each-test.true in
     let h : (get_or c.args.members.now c.each.member-index (record { 0 = 0 })).0 < length c.args.ground.now.processes.items = summing_inside g.Q.Exact.value _ c.args.ground.now _ _ _ _ _ (rw e at c.each.invariant) in
-    rw c.deref.ensures.value (process_fits g.Q.Exact.value _ _ c.args.ground.now.processes.items _ c.index.result.now h c.index.ensures (all_fit _ _ _ _ c.requires.state c.requires.fits.processes)).rates
+    rw c.deref.ensures.value (process_fits g.Q.Exact.value _ _ c.args.ground.now.processes.items _ c.index.result.now h c.index.ensures (all_fit _ _ _ _ c.requires.state c.args.ground.now.fits.processes)).rates
 
 pub returns-in-Err-add_all-clause-told : goal.returns-in-Err-add_all-clause-told
 returns-in-Err-add_all-clause-told g c =

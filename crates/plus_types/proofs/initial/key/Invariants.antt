@@ -4,4 +4,4 @@ use Rattle.plus_types.proofs.initial.key.Given as goal
 
 -- the name of the fluent, and those of the arguments seen so far
 abbrev pub invariant-terms : goal.invariant-terms
-invariant-terms l = map (λ name. name.items) l.names.items ≡ l.fluent.head.name ∷ map term_name (take l.arg-index l.arg-items)
+invariant-terms l = map (λ name. name.now) l.names.items ≡ l.fluent.head.name ∷ map term_name (take l.arg-index l.arg-items)

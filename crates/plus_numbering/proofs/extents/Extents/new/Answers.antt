@@ -14,6 +14,7 @@ invariant_of-result c =
     let d = c.args.typed.now.domain in
     let p = c.args.typed.now.problem in
     record {
+      sizes = c.in_ok-put_objects-2.ensures.size;
       few = c.requires;
       lists_are = λ k.
           places-pair c.args.typed.now.types k (length c.as_slice-constants.result.now) d.constants p.objects c.as_slice-constants.result.now c.as_slice-objects.result.now

@@ -1,9 +1,11 @@
-use Rattle.std.proofs.Common.{◌∙◌, ◌≤◌, ℕ, ap, length, subst, arith}
+use Rattle.std.proofs.Common.{◌∙◌, ◌≤◌, ℕ, List, map, ap, length, subst, arith}
 use Rattle.std.proofs.lemmas.Result.{err_from_is_err_and}
+use Rattle.plus_tree.specs.declared.trees.Head.{Head}
 use Rattle.plus_types.specs.declared.typed.Typed.{Typed}
 use Rattle.plus_types.specs.Faults.{problem_context}
 use Rattle.plus_numbering.specs.Numbers.{ground_names}
 use Rattle.plus_numbering.specs.Counts.{IsOver}
+use Rattle.plus_numbering.specs.Tables.{starts_from, list_numbers}
 use Rattle.plus_numbering.specs.declared.faults.Count.TheVariants.{Atoms, Fluents}
 use Rattle.plus_numbering.proofs.CountLemmas.{refuses-atoms, refuses-fluents}
 use Rattle.plus_numbering.proofs.numbering.Numbering.new.Goals as goal
@@ -30,3 +32,23 @@ returns-in_err-fluents-clause-counts c =
     ∙ ap (λ hs. length (ground_names C hs)) c.as_slice-functions.ensures in
     let a : length (ground_names C t.domain.predicates) ≤ 200000 = omega (arith, m, c.in_ok-atoms.ensures.1) in
     rw (p.1, p.2) (refuses-fluents C c.in_err-fluents.field-0.0 few a (subst (λ (k : ℕ). IsOver Fluents 50000 k c.in_err-fluents.field-0.0) n c.in_err-fluents.ensures))
+
+pub invariant_of-result-clause-atom_kinds_are : goal.invariant_of-result-clause-atom_kinds_are
+invariant_of-result-clause-atom_kinds_are c =
+    c.in_ok-atom_kinds.ensures ∙ ap (λ (hs : List Head). map (λ (h : Head). list_numbers c.in_ok-extents.extents.names h.params) hs) c.as_slice-predicates.ensures
+
+pub invariant_of-result-clause-fluent_kinds_are : goal.invariant_of-result-clause-fluent_kinds_are
+invariant_of-result-clause-fluent_kinds_are c =
+    c.in_ok-fluent_kinds.ensures ∙ ap (λ (hs : List Head). map (λ (h : Head). list_numbers c.in_ok-extents.extents.names h.params) hs) c.as_slice-functions.ensures
+
+pub invariant_of-result-clause-atoms_are : goal.invariant_of-result-clause-atoms_are
+invariant_of-result-clause-atoms_are c =
+    let t = c.args.typed.now in
+    c.in_ok-atoms.ensures.0 ∙ ap (λ (u : Typed). starts_from (problem_context u.domain u.problem) 0 c.as_slice-predicates.result.now) c.in_ok-extents.ensures
+    ∙ ap (λ hs. starts_from (problem_context t.domain t.problem) 0 hs) c.as_slice-predicates.ensures
+
+pub invariant_of-result-clause-fluents_are : goal.invariant_of-result-clause-fluents_are
+invariant_of-result-clause-fluents_are c =
+    let t = c.args.typed.now in
+    c.in_ok-fluents.ensures.0 ∙ ap (λ (u : Typed). starts_from (problem_context u.domain u.problem) 0 c.as_slice-functions.result.now) c.in_ok-extents.ensures
+    ∙ ap (λ hs. starts_from (problem_context t.domain t.problem) 0 hs) c.as_slice-functions.ensures

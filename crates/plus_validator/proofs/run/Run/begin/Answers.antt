@@ -13,7 +13,7 @@ returns-clause-begins c =
     let N = labels_of c.args.ground.now in
     let P = problem_of fraction_of c.args.ground.now in
     let new : Run = record { timeline = c.in_ok-timeline.timeline; report = c.write_next.new.report; ended = false } in
-    begins N P c.args.happenings c.time.result new c.requires.fits c.requires.still c.requires.some c.in_ok-timeline.ensures refl
+    begins N P c.args.happenings c.time.result new c.requires.still c.requires.some c.in_ok-timeline.ensures refl
     c.time.ensures
     (c.in_ok-write_next.ensures ∙ ap (λ x. x ++ next_text fraction_of N P c.in_ok-timeline.timeline (Entry c.time.result)) c.new-report.ensures)
 

@@ -2,7 +2,7 @@ use Rattle.std.proofs.Common.{◌≡◌, [], ◌∷◌, ◌++◌, drop}
 use Rattle.plus_types.specs.Faults.{problem_context}
 use Rattle.plus_numbering.specs.Objects.{object_names}
 use Rattle.plus_numbering.specs.Numbers.{spaced, label_of}
-use Rattle.plus_numbering.proofs.labels.label.Given as goal
+use Rattle.plus_numbering.proofs.labels.spell.Given as goal
 
 -- with the names that are still to come, the text is the label
 abbrev pub invariant-objects : goal.invariant-objects
