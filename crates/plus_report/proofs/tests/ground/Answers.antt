@@ -8,6 +8,6 @@ use Rattle.plus_report.proofs.tests.ground.Goals as goal
 
 pub invariant_of-result : goal.invariant_of-result
 invariant_of-result c = record {
-  fits = untimed_fits _ 2 1 (grind (arith, common_steps)) (grind (arith, common_steps)) (rw c.new-3.ensures.items refl) (All-map (ProcessFits 2 1) _ _ c.requires.processes_fit)
+  fits = untimed_fits _ 2 1 (grind (arith, common_steps)) (grind (arith, common_steps)) (rw c.new-4.ensures.items refl) (All-map (ProcessFits 2 1) _ _ c.requires.processes_fit)
       (All-map (EventFits 2 1) _ _ c.requires.events_fit) c.in_ok-initial.ensures c.always.ensures.fits (lit< tt) (lit< tt) (rw length-map c.requires.few_processes) (rw length-map c.requires.few_events);
 }
