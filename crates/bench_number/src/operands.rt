@@ -1,4 +1,4 @@
-// Pairs of operands, the same in each run.
+//! Pairs of operands, the same in each run.
 use plus_number::{Exact, Frac64};
 use std::alloc::{AllocError, Global};
 

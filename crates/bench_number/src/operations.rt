@@ -1,4 +1,4 @@
-// The operations, and a digest of their results.
+//! The operations, and a digest of their results.
 use plus_number::consts::is_zero;
 use plus_number::{Exact, Frac64, Outside};
 use std::cmp::Ordering;

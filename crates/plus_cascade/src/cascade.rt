@@ -1,4 +1,4 @@
-// The events that have fired in a cascade.
+//! The events that have fired in a cascade.
 ghost use Rattle.std.specs.Prelude.{◌≡◌, ◌<◌, false, length, replicate, option_map, All, IfOk};
 ghost use Rattle.plus_cascade.specs.Fired.{event_numbers, with_fired, first_repeated};
 

@@ -1,4 +1,4 @@
-// Laws over the definitions alone.
+//! Laws over the definitions alone.
 ghost use Rattle.plus_cascade.specs.Laws.{EmptyAtFirst, RoundsGoOn};
 ghost use Rattle.plus_state.specs.Tested.{OneTest};
 ghost use Rattle.plus_cascade.specs.Steps.{Passes};

@@ -1,4 +1,4 @@
-// Rounds of small sets of events over the atoms (a), (b) and (c), of which (a) holds at first.
+//! Rounds of small sets of events over the atoms (a), (b) and (c), of which (a) holds at first.
 ghost use Rattle.std.specs.Prelude.{◌≡◌, ◌<◌, ◌^◌, length, map, All, IfOk};
 ghost use Rattle.plus_state.specs.View.{condition_of, effect_of, event_of, write_of};
 ghost use Rattle.plus_state.specs.Fits.{AllEffectsFit, EventFits, Fits, StateFits, WriteFits, comparisons};

@@ -8,3 +8,5 @@ pub mod Walking
 pub mod Moving
 pub mod Steady
 pub mod Straight
+pub mod RootLists
+pub mod Noting

@@ -1,4 +1,4 @@
-// What holds just after a state.
+//! What holds just after a state.
 ghost use Rattle.std.specs.Prelude.{◌≡◌, ◌↔◌, ◌<◌, ◌+◌, ◌^◌, true, false, length, MatchResult};
 ghost use Rattle.plus_fraction.specs.Fraction.{compared};
 ghost use Rattle.plus_model.specs.Terms.{Compare};

@@ -1,4 +1,4 @@
-// How many comparisons a condition has.
+//! How many comparisons a condition has.
 ghost use Rattle.std.specs.Prelude.{◌≡◌, ◌<◌, ◌^◌};
 ghost use Rattle.plus_state.specs.View.{condition_of};
 ghost use Rattle.plus_state.specs.Fits.{comparisons as comparisons_of};

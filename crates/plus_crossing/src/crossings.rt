@@ -1,4 +1,4 @@
-// The next root of a condition's live comparisons.
+//! The next root of a condition's live comparisons.
 ghost use Rattle.std.specs.Prelude.{◌≡◌, ◌<◌, ◌+◌, ◌^◌, length, option_map, pos};
 ghost use Rattle.plus_fraction.specs.Fraction.{whole, ◌≤ℚ◌};
 ghost use Rattle.plus_state.specs.View.{expression_of, condition_of};
@@ -16,7 +16,7 @@ use plus_state::term::{Cond, Expr};
 use plus_state::truth::decided;
 use std::cmp::Ordering;
 
-fn is_below<Q: Exact>(x: Q, y: Q) -> bool
+pub fn is_below<Q: Exact>(x: Q, y: Q) -> bool
     ensures { result ≡ is_below_in (Q.value x) (Q.value y) }
 {
     match x.order(y) {

@@ -1,4 +1,4 @@
-// Laws over the definitions alone.
+//! Laws over the definitions alone.
 ghost use Rattle.plus_crossing.specs.Laws.{PiecesTell, OneTruthUntilRoot, OneTruthUntilNext};
 ghost use Rattle.plus_state.specs.Tested.{OneTest};
 ghost use Rattle.plus_crossing.specs.Asked.{Passes};

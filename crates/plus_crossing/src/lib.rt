@@ -10,6 +10,7 @@ pub mod afters;
 pub mod counts;
 pub mod crossings;
 pub mod laws;
+pub mod listing;
 pub mod moves;
 pub mod node;
 pub mod pieces;
@@ -20,7 +21,8 @@ mod tests;
 
 pub use afters::just_after;
 pub use crossings::next_crossing;
-pub use moves::{MoveStop, moved};
+pub use listing::{RootsStop, roots_into};
+pub use moves::{MoveStop, moved, moved_changes};
 pub use node::{CondStop, PieceStop};
 pub use pieces::{Linear, piece};
 pub use rates::Rates;

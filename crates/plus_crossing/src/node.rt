@@ -1,4 +1,4 @@
-// One operation on two values, or the node that it asks.
+//! One operation on two values, or the node that it asks.
 ghost use Rattle.std.specs.Prelude.{◌≡◌, ◌↔◌, MatchResult, pos};
 ghost use Rattle.plus_fraction.specs.Fraction.{whole};
 ghost use Rattle.plus_number.specs.Exact.{Answers};

@@ -1,4 +1,4 @@
-// Value and slope of an expression along rates.
+//! Value and slope of an expression along rates.
 ghost use Rattle.std.specs.Prelude.{◌≡◌, ◌<◌, ◌||◌, true, length, pos};
 ghost use Rattle.plus_fraction.specs.Fraction.{whole, ◌+ℚ◌, ◌-ℚ◌};
 ghost use Rattle.plus_model.specs.Value.{is_zero as is_zero_of};

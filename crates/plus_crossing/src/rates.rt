@@ -1,4 +1,4 @@
-// Net rates: how much each fluent gains in a unit of time.
+//! Net rates: how much each fluent gains in a unit of time.
 ghost use Rattle.std.specs.Prelude.{◌≡◌, ◌<◌, length, map, replicate, slice_set, pos, IfOk};
 ghost use Rattle.plus_fraction.specs.Fraction.{whole};
 ghost use Rattle.plus_model.specs.Piece.{rate_of};

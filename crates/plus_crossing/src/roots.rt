@@ -1,4 +1,4 @@
-// Where two lines meet.
+//! Where two lines meet.
 ghost use Rattle.std.specs.Prelude.{◌≡◌, true};
 ghost use Rattle.plus_crossing.specs.Roots.{RootAnswers, MeetingAnswers, meets_later as meets_later_in};
 

@@ -1,4 +1,4 @@
-// Outside vectors, with one fluent (x) at the value and rate given.
+//! Outside vectors, with one fluent (x) at the value and rate given.
 ghost use Rattle.std.specs.Prelude.{◌≡◌, ◌<◌, ◌^◌, ◌<ℤ◌, length, pos, IfOk};
 ghost use Rattle.plus_fraction.specs.Fraction.{whole, ◌≤ℚ◌};
 ghost use Rattle.plus_state.specs.View.{condition_of, expression_of};

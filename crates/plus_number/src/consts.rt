@@ -1,4 +1,4 @@
-// The values 0 and 1 of every exact type.
+//! The values 0 and 1 of every exact type.
 ghost use Rattle.std.specs.Prelude.{◌≡◌, ◌↔◌, IsTrue, pos};
 ghost use Rattle.plus_fraction.specs.Fraction.{Fraction, whole};
 

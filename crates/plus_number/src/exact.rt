@@ -1,4 +1,4 @@
-// The types of exact fractions.
+//! The types of exact fractions.
 ghost use Rattle.std.specs.Prelude.{◌≡◌, pos, ◌<ℤ◌, unsigned_abs};
 ghost use Rattle.plus_fraction.specs.Fraction.{Fraction, over, whole, ◌+ℚ◌, ◌-ℚ◌, ◌*ℚ◌, ◌/ℚ◌, compared};
 ghost use Rattle.plus_number.specs.Exact.{Answers};

@@ -1,4 +1,4 @@
-// Fractions of two parts of 63 bits.
+//! Fractions of two parts of 63 bits.
 ghost use Rattle.std.specs.Prelude.{◌≡◌, ◌≢◌, ℕ, ◌+◌, ◌*◌, ◌/◌, ◌^◌, ◌<◌, ◌≤◌, ◌<ℤ◌, ◌*ℤ◌, pos, unsigned_abs, IfSome, IsNone, MatchOption};
 ghost use Rattle.plus_fraction.specs.Gcd.{gcd};
 

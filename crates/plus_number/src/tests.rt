@@ -1,4 +1,4 @@
-// Outside vectors, made by Python's `fractions`.
+//! Outside vectors, made by Python's `fractions`.
 use crate::consts::is_zero;
 use crate::{Exact, Frac64, Outside, Ticks, widen};
 use std::cmp::Ordering;

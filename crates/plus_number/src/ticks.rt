@@ -1,4 +1,4 @@
-// Fractions of millionths.
+//! Fractions of millionths.
 ghost use Rattle.std.specs.Prelude.{◌≡◌, ℕ, ◌+◌, ◌*◌, ◌/◌, ◌^◌, ◌<◌, ◌≤◌, ◌<ℤ◌, ◌≤ℤ◌, ◌*ℤ◌, ◌+ℤ◌, pos, unsigned_abs, MatchResult};
 
 use crate::divisor::{narrow_divisor, signed};

@@ -1,4 +1,4 @@
-// From millionths to pairs.
+//! From millionths to pairs.
 ghost use Rattle.plus_number.specs.Widen.{same_fraction};
 
 use crate::exact::Exact;

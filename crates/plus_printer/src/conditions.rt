@@ -1,4 +1,4 @@
-// Conditions.
+//! Conditions.
 ghost use Rattle.plus_printer.specs.Appended.{Prints};
 ghost use Rattle.plus_printer.specs.Canon.{cond_text};
 

@@ -1,4 +1,4 @@
-// Effects.
+//! Effects.
 ghost use Rattle.std.specs.Prelude.{◌++◌, codes};
 ghost use Rattle.plus_printer.specs.Appended.{Prints};
 ghost use Rattle.plus_printer.specs.Words.{word, spaced};

@@ -1,4 +1,4 @@
-// Names, terms, uses, numbers and typed lists.
+//! Names, terms, uses, numbers and typed lists.
 ghost use Rattle.std.specs.Prelude.{◌≡◌, suc, ◌++◌, ◌-◌, ◌<◌, ◌≤◌, length, take, drop, replicate, codes};
 ghost use Rattle.plus_printer.specs.Appended.{Prints};
 ghost use Rattle.plus_printer.specs.Words.{word, domain_opening, problem_opening, requirements_opening, precondition_key, spaced, term_text, use_text, typed_text, variable_text, listed, variables_text, pointed, number_text, sign_text, literal_text, comparison_text};

@@ -1,4 +1,4 @@
-// The laws of reports, over the definitions alone.
+//! The laws of reports, over the definitions alone.
 ghost use Rattle.plus_report.specs.ReportLaws.{ReportGrows, ReportStays};
 ghost use Rattle.plus_report.specs.Rows.{DoorRow, TankRow, MixRow, TimedRow};
 

@@ -1,4 +1,4 @@
-// The processes that hold in a state, and those that hold just after it.
+//! The processes that hold in a state, and those that hold just after it.
 ghost use Rattle.std.specs.Prelude.{◌≡◌, [], ◌∷◌, ◌++◌, length, IfOk, MatchResult, if◌then◌else◌};
 ghost use Rattle.plus_model.specs.Running.{holding as holding_of, GoesOn};
 ghost use Rattle.plus_state.specs.View.{problem_of};

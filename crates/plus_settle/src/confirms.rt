@@ -1,4 +1,4 @@
-// Whether exactly the members of a set hold just after a state.
+//! Whether exactly the members of a set hold just after a state.
 ghost use Rattle.std.specs.Prelude.{◌≡◌, ◌+◌, length};
 ghost use Rattle.plus_model.specs.Firing.{is_in};
 ghost use Rattle.plus_model.specs.Running.{IsRising};

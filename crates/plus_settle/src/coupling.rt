@@ -1,4 +1,4 @@
-// The first process with a rate that reads a moving fluent.
+//! The first process with a rate that reads a moving fluent.
 ghost use Rattle.std.specs.Prelude.{◌≡◌, ◌<◌, length, map, option_map, find, All};
 ghost use Rattle.plus_model.specs.Running.{names, names_of_rates, first_coupled as first_coupled_of};
 ghost use Rattle.plus_state.specs.View.{expression_of, rate_of, problem_of};

@@ -1,4 +1,4 @@
-// Laws over the definitions alone.
+//! Laws over the definitions alone.
 ghost use Rattle.plus_settle.specs.Laws.{OneRunningSet};
 ghost use Rattle.plus_state.specs.Tested.{OneTest};
 ghost use Rattle.plus_settle.specs.Steps.{Passes};

@@ -1,4 +1,4 @@
-// Net rates.
+//! Net rates.
 ghost use Rattle.std.specs.Prelude.{◌≡◌, ◌<◌, [], ◌∷◌, length, map, All, IfOk, MatchResult};
 ghost use Rattle.plus_model.specs.Value.{value as value_of, fluent_of};
 ghost use Rattle.plus_model.specs.Running.{rated, add_rates, rates as rates_of};

@@ -1,4 +1,4 @@
-// Settling.
+//! Settling.
 ghost use Rattle.std.specs.Prelude.{◌≡◌, length, IfOk};
 ghost use Rattle.plus_model.specs.Running.{rates as rates_of};
 ghost use Rattle.plus_state.specs.View.{problem_of};

@@ -1,4 +1,4 @@
-// Why rates, or a running set, cannot be had.
+//! Why rates, or a running set, cannot be had.
 use plus_state::term::{FluentId, Overflow, ProcessId};
 use std::fmt::Debug;
 use thiserror::Error;

@@ -1,4 +1,4 @@
-// Running sets of small problems with one fluent (x).
+//! Running sets of small problems with one fluent (x).
 ghost use Rattle.std.specs.Prelude.{◌≡◌, ◌<◌, ◌^◌, length, All, IfOk};
 ghost use Rattle.plus_state.specs.View.{condition_of, process_of};
 ghost use Rattle.plus_state.specs.Fits.{Fits, ProcessFits, StateFits, comparisons};

@@ -1,4 +1,4 @@
-// A list of truth values, sixty-four to a word.
+//! A list of truth values, sixty-four to a word.
 ghost use Rattle.std.specs.Prelude.{◌≡◌, ℕ, ◌<◌, ◌^◌, ◌/◌, ◌%◌, Bool, false, length, replicate, slice_set, slice_get, slice_index_or, unwrap_or, nat_eq, IfOk, if◌then◌else◌};
 ghost use Rattle.plus_state.specs.Bits.{bit_of};
 

@@ -1,4 +1,4 @@
-// Writes that are due: what an effect of a joint effect comes to in the state before it.
+//! Writes that are due: what an effect of a joint effect comes to in the state before it.
 ghost use Rattle.std.specs.Prelude.{◌≡◌, ◌<◌, length, option_map, Some, [], ◌∷◌};
 ghost use Rattle.plus_model.specs.Value.{value as value_of, fluent_of};
 ghost use Rattle.plus_state.specs.View.{expression_of, write_of, effect_of};

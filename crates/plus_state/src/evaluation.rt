@@ -1,4 +1,4 @@
-// Values of expressions.
+//! Values of expressions.
 ghost use Rattle.std.specs.Prelude.{◌≡◌, ◌<◌, length, option_map, MatchResult, true, false, Some, [], ◌∷◌};
 ghost use Rattle.plus_fraction.specs.Fraction.{whole, ◌+ℚ◌};
 ghost use Rattle.plus_number.specs.Exact.{Answers};

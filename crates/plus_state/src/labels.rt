@@ -1,4 +1,4 @@
-// The text by which a ground atom, fluent, action, event or process is shown.
+//! The text by which a ground atom, fluent, action, event or process is shown.
 ghost use Rattle.std.specs.Prelude.{◌≡◌, IfOk};
 
 use std::alloc::{AllocError, Global};

@@ -1,4 +1,4 @@
-// Laws over the definitions alone.
+//! Laws over the definitions alone.
 ghost use Rattle.plus_state.specs.Laws.{JointPasses, JointStops, AddingMore};
 ghost use Rattle.plus_state.specs.Rows.{ConditionRows, JointRows};
 

@@ -1,4 +1,4 @@
-// Why a plan is refused, and plans with times.
+//! Why a plan is refused, and plans with times.
 use crate::labels::Label;
 use crate::term::{EventId, FluentId, Overflow, ProcessId};
 use std::fmt::Debug;

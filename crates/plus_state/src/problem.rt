@@ -1,4 +1,4 @@
-// Ground actions, events and processes, and the ground problem.
+//! Ground actions, events and processes, and the ground problem.
 ghost use Rattle.plus_state.specs.Meaning.{problem_from};
 ghost use Rattle.plus_state.specs.Fits.{ProblemFits};
 ghost use Rattle.plus_state.specs.FitsOnce.{ProblemFits-prop};

@@ -1,4 +1,4 @@
-// States: the truth of each ground atom and the value of each ground fluent.
+//! States: the truth of each ground atom and the value of each ground fluent.
 ghost use Rattle.std.specs.Prelude.{◌≡◌, ◌<◌, ◌^◌, Bool, false, Option, None, length, map, option_map, replicate, slice_set, IfOk};
 ghost use Rattle.plus_state.specs.Changes.{patched_list, patched, AreIn, Within};
 ghost use Rattle.plus_state.specs.ChangesView.{atom_changes, fluent_changes};

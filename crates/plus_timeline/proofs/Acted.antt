@@ -10,9 +10,9 @@ use Rattle.plus_state.specs.Tests.{tests_of}
 use Rattle.plus_state.specs.Steps as steps
 use Rattle.plus_state.specs.Steps.{Step, guarded, joint_steps}
 use Rattle.plus_state.proofs.Testing.{pass_none, pass_append, fail_left, fail_right, fail_here, carry_pass, carry_fail}
-use Rattle.plus_timeline.specs.Tests.{Test, asks, breach, Passes, AllPass, FirstFailing, of_step}
+use Rattle.plus_stretch.specs.Tests.{Test, asks, breach, Passes, AllPass, FirstFailing, of_step}
 use Rattle.plus_timeline.specs.Asked.{unless, act_tests, goal_tests}
-use Rattle.plus_timeline.proofs.Layers.{nodes_carry, steps_carry}
+use Rattle.plus_stretch.proofs.Layers.{nodes_carry, steps_carry}
 
 module _ (fits : Fraction → Type 0) (i : ℕ) (a : Action) (s : State) where
   -- what is asked behind the condition, by its truth

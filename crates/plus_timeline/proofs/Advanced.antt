@@ -19,12 +19,12 @@ use Rattle.plus_timeline.specs.declared.next.Next.TheVariants.{Run, Entry, There
 use Rattle.plus_timeline.specs.declared.stop.Stop.TheVariants.{Limit as Beyond}
 use Rattle.plus_timeline.specs.Still.{IsStill}
 use Rattle.plus_timeline.specs.Timeline.{TimelineView}
-use Rattle.plus_timeline.specs.Tests.{Test, asks, full, Passes, AllPass, FirstFailing}
+use Rattle.plus_stretch.specs.Tests.{Test, asks, full, Passes, AllPass, FirstFailing}
 use Rattle.plus_timeline.specs.Asked.{count_tests, advance_tests}
 use Rattle.plus_timeline.specs.Advance.{IsAhead, AdvanceTold}
 use Rattle.plus_timeline.proofs.StillWorld.{nothing_fires, no_literal, none_between, still_run, still_enter}
 use Rattle.plus_timeline.proofs.StillTests.{still_stretch, still_moment}
-use Rattle.plus_timeline.proofs.Rising.{to_below}
+use Rattle.plus_stretch.proofs.Rising.{to_below}
 use Rattle.plus_timeline.proofs.Stays.{by_bool}
 
 not_equal : (m n : ℕ) → m < n → nat_eq m n ≡ false

@@ -18,7 +18,7 @@ use Rattle.plus_timeline.specs.Timeline.{TimelineView}
 use Rattle.plus_timeline.specs.Advance.{RoundFails, BreaksOff, FiresRound, ClosesEntry, BeginsEntry, IsThere}
 use Rattle.plus_timeline.specs.Act.{EffectsFail, BreaksAct}
 use Rattle.plus_timeline.specs.Laws.{ActFollows, ActBreaks, AddsPart, AddsChange, IsDone, AdvanceFollows, DoneIsWorked, AdvanceBreaks, FinishBreaks}
-use Rattle.plus_timeline.specs.Tests.{breach_of}
+use Rattle.plus_stretch.specs.Tests.{breach_of}
 
 -- a part that may follow at a moment, or in a stretch
 by_running : (P : Problem) (L : Plan) (v : View) (o : Option (List ℕ)) (part : Part) → v.running ≡ o → NextBy P L v o part → MayFollow P L v part

@@ -1,17 +1,12 @@
-pub mod Layers
 pub mod StillWorld
 pub mod Begun
 pub mod StillBreaches
 pub mod StillTests
-pub mod Rising
 pub mod Stays
 pub mod Advanced
 pub mod Acted
 pub mod Telling
 pub mod Follows
 pub mod Serving
-pub mod Roots
-pub mod Between
-pub mod Left
 pub mod Rows
 pub mod Entries

@@ -15,10 +15,11 @@ use Rattle.plus_crossing.specs.Moves.{fluent_nodes}
 use Rattle.plus_settle.specs.Confirms.{soon_steps, go_steps}
 use Rattle.plus_settle.specs.Members.{soon}
 use Rattle.plus_settle.specs.Steps.{owned as settle_owned}
-use Rattle.plus_timeline.specs.Crossings.{all_roots}
-use Rattle.plus_timeline.specs.Asked.{root_tests, stretch_tests, advance_tests, crossing_tests, asked}
+use Rattle.plus_stretch.specs.Crossings.{all_roots}
+use Rattle.plus_stretch.specs.StretchTests.{root_tests, stretch_tests, here_tests, crossing_tests}
+use Rattle.plus_timeline.specs.Asked.{advance_tests, asked}
 use Rattle.plus_timeline.specs.Rows.{RampRow}
 
 pub ramp_row : RampRow
-unfolding asked advance_tests stretch_tests root_tests crossing_tests all_roots firing rates moved tests_of decided numbered op_asks asks_both meets_later root_asks asks_open asks_sides cross_sides fluent_nodes soon_steps go_steps soon settle_owned state.sides compared over gcd gcd_within ◌+ℚ◌ ◌-ℚ◌ ◌/ℚ◌ ◌*ℚ◌
+unfolding asked advance_tests stretch_tests root_tests here_tests crossing_tests all_roots firing rates moved tests_of decided numbered op_asks asks_both meets_later root_asks asks_open asks_sides cross_sides fluent_nodes soon_steps go_steps soon settle_owned state.sides compared over gcd gcd_within ◌+ℚ◌ ◌-ℚ◌ ◌/ℚ◌ ◌*ℚ◌
 ramp_row = refl

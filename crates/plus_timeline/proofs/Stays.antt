@@ -13,9 +13,10 @@ use Rattle.plus_model.specs.Laws.{GoesOnFrom}
 use Rattle.plus_model.proofs.Later.{same_line, same_until}
 use Rattle.plus_model.proofs.Moments.{not_below, from_below}
 use Rattle.plus_model.proofs.Steps.{until_within}
-use Rattle.plus_timeline.proofs.Rising.{to_below}
-use Rattle.plus_timeline.specs.Tests.{Test}
-use Rattle.plus_timeline.specs.Asked.{if_empty, round_tests, closing_tests, stretch_tests, line_tests, advance_by, advance_tests, nothing_due, is_there, asked}
+use Rattle.plus_stretch.proofs.Rising.{to_below}
+use Rattle.plus_stretch.specs.Tests.{Test}
+use Rattle.plus_stretch.specs.StretchTests.{if_empty, stretch_tests}
+use Rattle.plus_timeline.specs.Asked.{round_tests, closing_tests, line_tests, advance_by, advance_tests, nothing_due, is_there, asked}
 use Rattle.plus_timeline.specs.AskedLaws.{AskedStays, AdvanceFirst, LineBehind}
 
 abbrev whole_list : Problem → Plan → ℕ → (ℕ → List Test) → ℕ → Fraction → View → Option (List ℕ) → Option Line → List Test

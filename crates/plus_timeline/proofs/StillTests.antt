@@ -19,9 +19,10 @@ use Rattle.plus_settle.specs.Rates.{rates_steps}
 use Rattle.plus_settle.specs.Confirms.{go_steps}
 use Rattle.plus_settle.specs.Settles.{running_soon, own_then, members_then, first_then, settle_steps}
 use Rattle.plus_timeline.specs.Still.{IsStill}
-use Rattle.plus_timeline.specs.Tests.{Test, asks}
-use Rattle.plus_timeline.specs.Crossings.{all_roots}
-use Rattle.plus_timeline.specs.Asked.{fire_tests, round_tests, count_tests, closing_tests, if_empty, root_tests, stretch_tests, advance_by, advance_tests}
+use Rattle.plus_stretch.specs.Tests.{Test, asks}
+use Rattle.plus_stretch.specs.Crossings.{all_roots}
+use Rattle.plus_stretch.specs.StretchTests.{if_empty, root_tests, stretch_tests}
+use Rattle.plus_timeline.specs.Asked.{fire_tests, round_tests, count_tests, closing_tests, advance_by, advance_tests}
 
 -- a still problem, with nothing in its lists
 abbrev bare : Problem → Problem

@@ -1,30 +1,20 @@
 -- The list of tests that is asked at a history, in the order of evaluation (this project's profile). The first that fails is
 -- why the plan goes on no further; where all pass, a part comes next, or the next line is waited for.
-use Rattle.std.specs.Prelude.{ℕ, suc, Bool, true, false, List, [], ◌∷◌, ◌++◌, map, Option, Some, None, Result, Ok, Err, not, nat_eq, if◌then◌else◌}
-use Rattle.plus_fraction.specs.Fraction.{Fraction, ◌+ℚ◌, ◌-ℚ◌}
-use Rattle.plus_model.specs.Terms.{Action, Event, Process, State, Problem}
+use Rattle.std.specs.Prelude.{ℕ, Bool, true, false, List, [], ◌∷◌, ◌++◌, map, Option, Some, None, not, nat_eq, if◌then◌else◌}
+use Rattle.plus_fraction.specs.Fraction.{Fraction}
+use Rattle.plus_model.specs.Terms.{Action, State, Problem}
 use Rattle.plus_model.specs.Value.{holds}
 use Rattle.plus_model.specs.Firing.{firing, first_shared, effects_of}
-use Rattle.plus_model.specs.Running.{rates, moved}
-use Rattle.plus_model.specs.Piece.{after}
-use Rattle.plus_model.specs.Live.{live}
 use Rattle.plus_model.specs.Plan.{Instance, UnknownAction, WrongArguments, Line, ActLine, EndLine, Plan}
 use Rattle.plus_model.specs.History.{View}
 use Rattle.plus_model.specs.Trajectory.{is_below, next_line, until}
 use Rattle.plus_model.specs.Breach as model
-use Rattle.plus_state.specs.declared.term.Sign.TheVariants.{Plus, Minus}
-use Rattle.plus_state.specs.Asked.{node}
 use Rattle.plus_state.specs.Tests.{tests_of}
 use Rattle.plus_state.specs.Steps.{guarded, joint_steps}
 use Rattle.plus_cascade.specs.Steps.{condition_nodes}
-use Rattle.plus_crossing.specs.Asked.{Ask}
-use Rattle.plus_crossing.specs.Conds.{live_asks}
-use Rattle.plus_crossing.specs.Next.{cross_asks}
-use Rattle.plus_crossing.specs.Moves.{moved_nodes}
-use Rattle.plus_settle.specs.Confirms.{go_steps, first_other}
 use Rattle.plus_settle.specs.Settles.{settle_steps}
-use Rattle.plus_timeline.specs.Tests.{Whose, event, process, Test, asks, full, breach, of_ask, of_step, of_settle}
-use Rattle.plus_timeline.specs.Crossings.{all_roots, rising_below}
+use Rattle.plus_stretch.specs.Tests.{Test, asks, full, breach, of_step, of_settle}
+use Rattle.plus_stretch.specs.StretchTests.{if_empty, stretch_tests}
 
 -- ---- a cascade
 
@@ -61,60 +51,6 @@ count_tests most entries = if nat_eq entries most then full most ∷ [] else []
 
 unfoldable pub closing_tests : Problem → ℕ → ℕ → State → List Test
 closing_tests P most entries s = count_tests most entries ++ map of_settle (settle_steps P s)
-
--- ---- a stretch
-
-abbrev pub owned : Whose → List Ask → List Test
-owned w ts = map (of_ask w) ts
-
--- events from number k on, up to the first that holds just after the moment t: it has no first moment. Then comes the rest
-abbrev pub after_tests : Fraction → ℕ → List Event → State → List Fraction → List Test → List Test
-after_tests t k [] s rs rest = rest
-after_tests t k (e ∷ es) s rs rest =
-    owned (event k) (live_asks 0 e.condition s rs)
-    ++ (if after (live e.condition s) s rs then breach (model.NoFirstMoment k t) ∷ [] else after_tests t (suc k) es s rs rest)
-
-abbrev pub event_root_tests : ℕ → List Event → State → List Fraction → List Test
-event_root_tests k [] s rs = []
-event_root_tests k (e ∷ es) s rs = owned (event k) (cross_asks 0 e.condition s rs) ++ event_root_tests (suc k) es s rs
-
-abbrev pub process_root_tests : ℕ → List Process → State → List Fraction → List Test
-process_root_tests k [] s rs = []
-process_root_tests k (p ∷ ps) s rs = owned (process k) (cross_asks 0 p.condition s rs) ++ process_root_tests (suc k) ps s rs
-
-unfoldable pub root_tests : Problem → State → List Fraction → List Test
-root_tests P s rs = event_root_tests 0 P.events s rs ++ process_root_tests 0 P.processes s rs
-
-abbrev pub if_none : {A : Type 0} → Option A → List Test → List Test
-if_none None ts = ts
-if_none (Some x) ts = []
-
-abbrev pub if_empty : List ℕ → List Test → List Test
-if_empty [] ts = ts
-if_empty (x ∷ xs) ts = []
-
--- at one crossing, r after the beginning at the time t: the moment, the moved state, all events there; where none holds all
--- processes just after, up to the first that differs; where none does all events just after, and then the rest
-unfoldable pub crossing_tests : Problem → Fraction → State → List ℕ → List Fraction → Fraction → List Test → List Test
-crossing_tests P t s R rs r rest =
-    (asks (node Plus t r) ∷ map asks (moved_nodes s.fluents rs r)) ++ (map asks (condition_nodes P.events (moved s rs r))
-    ++ if_empty (firing P (moved s rs r)) (map of_settle (go_steps P R (moved s rs r) rs)
-    ++ if_none (first_other R 0 P.processes (moved s rs r) rs) (after_tests (t +ℚ r) 0 P.events (moved s rs r) rs rest)))
-
--- from crossing to crossing, and then to the end
-abbrev pub walk_tests : Problem → Fraction → State → List ℕ → List Fraction → Fraction → List Fraction → List Test
-walk_tests P t s R rs len [] = map asks (moved_nodes s.fluents rs len)
-walk_tests P t s R rs len (r ∷ roots) = crossing_tests P t s R rs r (walk_tests P t s R rs len roots)
-
-abbrev pub with_rates : Result (List Fraction) ℕ → (List Fraction → List Test) → List Test
-with_rates (Err f) more = []
-with_rates (Ok rs) more = more rs
-
--- along a running set up to the moment u
-unfoldable pub stretch_tests : Problem → Fraction → View → List ℕ → List Test
-stretch_tests P u v R = with_rates (rates P v.state R) (λ rs.
-    after_tests v.time 0 P.events v.state rs (asks (node Minus u v.time) ∷ (root_tests P v.state rs
-    ++ walk_tests P v.time v.state R rs (u -ℚ v.time) (rising_below (u -ℚ v.time) (all_roots P v.state rs)))))
 
 -- ---- all together
 

@@ -17,7 +17,7 @@ use Rattle.plus_timeline.specs.declared.next.Next.TheVariants.{Round, Run, Entry
 use Rattle.plus_timeline.specs.Timeline.{TimelineView}
 use Rattle.plus_timeline.specs.Advance.{Advances, BreaksOff}
 use Rattle.plus_timeline.specs.Act.{DoesAct, BreaksAct}
-use Rattle.plus_timeline.specs.Tests.{breach_of}
+use Rattle.plus_stretch.specs.Tests.{breach_of}
 
 -- the part may come next, and the history goes on with it
 pub record AddsPart (P : Problem) (L : Plan) (old new : TimelineView) (part : Part) : Type 0 where

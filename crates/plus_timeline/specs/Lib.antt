@@ -3,8 +3,6 @@ pub mod Timeline
 pub mod TimelineCode
 pub mod Still
 pub mod Stops
-pub mod Tests
-pub mod Crossings
 pub mod Asked
 pub mod AskedLaws
 pub mod Rows

@@ -6,7 +6,7 @@ use Rattle.plus_model.specs.Plan.{Plan, EndLine}
 use Rattle.plus_model.specs.History.{View}
 use Rattle.plus_state.specs.declared.term.Sign.TheVariants.{Plus, Minus, Times, Divide}
 use Rattle.plus_state.specs.Asked.{node}
-use Rattle.plus_timeline.specs.Tests.{asks}
+use Rattle.plus_stretch.specs.Tests.{asks}
 use Rattle.plus_timeline.specs.Asked.{asked}
 
 abbrev pub number : ℕ → Fraction

@@ -6,7 +6,7 @@ use Rattle.plus_state.specs.declared.outcome.Breach.{Breach as Broken}
 use Rattle.plus_state.specs.declared.outcome.Limit.{Limit as Limited}
 use Rattle.plus_timeline.specs.declared.stop.Stop.{Stop}
 use Rattle.plus_timeline.specs.declared.stop.Stop.TheVariants.{Breach, Limit, Ended, Memory}
-use Rattle.plus_timeline.specs.Tests.{Test, breach, AllPass, FirstFailing, of_limit, breach_of}
+use Rattle.plus_stretch.specs.Tests.{Test, breach, AllPass, FirstFailing, of_limit, breach_of}
 
 -- all tests pass, and this is done
 pub record Passed (fits : Fraction → Type 0) (ended : Bool) (tests : List Test) (Does : Type 0) : Type 0 where

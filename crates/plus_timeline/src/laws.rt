@@ -1,6 +1,6 @@
-// What a caller that plays a plan may rely on, over the definitions alone.
+//! What a caller that plays a plan may rely on, over the definitions alone.
 ghost use Rattle.plus_timeline.specs.Rows.{RampRow};
-ghost use Rattle.plus_timeline.specs.AskedLaws.{RootsAre, RisingAre, NothingChangesBetween, AskedStays, AdvanceFirst, LineBehind, SearchSteps};
+ghost use Rattle.plus_timeline.specs.AskedLaws.{AskedStays, AdvanceFirst, LineBehind};
 ghost use Rattle.plus_timeline.specs.Laws.{ActFollows, ActBreaks, AdvanceFollows, DoneIsWorked, AdvanceBreaks, FinishBreaks};
 
 use plus_number::exact::Exact;
@@ -35,21 +35,6 @@ pub fn act_breaks<Q: Exact>()
     ensures { ActBreaks Q.value }
 {}
 
-// The roots of a condition are those in its list, and all lie above 0.
-pub fn roots_are()
-    ensures { RootsAre }
-{}
-
-// The roots below a bound, in order, each once.
-pub fn rising_are()
-    ensures { RisingAre }
-{}
-
-// With no root strictly between two moments no condition of an event or a process changes its truth there.
-pub fn nothing_changes_between<Q: Exact>()
-    ensures { NothingChangesBetween Q.fits }
-{}
-
 // What is asked at a history from which a part comes next stays the same whatever lines follow.
 pub fn asked_stays()
     ensures { AskedStays }
@@ -63,11 +48,6 @@ pub fn advance_first()
 // Where nothing is due and time goes no further, the tests of the next line follow.
 pub fn line_behind()
     ensures { LineBehind }
-{}
-
-// A search from root to root begins with all of them, and passes over none.
-pub fn search_steps()
-    ensures { SearchSteps }
 {}
 
 // A worked row: what is asked along a running set up to the first moment of an event.

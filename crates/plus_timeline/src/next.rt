@@ -1,4 +1,4 @@
-// What `advance` answers.
+//! What `advance` answers.
 
 /// What one call of `advance` did.
 #[derive(Clone, Copy, PartialEq, Eq, Debug)]

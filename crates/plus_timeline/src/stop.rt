@@ -1,4 +1,4 @@
-// Why a call of a timeline is refused.
+//! Why a call of a timeline is refused.
 use plus_state::outcome::{Breach, Limit};
 use std::fmt;
 use thiserror::Error;

@@ -14,9 +14,9 @@ use Rattle.plus_model.proofs.Moments.{from_below}
 use Rattle.plus_number.specs.Frac.{IsFrac64}
 use Rattle.plus_state.proofs.Testing.{pass_append, fail_left, fail_right, pass_none, fail_here, one_test}
 use Rattle.plus_model.specs.Breach.{Breach}
-use Rattle.plus_timeline.specs.Tests.{Test, too_many_nodes, no_number, breach, Passes, AllPass, FirstFailing}
+use Rattle.plus_stretch.specs.Tests.{Test, too_many_nodes, no_number, breach, Passes, AllPass, FirstFailing}
 use Rattle.plus_timeline.specs.Asked.{goal_tests, act_tests, line_tests, advance_tests, nothing_due, is_there, asked}
-use Rattle.plus_timeline.proofs.Rising.{to_below}
+use Rattle.plus_stretch.proofs.Rising.{to_below}
 use Rattle.plus_timeline.proofs.Stays.{asked_stays}
 
 -- ---- lists of tests

@@ -14,7 +14,7 @@ use Rattle.plus_number.specs.declared.frac.Frac64.{Frac64}
 use Rattle.plus_plan.specs.declared.forms.Line.{Line}
 use Rattle.plus_plan.specs.declared.forms.Time.{Time}
 use Rattle.plus_report.specs.declared.verdicts.Verdict.{Verdict}
-use Rattle.plus_timeline.specs.Tests.{Test}
+use Rattle.plus_stretch.specs.Tests.{Test}
 use Rattle.plus_validator.specs.Plans.{Pair, line_meant, lines_meant, plan_of, HasTime, HasValue}
 use Rattle.plus_validator.specs.Asking.{asked_at, instances_of, NoneFails, Fails, IsClear}
 use Rattle.plus_validator.specs.Refused.{AreDone, TimeFault, after_end, no_value, goes_back, number_in}

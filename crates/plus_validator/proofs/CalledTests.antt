@@ -18,7 +18,7 @@ use Rattle.plus_expansion.specs.Nodes.{action_nodes}
 use Rattle.plus_expansion.specs.Literals.{call_literals}
 use Rattle.plus_expansion.specs.Calls.{called_of}
 use Rattle.plus_ground.specs.Refusals.{IsTooLarge, HasUnfit, IsInstance}
-use Rattle.plus_timeline.specs.Tests.{Test, too_many_nodes, no_number, AllPass, FirstFailing}
+use Rattle.plus_stretch.specs.Tests.{Test, too_many_nodes, no_number, AllPass, FirstFailing}
 use Rattle.plus_validator.specs.Asking.{is_value, literal_tests, size_tests, call_tests, line_instances, all_instances, or_nothing, instances_of}
 use Rattle.plus_validator.specs.Plans.{Pair, line_meant, lines_meant}
 use Rattle.plus_validator.proofs.Asking.{all_pass, fails_left, fails_right, number_fails, nodes_fail, nothing_passes}

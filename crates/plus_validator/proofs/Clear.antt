@@ -6,7 +6,7 @@ use Rattle.plus_model.specs.Plan.{Plan}
 use Rattle.plus_model.specs.History.{Part, View, view_after, view_from}
 use Rattle.plus_model.specs.Trajectory.{HasBegun, Next, Follow, Prefix, first_part, first_view, view_of}
 use Rattle.plus_model.specs.Laws.{GoesOnFrom}
-use Rattle.plus_timeline.specs.Tests.{Test}
+use Rattle.plus_stretch.specs.Tests.{Test}
 use Rattle.plus_validator.specs.Asking.{entries_of, NoneFails, IsClear}
 use Rattle.plus_validator.proofs.Asking.{passes_on}
 

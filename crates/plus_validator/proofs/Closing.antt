@@ -25,7 +25,7 @@ use Rattle.plus_validator.specs.declared.run.Run.{Run}
 use Rattle.plus_validator.proofs.Clear.{clear_first}
 use Rattle.plus_validator.proofs.Steps.{literals_shown, asked_is}
 use Rattle.plus_validator.proofs.Lines.{close_played, close_target, close_worked}
-use Rattle.plus_timeline.specs.Tests.{AllPass}
+use Rattle.plus_stretch.specs.Tests.{AllPass}
 use Rattle.plus_validator.specs.Asking.{IsClear, NoneFails}
 use Rattle.plus_validator.proofs.Asking.{goal_passes}
 use Rattle.plus_timeline.specs.Asked.{goal_tests}

@@ -17,7 +17,7 @@ use Rattle.plus_timeline.specs.Still.{IsStill}
 use Rattle.plus_timeline.specs.Advance.{AdvanceTold}
 use Rattle.plus_timeline.specs.Act.{BreaksAct, ActTold}
 use Rattle.plus_timeline.specs.Finish.{BreaksFinish, FinishTold}
-use Rattle.plus_timeline.specs.Tests.{of_limit}
+use Rattle.plus_stretch.specs.Tests.{of_limit}
 use Rattle.plus_model.specs.Trajectory.{least}
 use Rattle.plus_validator.proofs.Owned.{IsPlain, act_plain, goal_plain, advance_plain}
 use Rattle.plus_timeline.specs.declared.stop.Stop.{Stop}

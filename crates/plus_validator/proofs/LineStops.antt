@@ -20,7 +20,7 @@ use Rattle.plus_plan.specs.TimeValue.{value_of}
 use Rattle.plus_expansion.specs.Calls.{called_of}
 use Rattle.plus_model.specs.Breach as model_breach
 use Rattle.plus_timeline.specs.Finish.{FinishTold}
-use Rattle.plus_timeline.specs.Tests.{Test, breach, of_limit, FirstFailing}
+use Rattle.plus_stretch.specs.Tests.{Test, breach, of_limit, FirstFailing}
 use Rattle.plus_timeline.specs.Timeline.{TimelineView}
 use Rattle.plus_timeline.specs.declared.stop.Stop.{Stop}
 use Rattle.plus_timeline.specs.declared.stop.Stop.TheVariants as stops

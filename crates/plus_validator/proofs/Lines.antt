@@ -12,7 +12,7 @@ use Rattle.plus_state.specs.View.{Labels}
 use Rattle.plus_timeline.specs.Timeline.{TimelineView}
 use Rattle.plus_report.specs.Report.{report_of}
 use Rattle.plus_report.proofs.ReportLemmas.{report_of-grown}
-use Rattle.plus_timeline.specs.Tests.{Test}
+use Rattle.plus_stretch.specs.Tests.{Test}
 use Rattle.plus_validator.specs.Standing.{IsPlayed, EndsBy, AllActed, HasWorked, IsReady, IsReached}
 use Rattle.plus_validator.specs.Playing.{closed}
 use Rattle.plus_validator.proofs.Asking.{open_passes}

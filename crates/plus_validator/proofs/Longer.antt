@@ -13,8 +13,9 @@ use Rattle.plus_model.specs.Laws.{GoesOnFrom}
 use Rattle.plus_model.proofs.Moments.{from_below, least_within, least_above, ≤ℚ_refl}
 use Rattle.plus_model.proofs.Later.{same_line}
 use Rattle.plus_number.specs.Frac.{IsFrac64}
-use Rattle.plus_timeline.specs.Tests.{Test, FirstFailing}
-use Rattle.plus_timeline.specs.Asked.{if_empty, round_tests, closing_tests, act_tests, goal_tests, line_tests, advance_by, advance_tests, is_there, asked}
+use Rattle.plus_stretch.specs.Tests.{Test, FirstFailing}
+use Rattle.plus_stretch.specs.StretchTests.{if_empty}
+use Rattle.plus_timeline.specs.Asked.{round_tests, closing_tests, act_tests, goal_tests, line_tests, advance_by, advance_tests, is_there, asked}
 use Rattle.plus_validator.specs.Asking.{entries_of, Fails}
 use Rattle.plus_validator.proofs.Asking.{fails_left}
 

@@ -13,7 +13,7 @@ use Rattle.plus_state.specs.View.{Labels}
 use Rattle.plus_plan.specs.declared.forms.Line.{Line}
 use Rattle.plus_plan.specs.declared.faults.PlanFault.{PlanFault}
 use Rattle.plus_report.specs.declared.verdicts.Verdict.{Verdict}
-use Rattle.plus_timeline.specs.Tests.{Test}
+use Rattle.plus_stretch.specs.Tests.{Test}
 use Rattle.plus_validator.specs.Plans.{Pair, line_meant, lines_meant, plan_of, Reading, reading_of, plan_in, HasValue}
 use Rattle.plus_validator.specs.Asking.{instances_of, IsClear}
 use Rattle.plus_validator.specs.Refused.{IsWaiting, AreWorked, IsTimeRefused, IsStopped, Cause, Refusal}

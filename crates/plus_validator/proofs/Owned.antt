@@ -19,9 +19,10 @@ use Rattle.plus_state.specs.Tests.{tests_of}
 use Rattle.plus_state.specs.Steps as steps
 use Rattle.plus_state.specs.Steps.{Step, guarded, joint_steps}
 use Rattle.plus_timeline.specs.Still.{IsStill}
-use Rattle.plus_timeline.specs.Tests.{Test, asks, straight, full, breach, FirstFailing, of_step}
-use Rattle.plus_timeline.specs.Crossings.{all_roots}
-use Rattle.plus_timeline.specs.Asked.{unless, act_tests, goal_tests, count_tests, root_tests, with_rates, stretch_tests, advance_by, advance_tests}
+use Rattle.plus_stretch.specs.Tests.{Test, asks, straight, full, breach, FirstFailing, of_step}
+use Rattle.plus_stretch.specs.Crossings.{all_roots}
+use Rattle.plus_stretch.specs.StretchTests.{root_tests, with_rates, stretch_tests}
+use Rattle.plus_timeline.specs.Asked.{unless, act_tests, goal_tests, count_tests, advance_by, advance_tests}
 use Rattle.plus_timeline.proofs.StillTests.{still_moment}
 
 -- the test is not that of a product or a quotient in a comparison

@@ -42,7 +42,7 @@ use Rattle.plus_validator.specs.declared.run.Run.{Run}
 use Rattle.plus_validator.proofs.Steps.{played_on, serves_still, entries_of-append, asked_is}
 use Rattle.plus_validator.proofs.Lines.{with_line, has_begun, read_on, read_target, act_due, acted_target, act_ready, end_ready, Agree}
 use Rattle.std.proofs.lemmas.List.Elements.{All-cons, All-head, All-nil, All-tail}
-use Rattle.plus_timeline.specs.Tests.{AllPass, Test}
+use Rattle.plus_stretch.specs.Tests.{AllPass, Test}
 use Rattle.plus_ground.specs.Refusals.{IsInstance}
 use Rattle.plus_validator.specs.Asking.{NoneFails, call_tests, entries_of, instances_of, line_instances}
 use Rattle.plus_timeline.specs.Asked.{act_tests}

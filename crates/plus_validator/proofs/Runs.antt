@@ -8,7 +8,7 @@ use Rattle.plus_model.specs.Trajectory.{HasBegun}
 use Rattle.plus_number.specs.declared.frac.Frac64.{Frac64}
 use Rattle.plus_number.specs.Frac.{fraction_of, IsFrac64}
 use Rattle.plus_state.specs.View.{Labels}
-use Rattle.plus_timeline.specs.Tests.{Test, AllPass}
+use Rattle.plus_stretch.specs.Tests.{Test, AllPass}
 use Rattle.plus_timeline.specs.Advance.{Advances, IsThere}
 use Rattle.plus_timeline.specs.declared.next.Next.{Next}
 use Rattle.plus_timeline.specs.declared.next.Next.TheVariants.{Round, Run as run_answer, Entry, There}

@@ -30,7 +30,7 @@ use Rattle.plus_report.specs.Text.{entry_text, literals_text, round_text}
 use Rattle.plus_report.specs.Report as reports
 use Rattle.plus_report.specs.Report.{part_text, report_of, literals_part}
 use Rattle.plus_report.proofs.ReportLemmas.{report_of-append}
-use Rattle.plus_timeline.specs.Tests.{Test, AllPass}
+use Rattle.plus_stretch.specs.Tests.{Test, AllPass}
 use Rattle.plus_timeline.specs.Asked.{advance_tests, asked}
 use Rattle.plus_validator.specs.Asking.{entries_of, asked_at, NoneFails, IsClear}
 use Rattle.plus_validator.proofs.Asking.{IsNoAct, asked_on}

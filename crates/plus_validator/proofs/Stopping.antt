@@ -22,7 +22,7 @@ use Rattle.plus_expansion.specs.Calls.{called_of}
 use Rattle.plus_tree.specs.declared.trees.Call.{Call}
 use Rattle.plus_timeline.specs.Act.{BreaksAct, ActTold}
 use Rattle.plus_timeline.specs.Advance.{BreaksOff, AdvanceTold}
-use Rattle.plus_timeline.specs.Tests.{Test, too_many_nodes, no_number, breach, of_limit, breach_of, AllPass, FirstFailing}
+use Rattle.plus_stretch.specs.Tests.{Test, too_many_nodes, no_number, breach, of_limit, breach_of, AllPass, FirstFailing}
 use Rattle.plus_timeline.specs.declared.stop.Stop.{Stop}
 use Rattle.plus_timeline.specs.declared.stop.Stop.TheVariants as stops
 use Rattle.plus_timeline.proofs.Follows.{advance_breaks, act_breaks}

@@ -15,7 +15,7 @@ use Rattle.plus_state.specs.declared.outcome.Breach.TheVariants as breaches
 use Rattle.plus_state.specs.declared.outcome.Breach.{Breach}
 use Rattle.plus_state.specs.declared.outcome.Limit.{Limit}
 use Rattle.plus_state.specs.declared.outcome.Limit.TheVariants as limits
-use Rattle.plus_timeline.specs.Tests.{Test, event, process, asks, straight, full, too_many_nodes, no_number, breach, Passes, of_limit, breach_of}
+use Rattle.plus_stretch.specs.Tests.{Test, event, process, asks, straight, full, too_many_nodes, no_number, breach, Passes, of_limit, breach_of}
 use Rattle.plus_report.specs.Labels.{label_at, event_label, process_label}
 use Rattle.plus_report.specs.Text.{newline, fraction_text}
 use Rattle.plus_report.specs.Refusals.{early_text}

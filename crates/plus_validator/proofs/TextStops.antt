@@ -27,8 +27,8 @@ use Rattle.plus_plan.specs.declared.faults.PlanFault.TheVariants as faults
 use Rattle.plus_plan.specs.Cut.{lines_of, next_line}
 use Rattle.plus_plan.specs.Lines.{numbered}
 use Rattle.plus_plan.specs.Answers.{IsLineAt, IsRefusedAt}
-use Rattle.plus_timeline.specs.Tests as tests
-use Rattle.plus_timeline.specs.Tests.{Test, breach_of}
+use Rattle.plus_stretch.specs.Tests as tests
+use Rattle.plus_stretch.specs.Tests.{Test, breach_of}
 use Rattle.plus_report.specs.declared.verdicts.Verdict.{Verdict}
 use Rattle.plus_report.specs.declared.verdicts.Verdict.TheVariants.{Valid, Invalid, Beyond, Other}
 use Rattle.plus_report.specs.declared.refusals.Early.{Early}

@@ -27,7 +27,7 @@ use Rattle.plus_validator.specs.Playing.{Readied}
 use Rattle.plus_validator.specs.Standing.{EndsBy}
 use Rattle.plus_validator.specs.Refused.{IsWaiting, after_end, no_value, goes_back}
 use Rattle.plus_validator.specs.Stopped.{TimeHalts, HaltsAtMoment}
-use Rattle.plus_timeline.specs.Tests.{AllPass, Test}
+use Rattle.plus_stretch.specs.Tests.{AllPass, Test}
 use Rattle.plus_validator.proofs.Steps.{asked_is}
 
 -- what is ready for a line waits for it

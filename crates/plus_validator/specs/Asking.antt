@@ -15,7 +15,7 @@ use Rattle.plus_plan.specs.declared.forms.Line.TheVariants as lines
 use Rattle.plus_expansion.specs.Nodes.{action_nodes}
 use Rattle.plus_expansion.specs.Literals.{call_literals}
 use Rattle.plus_expansion.specs.Calls.{called_of}
-use Rattle.plus_timeline.specs.Tests.{Test, too_many_nodes, no_number, AllPass, FirstFailing}
+use Rattle.plus_stretch.specs.Tests.{Test, too_many_nodes, no_number, AllPass, FirstFailing}
 use Rattle.plus_timeline.specs.Asked.{asked}
 use Rattle.plus_validator.specs.Plans.{Pair}
 

@@ -19,7 +19,7 @@ use Rattle.plus_plan.specs.TimeValue.{value_of}
 use Rattle.plus_plan.specs.Lines.{plan_lines}
 use Rattle.plus_expansion.specs.Expansion.{expanded, labels_meant}
 use Rattle.plus_report.specs.Report.{report_of}
-use Rattle.plus_timeline.specs.Tests.{Test}
+use Rattle.plus_stretch.specs.Tests.{Test}
 use Rattle.plus_tree.specs.declared.trees.Call.{Call}
 use Rattle.plus_validator.specs.Asking.{entries_of, call_tests, instances_of, NoneFails, IsClear}
 use Rattle.plus_validator.specs.Plans.{Pair, plan_of, HasValue}

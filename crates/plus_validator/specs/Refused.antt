@@ -25,7 +25,7 @@ use Rattle.plus_plan.specs.Spells.{line_limit}
 use Rattle.plus_plan.specs.TimeValue.{value_of}
 use Rattle.plus_expansion.specs.Expansion.{expanded, labels_meant}
 use Rattle.plus_expansion.specs.Counting.{IsGroundable}
-use Rattle.plus_timeline.specs.Tests.{Test, too_many_nodes, no_number, breach, of_limit, breach_of}
+use Rattle.plus_stretch.specs.Tests.{Test, too_many_nodes, no_number, breach, of_limit, breach_of}
 use Rattle.plus_report.specs.declared.verdicts.Verdict.{Verdict}
 use Rattle.plus_report.specs.declared.verdicts.Verdict.TheVariants.{Valid, Invalid, Beyond, Other}
 use Rattle.plus_report.specs.declared.refusals.Early.{Early}

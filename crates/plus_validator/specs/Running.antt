@@ -6,7 +6,7 @@ use Rattle.plus_model.specs.Plan.{Plan}
 use Rattle.plus_model.specs.History.{Part}
 use Rattle.plus_model.specs.Trajectory.{HasBegun, target}
 use Rattle.plus_state.specs.View.{Labels}
-use Rattle.plus_timeline.specs.Tests.{Test}
+use Rattle.plus_stretch.specs.Tests.{Test}
 use Rattle.plus_timeline.specs.Finish.{IsPaused}
 use Rattle.plus_validator.specs.Standing.{IsPlayed, CanGoOn, CanReach, IsReached, steps_left}
 use Rattle.plus_validator.specs.declared.run.Run.{Run}

@@ -16,7 +16,7 @@ use Rattle.plus_report.specs.Report.{report_of}
 use Rattle.plus_timeline.specs.declared.next.Next.{Next}
 use Rattle.plus_timeline.specs.declared.next.Next.TheVariants.{Round, Run, Entry, There}
 use Rattle.plus_number.specs.Frac.{IsFrac64}
-use Rattle.plus_timeline.specs.Tests.{Test, AllPass}
+use Rattle.plus_stretch.specs.Tests.{Test, AllPass}
 use Rattle.plus_timeline.specs.Asked.{advance_tests, asked}
 use Rattle.plus_validator.specs.Asking.{entries_of, IsClear}
 

@@ -3,7 +3,7 @@ use Rattle.plus_model.specs.Terms.{State}
 use Rattle.plus_model.specs.Value.{holds}
 use Rattle.plus_model.specs.Breach.{Goal}
 use Rattle.plus_state.specs.View.{problem_of, overflow_of}
-use Rattle.plus_timeline.specs.Tests.{asks, breach, AllPass, FirstFailing}
+use Rattle.plus_stretch.specs.Tests.{asks, breach, AllPass, FirstFailing}
 use Rattle.plus_timeline.specs.Asked.{goal_tests}
 use Rattle.plus_timeline.proofs.Acted.{goal_unfit, goal_fails, goal_holds}
 use Rattle.plus_timeline.proofs.timeline.Timeline.finish.Goals as goal

@@ -1,0 +1,9 @@
+pub mod Layers
+pub mod Actions
+pub mod Unfired
+pub mod Cascades
+pub mod GridLemmas
+pub mod LiteralLemmas
+pub mod MovingLemmas
+pub mod PuttingLemmas
+pub mod StepLemmas

@@ -1,0 +1,11 @@
+pub mod Tests
+pub mod Asked
+pub mod Told
+pub mod Never
+pub mod Laws
+pub mod Stops
+pub mod Ticks
+pub mod Moving
+pub mod Grid
+pub mod Coming
+pub mod Steps

@@ -1,0 +1,36 @@
+//! What one action changes of a state.
+ghost use Rattle.std.specs.Prelude.{IfOk, length};
+ghost use Rattle.plus_state.specs.View.{action_of};
+ghost use Rattle.plus_state.specs.Changes.{patched, RisesIn};
+ghost use Rattle.plus_state.specs.Fits.{ActionFits};
+ghost use Rattle.plus_steps.specs.Stepped.{Does};
+ghost use Rattle.plus_stepped.specs.Asked.{action_tests};
+ghost use Rattle.plus_stepped.specs.Told.{Told};
+ghost use Rattle.plus_stepped.specs.Never.{CannotDo};
+
+use crate::stop::StepStop;
+use plus_number::exact::Exact;
+use plus_state::changes::Changes;
+use plus_state::joint_effect::joint_changes;
+use plus_state::problem::Action;
+use plus_state::states::State;
+use plus_state::truth::holds;
+use std::alloc::Global;
+
+// What the action changes, or the first test that fails.
+pub fn action_changes<Q: Exact>(
+    alloc: Global,
+    state: &State<Q>,
+    action: &Action<Q>,
+) -> Result<Changes<Q>, StepStop<Q>>
+    requires { ActionFits (length (state.now.atoms)) (length (state.now.fluents)) (action_of Q.value action.now) }
+    ensures told { Told Q.value Q.fits (action_tests (action_of Q.value action.now) state.now)
+        (λ c. Does (action_of Q.value action.now) state.now (patched state.now c))
+        (CannotDo (action_of Q.value action.now) state.now) result }
+    ensures rises { IfOk result (RisesIn state.now) }
+{
+    if !holds(&action.condition, state)? {
+        return Err(StepStop::Precondition);
+    }
+    Ok(joint_changes(alloc, state, &action.effects)?)
+}

@@ -1,0 +1,74 @@
+//! A step of time without its literals and events: the processes that hold run for the whole step.
+ghost use Rattle.std.specs.Prelude.{◌≡◌, [], ◌∷◌, ◌++◌, length, IfOk, MatchResult, if◌then◌else◌};
+ghost use Rattle.plus_model.specs.Running.{holding as holding_of};
+ghost use Rattle.plus_state.specs.View.{problem_of};
+ghost use Rattle.plus_state.specs.Fits.{StateFits};
+ghost use Rattle.plus_state.specs.Asked.{AllFit};
+ghost use Rattle.plus_settle.specs.Members.{process_numbers};
+ghost use Rattle.plus_settle.specs.Settles.{condition_nodes};
+ghost use Rattle.plus_stepped.specs.Ticks.{moving_tests};
+ghost use Rattle.plus_stepped.specs.Told.{Told};
+ghost use Rattle.plus_stepped.specs.Moving.{MovesTo, CannotMove, ConditionStops};
+
+use crate::stop::StepStop;
+use plus_crossing::moved;
+use plus_number::exact::Exact;
+use plus_settle::net_rates;
+use plus_state::problem::Ground;
+use plus_state::states::State;
+use plus_state::term::ProcessId;
+use plus_state::truth::holds;
+use std::alloc::{AllocError, Global};
+
+fn append_if(members: &mut Vec<ProcessId>, member: ProcessId, runs: bool) -> Result<(), AllocError>
+    ensures { IfOk result (λ _. process_numbers members.new.items
+        ≡ process_numbers members.old.items ++ (if runs then member.0 ∷ [] else [])) }
+{
+    if runs {
+        members.push(member)?;
+    }
+    Ok(())
+}
+
+// The processes whose condition holds, in ground order.
+fn holding<Q: Exact>(
+    alloc: Global,
+    ground: &Ground<Q>,
+    state: &State<Q>,
+) -> Result<Vec<ProcessId>, StepStop<Q>>
+    requires state { StateFits (length (ground.now.atoms.items)) (length (ground.now.fluents.items)) state.now }
+    ensures { MatchResult result
+        (λ members. AllFit Q.fits (condition_nodes ((problem_of Q.value ground.now).processes) state.now)
+        × (process_numbers members.items ≡ holding_of (problem_of Q.value ground.now) state.now))
+        (λ stop. ConditionStops Q.value Q.fits (condition_nodes ((problem_of Q.value ground.now).processes) state.now) stop) }
+{
+    let mut members = Vec::new(alloc);
+    'each: for number in 0..ground.processes.len() {
+        match holds(&ground.processes[number].condition, state) {
+            Err(overflow) => return Err(StepStop::Number(overflow)),
+            Ok(truth) => match append_if(&mut members, ProcessId(number as u32), truth) {
+                Err(_) => return Err(StepStop::Memory),
+                Ok(()) => {}
+            },
+        }
+    }
+    Ok(members)
+}
+
+// The state in which the processes that hold have run for so long, all at the rates of this state.
+pub fn moved_on<Q: Exact>(
+    alloc: Global,
+    ground: &Ground<Q>,
+    state: &State<Q>,
+    interval: Q,
+) -> Result<State<Q>, StepStop<Q>>
+    requires state { StateFits (length (ground.now.atoms.items)) (length (ground.now.fluents.items)) state.now }
+    ensures told { Told Q.value Q.fits (moving_tests (problem_of Q.value ground.now) (Q.value interval) state.now)
+        (λ next. MovesTo (problem_of Q.value ground.now) (Q.value interval) state.now next)
+        (CannotMove (problem_of Q.value ground.now) state.now) result }
+    ensures fit { IfOk result (λ next. StateFits (length (ground.now.atoms.items)) (length (ground.now.fluents.items)) next) }
+{
+    let members = holding(alloc, ground, state)?;
+    let rates = net_rates(alloc, ground, &members, state)?;
+    Ok(moved(alloc, state, &rates, interval)?)
+}

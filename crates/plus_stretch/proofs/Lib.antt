@@ -1,0 +1,12 @@
+pub mod Layers
+pub mod Roots
+pub mod Rising
+pub mod Between
+pub mod Left
+pub mod Halts
+pub mod SoonLemmas
+pub mod Thinned
+pub mod Collecting
+pub mod HereLemmas
+pub mod CrossingLemmas
+pub mod SearchLemmas

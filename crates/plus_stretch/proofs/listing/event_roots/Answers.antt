@@ -1,0 +1,40 @@
+use Rattle.std.proofs.Common.{◌<◌, ◌≤◌, length, refl, arith}
+use Rattle.plus_model.specs.Terms.{Event}
+use Rattle.plus_state.specs.View.{event_of}
+use Rattle.plus_state.proofs.TestsLemmas.{next_member, no_member}
+use Rattle.plus_cascade.proofs.FiringLemmas.{all_fit}
+use Rattle.plus_stretch.specs.Tests.{event}
+use Rattle.plus_stretch.proofs.Collecting.{collecting_start, collecting_inside, collecting_next, collecting_stop, collecting_end}
+use Rattle.plus_stretch.proofs.listing.event_roots.Goals as goal
+
+pub each-init : goal.each-init
+each-init g c = collecting_start _ _ event (λ (x : Event). x.condition) _ _ _ _ (all_fit _ _ _ _ c.requires.state c.args.ground.now.fits.events)
+
+pub roots_into-requires-clause-fits : goal.roots_into-requires-clause-fits
+roots_into-requires-clause-fits g c =
+    let h : c.each.number < length c.args.ground.now.events.items = omega (arith, c.args.ground.now.events.ok.0) in
+    let e = next_member (event_of g.Q.Exact.value) c.args.ground.now.events.items c.each.number c.index.result.now h c.index.ensures in
+    (collecting_inside _ _ _ _ _ _ _ _ _ _ _ _ (rw e at c.each.invariant)).condition
+
+pub roots_into-requires-clause-few : goal.roots_into-requires-clause-few
+roots_into-requires-clause-few g c =
+    let h : c.each.number < length c.args.ground.now.events.items = omega (arith, c.args.ground.now.events.ok.0) in
+    let e = next_member (event_of g.Q.Exact.value) c.args.ground.now.events.items c.each.number c.index.result.now h c.index.ensures in
+    (collecting_inside _ _ _ _ _ _ _ _ _ _ _ _ (rw e at c.each.invariant)).few
+
+pub returns-in-Err : goal.returns-in-Err
+returns-in-Err g c =
+    let h : c.each.number < length c.args.ground.now.events.items = omega (arith, c.args.ground.now.events.ok.0) in
+    let e = next_member (event_of g.Q.Exact.value) c.args.ground.now.events.items c.each.number c.index.result.now h c.index.ensures in
+    rw c.root_halt.ensures (collecting_stop _ _ _ _ _ _ _ _ _ _ _ _ (rw e at c.each.invariant) g.Q.Exact.value _ c.in-Err.stop refl c.in-Err.ensures)
+
+pub each-preserved : goal.each-preserved
+each-preserved g c =
+    let h : c.each.number < length c.args.ground.now.events.items = omega (arith, c.args.ground.now.events.ok.0) in
+    let e = next_member (event_of g.Q.Exact.value) c.args.ground.now.events.items c.each.number c.index.result.now h c.index.ensures in
+    collecting_next _ _ _ _ _ _ _ _ _ _ _ _ (rw e at c.each.invariant) _ c.in-Ok.ensures.0 c.in-Ok.ensures.1
+
+pub returns : goal.returns
+returns g c =
+    let h : length c.args.ground.now.events.items ≤ c.each.number = omega (arith, c.args.ground.now.events.ok.0) in
+    collecting_end _ _ _ _ _ _ _ _ _ _ (rw (no_member (event_of g.Q.Exact.value) c.args.ground.now.events.items c.each.number h) at c.each.invariant)

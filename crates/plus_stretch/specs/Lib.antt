@@ -1,0 +1,10 @@
+pub mod Tests
+pub mod Crossings
+pub mod StretchTests
+pub mod Laws
+pub mod Told
+pub mod After
+pub mod Thinned
+pub mod Collected
+pub mod Here
+pub mod Arrives

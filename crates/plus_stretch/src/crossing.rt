@@ -1,0 +1,177 @@
+//! What begins at one moment along a running set.
+ghost use Rattle.std.specs.Prelude.{◌≡◌, ◌||◌, [], ◌∷◌, length, map, IfOk, IfSome};
+ghost use Rattle.plus_fraction.specs.Fraction.{◌+ℚ◌};
+ghost use Rattle.plus_model.specs.Firing.{firing};
+ghost use Rattle.plus_model.specs.Running.{moved};
+ghost use Rattle.plus_state.specs.View.{problem_of};
+ghost use Rattle.plus_state.specs.Fits.{StateFits};
+ghost use Rattle.plus_state.specs.Asked.{node};
+ghost use Rattle.plus_state.specs.Tells.{Tells};
+ghost use Rattle.plus_cascade.specs.Steps.{condition_nodes};
+ghost use Rattle.plus_crossing.specs.Moves.{moved_nodes};
+ghost use Rattle.plus_settle.specs.Members.{process_numbers, AreMembers};
+ghost use Rattle.plus_stretch.specs.Tests.{asks};
+ghost use Rattle.plus_stretch.specs.StretchTests.{here_tests};
+ghost use Rattle.plus_stretch.specs.Told.{Told, Never};
+ghost use Rattle.plus_stretch.specs.Here.{is_some_of, of_go, HereIs, MomentlessHere, IsAlong};
+ghost use Rattle.plus_stretch.specs.Arrives.{ComesBy, CrossingTold, IsArrived};
+
+use crate::arrival::{Arrival, End};
+use crate::halt::Halt;
+use crate::soon::none_soon;
+use plus_crossing::moves::{MoveStop, moved_changes};
+use plus_crossing::node::exact;
+use plus_crossing::rates::Rates;
+use plus_number::exact::Exact;
+use plus_settle::confirms::first_other;
+use plus_settle::settling::Running;
+use plus_settle::stops::GoStop;
+use plus_state::changes::Changes;
+use plus_state::outcome::{Limit, Owner};
+use plus_state::problem::Ground;
+use plus_state::states::State;
+use plus_state::term::{Overflow, Sign};
+use plus_state::truth::holds;
+use std::alloc::Global;
+
+fn either(x: bool, y: bool) -> bool
+    ensures { result ≡ x || y }
+{
+    x || y
+}
+
+// Whether an event holds.
+fn event_holds<Q: Exact>(ground: &Ground<Q>, state: &State<Q>) -> Result<bool, Overflow<Q>>
+    requires state { StateFits (length (ground.now.atoms.items)) (length (ground.now.fluents.items)) state.now }
+    ensures { Tells Q.value Q.fits (condition_nodes ((problem_of Q.value ground.now).events) state.now)
+        (λ b. b ≡ is_some_of (firing (problem_of Q.value ground.now) state.now)) result }
+{
+    let mut found = false;
+    'each: for number in 0..ground.events.len() {
+        match holds(&ground.events[number].condition, state) {
+            Err(overflow) => return Err(overflow),
+            Ok(truth) => found = either(found, truth),
+        }
+    }
+    Ok(found)
+}
+
+fn go_halt<Q: Exact>(stop: GoStop<Q>) -> Halt<Q>
+    ensures { result ≡ of_go stop }
+{
+    match stop {
+        GoStop::Number(overflow) => Halt::Limit(Limit::Number(overflow)),
+        GoStop::Nonlinear {
+            process,
+            comparison,
+        } => Halt::Limit(Limit::Nonlinear {
+            owner: Owner::Process(process),
+            comparison,
+        }),
+    }
+}
+
+// What begins in a state on the way, which is reached at this time. The refusal is the first test that fails: all events,
+// then the processes just after up to the first that differs from the running set, and then the events just after up to the
+// first that holds.
+fn begins_here<Q: Exact>(
+    ground: &Ground<Q>,
+    state: &State<Q>,
+    running: &Running<Q>,
+    time: Q,
+) -> Result<Option<End>, Halt<Q>>
+    requires state { StateFits (length (ground.now.atoms.items)) (length (ground.now.fluents.items)) state.now }
+    requires members { AreMembers (length (ground.now.processes.items)) (process_numbers running.now.members.items) }
+    requires rates { length (running.now.rates) ≡ length (state.now.fluents) }
+    ensures { Told Q.value Q.fits
+        (here_tests (problem_of Q.value ground.now) (Q.value time) state.now (process_numbers running.now.members.items) running.now.rates [])
+        (HereIs (problem_of Q.value ground.now) state.now (process_numbers running.now.members.items) running.now.rates)
+        (MomentlessHere (problem_of Q.value ground.now) (Q.value time) state.now (process_numbers running.now.members.items) running.now.rates)
+        result }
+{
+    match event_holds(ground, state) {
+        Err(overflow) => return Err(Halt::Limit(Limit::Number(overflow))),
+        Ok(holds) => {
+            if holds {
+                return Ok(Some(End::EventHolds));
+            }
+        }
+    }
+    match first_other(ground, &running.members, state, &running.rates) {
+        Err(stop) => Err(go_halt(stop)),
+        Ok(Some(_)) => Ok(Some(End::SetEnds)),
+        Ok(None) => match none_soon(ground, state, &running.rates, time) {
+            Err(halt) => Err(halt),
+            Ok(()) => Ok(None),
+        },
+    }
+}
+
+// The moment so much later.
+fn later<Q: Exact>(time: Q, delay: Q) -> Result<Q, Halt<Q>>
+    ensures { Told Q.value Q.fits (asks (node Sign.Plus (Q.value time) (Q.value delay)) ∷ [])
+        (λ moment. Q.value moment ≡ Q.value time +ℚ Q.value delay) Never result }
+{
+    match exact(Sign::Plus, time, delay, time.add(delay)) {
+        Ok(moment) => Ok(moment),
+        Err(overflow) => Err(Halt::Limit(Limit::Number(overflow))),
+    }
+}
+
+// Moves the state ahead to so much time after the beginning; what has changed since then.
+pub fn move_ahead<Q: Exact>(
+    alloc: Global,
+    state: &State<Q>,
+    ahead: &mut State<Q>,
+    rates: &Rates<Q>,
+    delay: Q,
+) -> Result<Changes<Q>, Halt<Q>>
+    requires rates { length rates.now ≡ length (state.now.fluents) }
+    requires along { IsAlong state.now rates.now ahead.old }
+    ensures told { Told Q.value Q.fits (map asks (moved_nodes (state.now.fluents) rates.now (Q.value delay)))
+        (ComesBy state.now rates.now (Q.value delay)) Never result }
+    ensures along { IsAlong state.now rates.now ahead.new }
+    ensures there { IfOk result (λ _. ahead.new ≡ moved state.now rates.now (Q.value delay)) }
+{
+    match moved_changes(alloc, state, rates, delay) {
+        Err(MoveStop::Number(overflow)) => Err(Halt::Limit(Limit::Number(overflow))),
+        Err(MoveStop::Memory) => Err(Halt::Memory),
+        Ok(changes) => {
+            ahead.patch(&changes);
+            Ok(changes)
+        }
+    }
+}
+
+/// What happens so much time after the beginning of a stretch: none where nothing begins, or its end.
+/// The refusal is the first test that fails: the moment, the fluents that move, and then what is asked
+/// there; or want of memory. The state ahead is moved there.
+pub fn at_root<Q: Exact>(
+    alloc: Global,
+    ground: &Ground<Q>,
+    state: &State<Q>,
+    ahead: &mut State<Q>,
+    running: &Running<Q>,
+    time: Q,
+    root: Q,
+) -> Result<Option<Arrival<Q>>, Halt<Q>>
+    requires state { StateFits (length (ground.now.atoms.items)) (length (ground.now.fluents.items)) state.now }
+    requires members { AreMembers (length (ground.now.processes.items)) (process_numbers running.now.members.items) }
+    requires rates { length (running.now.rates) ≡ length (state.now.fluents) }
+    requires along { IsAlong state.now running.now.rates ahead.old }
+    ensures told { CrossingTold Q.value Q.fits (problem_of Q.value ground.now) (Q.value time) state.now (process_numbers running.now.members.items) running.now.rates (Q.value root) result }
+    ensures along { IsAlong state.now running.now.rates ahead.new }
+    ensures arrived { IfOk result (λ o. IfSome o (IsArrived state.now ahead.new)) }
+{
+    let moment = later(time, root)?;
+    let changes = move_ahead(alloc, state, ahead, &running.rates, root)?;
+    match begins_here(ground, ahead, running, moment) {
+        Err(halt) => Err(halt),
+        Ok(None) => Ok(None),
+        Ok(Some(end)) => Ok(Some(Arrival {
+            time: moment,
+            changes,
+            end,
+        })),
+    }
+}
