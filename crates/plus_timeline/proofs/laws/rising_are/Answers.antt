@@ -1,5 +1,0 @@
-use Rattle.plus_timeline.proofs.Rising.{rising_are}
-use Rattle.plus_timeline.proofs.laws.rising_are.Goals as goal
-
-pub returns : goal.returns
-returns c = rising_are

@@ -1,5 +1,0 @@
-use Rattle.plus_timeline.proofs.Roots.{roots_are}
-use Rattle.plus_timeline.proofs.laws.roots_are.Goals as goal
-
-pub returns : goal.returns
-returns c = roots_are
