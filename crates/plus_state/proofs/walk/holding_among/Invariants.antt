@@ -1,0 +1,8 @@
+use Rattle.std.proofs.Common.{map, drop}
+use Rattle.plus_state.specs.View.{problem_of}
+use Rattle.plus_state.proofs.LookingLemmas.{Looking}
+use Rattle.plus_state.proofs.walk.holding_among.Given as goal
+
+abbrev pub invariant-each : goal.invariant-each
+invariant-each g l =
+    Looking g.Q.Exact.fits (map g.I.Conditional.number l.found.items) (map g.I.Conditional.number (drop l.member-index l.looked_at)) (map g.I.Conditional.number l.looked_at) (g.I.Conditional.conditions (problem_of g.Q.Exact.value l.ground)) l.state

@@ -1,0 +1,174 @@
+//! Which events, or which processes, hold: a walk over some of them, or over all.
+ghost use Rattle.std.specs.Prelude.{◌≡◌, [], ◌∷◌, ◌++◌, length, map, IfOk, MatchResult, if◌then◌else◌};
+ghost use Rattle.plus_model.specs.Value.{holds as truth_of};
+ghost use Rattle.plus_model.specs.Firing.{numbers_of};
+ghost use Rattle.plus_state.specs.View.{problem_of};
+ghost use Rattle.plus_state.specs.Fits.{StateFits};
+ghost use Rattle.plus_state.specs.Asked.{AllFit};
+ghost use Rattle.plus_state.specs.Numbers.{numbers_from, AreMembers};
+ghost use Rattle.plus_state.specs.Walk.{all_asked, held_among, OthersPass, WalkStops};
+
+use crate::problem::Ground;
+use crate::states::State;
+use crate::term::{Cond, EventId, Overflow, ProcessId};
+use crate::truth::holds;
+use plus_number::exact::Exact;
+use std::alloc::{AllocError, Global};
+use std::fmt::Debug;
+use thiserror::Error;
+
+/// Why it cannot be told which conditions hold.
+#[derive(Debug, Drop, Error)]
+#[error_bound(Q: Debug)]
+pub enum WalkStop<Q> {
+    #[error(transparent)]
+    Number(Overflow<Q>),
+    #[error("out of memory")]
+    Memory,
+}
+
+/// The number of a member of a ground problem that has a condition: of an event or of a process.
+pub trait Conditional: Copy {
+    ghost use Rattle.std.specs.Prelude.{ℕ, ◌<◌, List, Some, slice_get, All};
+    ghost use Rattle.plus_model.specs.Terms.{Condition, Problem};
+    ghost use Rattle.plus_state.specs.View.{condition_of};
+    ghost use Rattle.plus_state.specs.Fits.{Fits, ProblemFits};
+
+    // the number
+    ghost number: { Self → ℕ };
+    // the conditions of all members
+    ghost conditions: { Problem → List Condition };
+
+    /// The member with a number.
+    fn with_number(place: u32) -> Self
+        ensures { number result ≡ place };
+
+    /// How many members there are.
+    fn count<Q: Exact>(ground: &Ground<Q>) -> u32
+        ensures { result ≡ length (conditions (problem_of Q.value ground.now)) };
+
+    /// The condition of the member.
+    fn condition<Q: Exact>(self, ground: &Ground<Q>) -> &Cond<Q>
+        requires { number self < length (conditions (problem_of Q.value ground.now)) }
+        ensures { slice_get (conditions (problem_of Q.value ground.now)) (number self)
+            ≡ Some (condition_of Q.value result.now) };
+
+    // the ids in all conditions fit
+    ghost conditions_fit: { (P : Problem) → ProblemFits P → All (Fits P.atoms P.fluents) (conditions P) };
+}
+
+impl Conditional for EventId {
+    ghost use Rattle.plus_state.specs.Walk.{event_conditions};
+    ghost use Rattle.plus_state.specs.WalkFits.{event_conditions_fit};
+
+    ghost number = { λ e. e.0 };
+
+    ghost conditions = { event_conditions };
+
+    ghost conditions_fit = { event_conditions_fit };
+
+    fn with_number(place: u32) -> EventId {
+        EventId(place)
+    }
+
+    fn count<Q: Exact>(ground: &Ground<Q>) -> u32 {
+        ground.events.len() as u32
+    }
+
+    fn condition<Q: Exact>(self, ground: &Ground<Q>) -> &Cond<Q> {
+        &ground.events[self.0 as usize].condition
+    }
+}
+
+impl Conditional for ProcessId {
+    ghost use Rattle.plus_state.specs.Walk.{process_conditions};
+    ghost use Rattle.plus_state.specs.WalkFits.{process_conditions_fit};
+
+    ghost number = { λ p. p.0 };
+
+    ghost conditions = { process_conditions };
+
+    ghost conditions_fit = { process_conditions_fit };
+
+    fn with_number(place: u32) -> ProcessId {
+        ProcessId(place)
+    }
+
+    fn count<Q: Exact>(ground: &Ground<Q>) -> u32 {
+        ground.processes.len() as u32
+    }
+
+    fn condition<Q: Exact>(self, ground: &Ground<Q>) -> &Cond<Q> {
+        &ground.processes[self.0 as usize].condition
+    }
+}
+
+fn append_if<I: Conditional>(found: &mut Vec<I>, member: I, holds: bool) -> Result<(), AllocError>
+    ensures { IfOk result (λ _. map I.number found.new.items
+        ≡ map I.number found.old.items ++ (if holds then I.number member ∷ [] else [])) }
+{
+    if holds {
+        found.push(member)?;
+    }
+    Ok(())
+}
+
+/// Those of these members whose condition holds, in ground order. What the conditions of all others
+/// ask is known to pass, so the refusal is the first node of the conditions of all members that is no
+/// value; or want of memory. Where none of the others holds, the answer is all members that hold.
+pub fn holding_among<Q: Exact, I: Conditional>(
+    alloc: Global,
+    ground: &Ground<Q>,
+    state: &State<Q>,
+    looked_at: &[I],
+) -> Result<Vec<I>, WalkStop<Q>>
+    requires state { StateFits (length (ground.now.atoms.items)) (length (ground.now.fluents.items)) state.now }
+    requires members { AreMembers (length (I.conditions (problem_of Q.value ground.now))) (map I.number looked_at.now) }
+    requires others { OthersPass Q.fits (I.conditions (problem_of Q.value ground.now)) state.now (map I.number looked_at.now) }
+    ensures { MatchResult result
+        (λ found. AllFit Q.fits (all_asked (I.conditions (problem_of Q.value ground.now)) state.now)
+        × (map I.number found.items ≡ held_among (I.conditions (problem_of Q.value ground.now)) (map I.number looked_at.now) state.now))
+        (λ stop. WalkStops Q.value Q.fits (all_asked (I.conditions (problem_of Q.value ground.now)) state.now) stop) }
+{
+    let mut found = Vec::new(alloc);
+    'each: for member in looked_at {
+        match holds(member.condition(ground), state) {
+            Err(overflow) => return Err(WalkStop::Number(overflow)),
+            Ok(truth) => match append_if(&mut found, *member, truth) {
+                Err(_) => return Err(WalkStop::Memory),
+                Ok(()) => {}
+            },
+        }
+    }
+    Ok(found)
+}
+
+// The members with these numbers, all that there are.
+fn all_members<I: Conditional>(alloc: Global, count: u32) -> Result<Vec<I>, AllocError>
+    ensures { IfOk result (λ members. map I.number members.items ≡ numbers_from 0 count) }
+{
+    let mut members = Vec::new(alloc);
+    'each: for number in 0..count {
+        members.push(I::with_number(number))?;
+    }
+    Ok(members)
+}
+
+/// The members whose condition holds, in ground order. The refusal is the first node of the conditions
+/// of all members that is no value; or want of memory.
+pub fn holding_of_all<Q: Exact, I: Conditional>(
+    alloc: Global,
+    ground: &Ground<Q>,
+    state: &State<Q>,
+) -> Result<Vec<I>, WalkStop<Q>>
+    requires state { StateFits (length (ground.now.atoms.items)) (length (ground.now.fluents.items)) state.now }
+    ensures { MatchResult result
+        (λ found. AllFit Q.fits (all_asked (I.conditions (problem_of Q.value ground.now)) state.now)
+        × (map I.number found.items ≡ numbers_of (λ c. truth_of c state.now) 0 (I.conditions (problem_of Q.value ground.now))))
+        (λ stop. WalkStops Q.value Q.fits (all_asked (I.conditions (problem_of Q.value ground.now)) state.now) stop) }
+{
+    match all_members(alloc, I::count(ground)) {
+        Err(_) => Err(WalkStop::Memory),
+        Ok(members) => holding_among(alloc, ground, state, &members),
+    }
+}
