@@ -22,10 +22,14 @@ use Rattle.plus_state.specs.Steps.{Step, Passes, AllPass, FirstStop, add_steps}
 use Rattle.plus_state.specs.declared.outcome.JointStop.{JointStop}
 use Rattle.plus_state.specs.declared.outcome.JointStop.TheVariants.{Conflict, NoValue, Number, Memory}
 use Rattle.plus_state.specs.Stops.{StopIs}
+use Rattle.plus_state.specs.declared.walk.WalkStop.{WalkStop}
+use Rattle.plus_state.specs.declared.walk.WalkStop.TheVariants as walk_stop
+use Rattle.plus_state.specs.Walk.{event_conditions, WalkStops}
+use Rattle.plus_state.proofs.LookingLemmas.{numbers_by}
 use Rattle.plus_state.proofs.Testing.{pass_none, pass_append, fail_left, fail_right}
 use Rattle.plus_state.proofs.ApplyLemmas.{add_steps-append, dues-append}
 use Rattle.plus_state.proofs.PatchLemmas.{same_atoms, same_fluents}
-use Rattle.plus_cascade.specs.Steps.{condition_nodes}
+use Rattle.plus_cascade.specs.Rounds.{of_walk, ConditionStops}
 
 -- ids fit in a state for as many atoms and fluents
 pub all_fit : (atoms fluents : ℕ) (s : State) (es : List Event) → StateFits atoms fluents s → All (EventFits atoms fluents) es → All (EventFits (length s.atoms) (length s.fluents)) es
@@ -44,40 +48,14 @@ module _ {Q : Type 0} (v : Q → Fraction) where
   effects_here (y ∷ items) zero x h e = ap (λ (z : code.Event Q). map (effect_of v) z.effects.items) (sym e)
   effects_here (y ∷ items) (suc i) x h e = effects_here items i x (omega arith) e
 
-pub record Gathering (fits : Fraction → Type 0) (found : List ℕ) (k : ℕ) (rest whole : List Event) (s : State) : Type 0 where
-  pub inside : All (EventFits (length s.atoms) (length s.fluents)) rest
-  pub so_far : found ++ numbers_of (λ (e : Event). holds e.condition s) k rest ≡ numbers_of (λ (e : Event). holds e.condition s) 0 whole
-  pub fit : AllFit fits (condition_nodes rest s) → AllFit fits (condition_nodes whole s)
-  pub unfit : (m : Node) → FirstUnfit fits (condition_nodes rest s) m → FirstUnfit fits (condition_nodes whole s) m
-
-pub gathering_start : (fits : Fraction → Type 0) (whole : List Event) (s : State) (atoms fluents : ℕ) → StateFits atoms fluents s → All (EventFits atoms fluents) whole → Gathering fits [] 0 whole whole s
-gathering_start fits whole s atoms fluents k h = record { inside = all_fit atoms fluents s whole k h; so_far = refl; fit = λ a. a; unfit = λ m u. u }
-
-choose : (found : List ℕ) (k : ℕ) (b : Bool) (more : List ℕ) → (found ++ (if b then k ∷ [] else [])) ++ more ≡ found ++ (if b then k ∷ more else more)
-choose found k true more = append_assoc found (k ∷ []) more
-choose found k false more = ap (λ (x : List ℕ). x ++ more) (append-nil found)
-
-module _ (fits : Fraction → Type 0) (found : List ℕ) (k : ℕ) (e : Event) (rest whole : List Event) (s : State) (h : Gathering fits found k (e ∷ rest) whole s) where
-  pub gathering_inside : EventFits (length s.atoms) (length s.fluents) e
-  gathering_inside = All-head (EventFits (length s.atoms) (length s.fluents)) e rest h.inside
-
-  pub gathering_err : (m : Node) → FirstUnfit fits (tests_of e.condition s) m → FirstUnfit fits (condition_nodes whole s) m
-  gathering_err m u = h.unfit m (fail_left (NodeFits fits) _ _ m u)
-
-  pub gathering_next : (b : Bool) (new : List ℕ) → AllFit fits (tests_of e.condition s) → b ≡ holds e.condition s → new ≡ found ++ (if b then k ∷ [] else []) → Gathering fits new (k + 1) rest whole s
-  gathering_next b new a d n =
-      let one : suc k ≡ k + 1 = omega arith in
-      let more : List ℕ = numbers_of (λ (e : Event). holds e.condition s) (suc k) rest in
-      subst (λ (i : ℕ). Gathering fits new i rest whole s) one (record {
-        inside = All-tail (EventFits (length s.atoms) (length s.fluents)) e rest h.inside;
-        so_far = ap (λ (x : List ℕ). x ++ more) n ∙ choose found k b more ∙ ap (λ (c : Bool). found ++ (if c then k ∷ more else more)) d ∙ h.so_far;
-        fit = λ r. h.fit (pass_append (NodeFits fits) _ _ a r);
-        unfit = λ m u. h.unfit m (fail_right (NodeFits fits) _ _ m a u);
-      })
-
-pub gathering_end : (fits : Fraction → Type 0) (found : List ℕ) (k : ℕ) (P : Problem) (s : State) → Gathering fits found k [] P.events s → AllFit fits (condition_nodes P.events s) × (found ≡ firing P s)
+-- the events that a walk over the conditions of all finds
+pub firing_found : (P : Problem) (s : State) (found : List ℕ) → found ≡ numbers_of (λ c. holds c s) 0 (event_conditions P) → found ≡ firing P s
 unfolding firing
-gathering_end fits found k P s h = (h.fit (pass_none (NodeFits fits)), sym (append-nil found) ∙ h.so_far)
+firing_found P s found h = h ∙ numbers_by (λ (e : Event). e.condition) s 0 P.events
+
+pub walk_stops : {Q : Type 0} (v : Q → Fraction) (fits : Fraction → Type 0) (ns : List Node) (stop : WalkStop Q) → WalkStops v fits ns stop → ConditionStops v fits ns (of_walk stop)
+walk_stops v fits ns (walk_stop.Number o) u = u
+walk_stops v fits ns walk_stop.Memory u = tt
 
 -- how far the writes of events are gathered
 pub record Joining (fits : Fraction → Type 0) (P : Problem) (due : List Due) (rest whole : List ℕ) (s : State) : Type 0 where

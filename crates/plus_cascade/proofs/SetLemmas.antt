@@ -4,12 +4,12 @@ use Rattle.std.proofs.lemmas.List.{length-set, get_or-set_same, get_or-set_other
 use Rattle.std.proofs.lemmas.Bool.{eqb-true, eqb-false}
 use Rattle.std.proofs.lemmas.Option.{unwrap_or-slice_get}
 use Rattle.std.specs.Prelude.{Option, Some, find, nat_eq, if◌then◌else◌}
-use Rattle.std.proofs.lemmas.List.Elements.{All-nil, All-cons}
+use Rattle.std.proofs.lemmas.List.Elements.{All-nil, All-cons, All-head, All-tail}
 use Rattle.std.specs.List.{All}
 use Rattle.plus_model.specs.Terms.{Event, State, Problem}
 use Rattle.plus_model.specs.Value.{holds}
 use Rattle.plus_model.specs.Firing.{numbers_of, firing, is_in, first_shared}
-use Rattle.plus_cascade.specs.Fired.{has_fired, first_repeated, with_fired}
+use Rattle.plus_cascade.specs.Fired.{has_fired, first_repeated, with_fired, IsSetOf}
 use Rattle.plus_cascade.specs.Laws.{EmptyAtFirst, RoundsGoOn}
 
 none_fired : (n e : ℕ) → has_fired (replicate n false) e ≡ false
@@ -60,6 +60,10 @@ fired_more fired [] k h = sym (or_nil (has_fired fired k))
 fired_more fired (e ∷ es) k h =
     fired_more (set fired e true) es k (rw length-set h.1) ∙ ap (λ (b : Bool). b || is_in es k) (fired_here fired e k h.0) ∙ or_assoc (has_fired fired k) (nat_eq k e) (is_in es k)
 
+from_all : (n : ℕ) (es : List ℕ) → All (λ e. e < n) es → Below n es
+from_all n [] h = tt
+from_all n (e ∷ es) h = (All-head (λ e. e < n) e es h, from_all n es (All-tail (λ e. e < n) e es h))
+
 in_append : (xs ys : List ℕ) (k : ℕ) → is_in (xs ++ ys) k ≡ is_in xs k || is_in ys k
 in_append [] ys k = refl
 in_append (x ∷ xs) ys k = ap (λ (b : Bool). nat_eq k x || b) (in_append xs ys k) ∙ sym (or_assoc (nat_eq k x) (is_in xs k) (is_in ys k))
@@ -79,6 +83,15 @@ all_below n (e ∷ es) h = All-cons (λ e. e < n) e es h.0 (all_below n es h.1)
 pub firing_all : (P : Problem) (s : State) (n : ℕ) (es : List ℕ) → length P.events ≡ n → es ≡ firing P s → All (λ e. e < n) es
 firing_all P s n es h e = subst (λ (xs : List ℕ). All (λ e. e < n) xs) (sym e) (all_below n (firing P s) (firing_below P s n h))
 
+-- the set with these events too is that of the list with them
+grown : (fired : List Bool) (before es : List ℕ) → Below (length fired) es → IsSetOf fired before → IsSetOf (with_fired fired es) (before ++ es)
+grown fired before es h same = record {
+  same = λ k. fired_more fired es k h ∙ ap (λ (b : Bool). b || is_in es k) (same.same k) ∙ sym (in_append before es k);
+}
+
+pub set_grows : (fired set : List Bool) (es : List ℕ) → All (λ e. e < length fired) es → set ≡ with_fired fired es → (before : List ℕ) → IsSetOf fired before → IsSetOf set (before ++ es)
+set_grows fired set es h e before same = subst (λ (x : List Bool). IsSetOf x (before ++ es)) (sym e) (grown fired before es (from_all _ es h) same)
+
 pub rounds_go_on : RoundsGoOn
 unfolding first_shared first_repeated
 rounds_go_on P fired before s events after n same f = (
@@ -88,7 +101,5 @@ rounds_go_on P fired before s events after n same f = (
     fresh = sym (find_same (has_fired fired) (is_in before) events same.same) ∙ f.fresh;
     effect = f.effect;
   },
-  record {
-    same = λ k. fired_more fired events k (subst (Below (length fired)) (sym f.all) (firing_below P s (length fired) (sym n))) ∙ ap (λ (b : Bool). b || is_in events k) (same.same k) ∙ sym (in_append before events k);
-  },
+  grown fired before events (subst (Below (length fired)) (sym f.all) (firing_below P s (length fired) (sym n))) same,
 )

@@ -1,11 +1,7 @@
 -- The set of the events that have fired in a cascade: one truth for each event, by its number.
-use Rattle.std.specs.Prelude.{◌≡◌, ℕ, Bool, true, false, List, [], ◌∷◌, Option, map, find, slice_get, slice_set, unwrap_or}
+use Rattle.std.specs.Prelude.{◌≡◌, ℕ, Bool, true, false, List, [], ◌∷◌, Option, find, slice_get, slice_set, unwrap_or}
 use Rattle.plus_model.specs.Firing.{is_in}
-use Rattle.plus_state.specs.declared.term.EventId.{EventId}
-
--- the numbers of events
-abbrev pub event_numbers : List EventId → List ℕ
-event_numbers events = map (λ e. e.0) events
+pub use Rattle.plus_state.specs.Numbers.{event_numbers}
 
 -- whether the event has fired
 abbrev pub has_fired : List Bool → ℕ → Bool

@@ -7,6 +7,8 @@ use Rattle.plus_model.specs.Joint.{Fault, joint}
 use Rattle.plus_model.specs.Firing.{firing, effects_of}
 use Rattle.plus_state.specs.declared.outcome.JointStop.{JointStop}
 use Rattle.plus_state.specs.declared.outcome.JointStop.TheVariants as joint_stop
+use Rattle.plus_state.specs.declared.walk.WalkStop.{WalkStop}
+use Rattle.plus_state.specs.declared.walk.WalkStop.TheVariants as walk_stop
 use Rattle.plus_state.specs.Node.{Node}
 use Rattle.plus_state.specs.View.{overflow_of}
 use Rattle.plus_state.specs.Asked.{FirstUnfit}
@@ -15,7 +17,8 @@ use Rattle.plus_cascade.specs.declared.rounds.CascadeStop.{CascadeStop}
 use Rattle.plus_cascade.specs.declared.rounds.CascadeStop.TheVariants.{Repeats, Conflict, NoValue, Number, Memory}
 use Rattle.plus_cascade.specs.declared.rounds.FiredRound.{FiredRound}
 use Rattle.plus_cascade.specs.declared.rounds.DueRound.{DueRound}
-use Rattle.plus_cascade.specs.Fired.{event_numbers, first_repeated, with_fired}
+use Rattle.plus_state.specs.Numbers.{event_numbers}
+use Rattle.plus_cascade.specs.Fired.{first_repeated, with_fired}
 use Rattle.plus_cascade.specs.Steps.{RoundStep, asks, fails, repeats, AllPass, FirstStop, round_steps}
 
 -- all events that hold fire together, there is one, and none of them is in the set of those that have fired
@@ -79,6 +82,11 @@ of_joint (joint_stop.Conflict f) = Conflict f
 of_joint (joint_stop.NoValue f) = NoValue f
 of_joint (joint_stop.Number o) = Number o
 of_joint joint_stop.Memory = Memory
+
+-- the stop of a walk over conditions as that of a round
+abbrev pub of_walk : {Q : Type 0} → WalkStop Q → CascadeStop Q
+of_walk (walk_stop.Number o) = Number o
+of_walk walk_stop.Memory = Memory
 
 -- the first of these nodes that does not fit, or want of memory
 abbrev pub ConditionStops : {Q : Type 0} → (Q → Fraction) → (Fraction → Type 0) → List Node → CascadeStop Q → Type 0

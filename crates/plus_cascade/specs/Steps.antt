@@ -9,7 +9,7 @@ use Rattle.plus_model.specs.Firing.{firing, effects_of}
 use Rattle.plus_state.specs.Node.{Node}
 use Rattle.plus_state.specs.Tested as tested
 use Rattle.plus_state.specs.Asked.{NodeFits}
-use Rattle.plus_state.specs.Tests.{tests_of}
+use Rattle.plus_state.specs.Walk.{all_asked}
 use Rattle.plus_state.specs.Steps as joint
 use Rattle.plus_state.specs.Steps.{Step, joint_steps}
 use Rattle.plus_cascade.specs.Fired.{first_repeated}
@@ -41,8 +41,7 @@ of_step (joint.fault f) = fails f
 
 -- what the conditions of these events ask
 abbrev pub condition_nodes : List Event → State → List Node
-condition_nodes [] s = []
-condition_nodes (e ∷ es) s = tests_of e.condition s ++ condition_nodes es s
+condition_nodes es s = all_asked (map (λ (e : Event). e.condition) es) s
 
 abbrev pub repeat_steps : Option ℕ → List RoundStep
 repeat_steps None = []

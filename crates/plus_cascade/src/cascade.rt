@@ -1,6 +1,6 @@
 //! The events that have fired in a cascade.
-ghost use Rattle.std.specs.Prelude.{◌≡◌, ◌<◌, false, length, replicate, option_map, All, IfOk};
-ghost use Rattle.plus_cascade.specs.Fired.{event_numbers, with_fired, first_repeated};
+ghost use Rattle.std.specs.Prelude.{◌≡◌, ◌<◌, ◌++◌, ℕ, List, false, [], length, replicate, option_map, All, IfOk};
+ghost use Rattle.plus_cascade.specs.Fired.{event_numbers, with_fired, first_repeated, IsSetOf};
 
 use plus_number::exact::Exact;
 use plus_state::bits::Bits;
@@ -60,10 +60,22 @@ impl Cascade {
     pub fn add(&mut self, events: &[EventId])
         requires { All (λ e. e < length self.old) (event_numbers events.now) }
         ensures set { self.new ≡ with_fired self.old (event_numbers events.now) }
+        ensures grows { (before : List ℕ) → IsSetOf self.old before → IsSetOf self.new (before ++ event_numbers events.now) }
         ensures size { length self.new ≡ length self.old }
     {
         'each: for event in events {
             self.fired.set(event.0, true);
+        }
+    }
+
+    /// These events have not fired. Where they are all that have, the set is empty then.
+    pub fn clear(&mut self, events: &[EventId])
+        requires { All (λ e. e < length self.old) (event_numbers events.now) }
+        ensures empty { IsSetOf self.old (event_numbers events.now) → IsSetOf self.new [] }
+        ensures size { length self.new ≡ length self.old }
+    {
+        'each: for event in events {
+            self.fired.set(event.0, false);
         }
     }
 }

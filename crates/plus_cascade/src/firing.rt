@@ -1,14 +1,14 @@
 //! The events that hold, and what they change together.
-ghost use Rattle.std.specs.Prelude.{◌≡◌, ◌<◌, [], ◌∷◌, ◌++◌, length, map, All, IfOk, OnErr, MatchResult, if◌then◌else◌};
+ghost use Rattle.std.specs.Prelude.{◌≡◌, ◌<◌, length, All, IfOk, MatchResult};
 ghost use Rattle.plus_model.specs.Firing.{firing as firing_of, effects_of};
 ghost use Rattle.plus_state.specs.View.{problem_of};
 ghost use Rattle.plus_state.specs.Fits.{StateFits};
 ghost use Rattle.plus_state.specs.Changes.{RisesIn};
 ghost use Rattle.plus_state.specs.Asked.{AllFit};
 ghost use Rattle.plus_state.specs.Applies.{ChangesJointly};
-ghost use Rattle.plus_cascade.specs.Fired.{event_numbers};
+ghost use Rattle.plus_state.specs.Numbers.{event_numbers};
 ghost use Rattle.plus_cascade.specs.Steps.{condition_nodes};
-ghost use Rattle.plus_cascade.specs.Rounds.{ConditionStops};
+ghost use Rattle.plus_cascade.specs.Rounds.{ConditionStops, of_walk};
 
 use crate::rounds::CascadeStop;
 use plus_number::exact::Exact;
@@ -18,17 +18,17 @@ use plus_state::outcome::JointStop;
 use plus_state::problem::Ground;
 use plus_state::states::State;
 use plus_state::term::EventId;
-use plus_state::truth::holds;
-use std::alloc::{AllocError, Global};
+use plus_state::walk::{WalkStop, holding_of_all};
+use std::alloc::Global;
 
-fn append_if(events: &mut Vec<EventId>, event: EventId, holds: bool) -> Result<(), AllocError>
-    ensures { IfOk result (λ _. event_numbers events.new.items
-        ≡ event_numbers events.old.items ++ (if holds then event.0 ∷ [] else [])) }
+// The stop of a walk as that of a round.
+fn walk_stop<Q: Exact>(stop: WalkStop<Q>) -> CascadeStop<Q>
+    ensures { result ≡ of_walk stop }
 {
-    if holds {
-        events.push(event)?;
+    match stop {
+        WalkStop::Number(overflow) => CascadeStop::Number(overflow),
+        WalkStop::Memory => CascadeStop::Memory,
     }
-    Ok(())
 }
 
 // The events whose condition holds, in ground order.
@@ -43,17 +43,10 @@ pub fn firing<Q: Exact>(
         × (event_numbers events.items ≡ firing_of (problem_of Q.value ground.now) state.now))
         (λ stop. ConditionStops Q.value Q.fits (condition_nodes ((problem_of Q.value ground.now).events) state.now) stop) }
 {
-    let mut events = Vec::new(alloc);
-    'each: for number in 0..ground.events.len() {
-        match holds(&ground.events[number].condition, state) {
-            Err(overflow) => return Err(CascadeStop::Number(overflow)),
-            Ok(truth) => match append_if(&mut events, EventId(number as u32), truth) {
-                Err(_) => return Err(CascadeStop::Memory),
-                Ok(()) => {}
-            },
-        }
+    match holding_of_all(alloc, ground, state) {
+        Ok(events) => Ok(events),
+        Err(stop) => Err(walk_stop(stop)),
     }
-    Ok(events)
 }
 
 // What all effects of these events change at once.
