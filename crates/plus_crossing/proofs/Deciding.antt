@@ -1,6 +1,6 @@
 -- What atoms decide stays decided along rates, and asks nothing.
-use Rattle.std.proofs.Common.{◌≡◌, ℕ, Bool, true, false, List, sym, subst, ◌∙◌, refl}
-use Rattle.std.specs.Prelude.{Option, Some, None}
+use Rattle.std.proofs.Common.{◌≡◌, Bool, ◌∙◌}
+use Rattle.std.specs.Prelude.{Some}
 use Rattle.plus_model.specs.Terms.{Condition, Always, Never, Both, Either, Atom, Compare, State}
 use Rattle.plus_model.specs.Value.{holds}
 use Rattle.plus_model.specs.Live.{live}

@@ -1,7 +1,7 @@
 -- What an operation on two sides asks, by what its sides ask.
-use Rattle.std.proofs.Common.{◌≡◌, ℕ, List, [], ◌∷◌, ◌++◌, refl, ap, ap₂, sym, subst, ◌∙◌, inl, inr}
+use Rattle.std.proofs.Common.{◌≡◌, ℕ, List, ◌++◌, ap, ap₂, subst, ◌∙◌}
 use Rattle.plus_fraction.specs.Fraction.{Fraction, ◌+ℚ◌, ◌-ℚ◌}
-use Rattle.plus_model.specs.Piece.{Piece, Missing, Crooked, Straight, on_pieces, product_piece, quotient_piece}
+use Rattle.plus_model.specs.Piece.{Piece, Missing, Straight, on_pieces, product_piece, quotient_piece}
 use Rattle.plus_crossing.specs.Asked.{Ask, asks, straight, Passes, AllPass, FirstFailing, number, numbered}
 use Rattle.plus_state.specs.Tested.{Carries}
 use Rattle.plus_state.proofs.Testing.{pass_none, pass_append, fail_left, fail_right, carry_pass, carry_back, carry_fail}

@@ -5,6 +5,7 @@ pub mod TruthAfter
 pub mod NextRoot
 pub mod Deciding
 pub mod Walking
+pub mod Rated
 pub mod Moving
 pub mod Steady
 pub mod Straight

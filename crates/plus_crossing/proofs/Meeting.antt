@@ -1,13 +1,13 @@
 -- Two lines whose values and slopes stand in opposite orders meet once, above 0, and other lines of different slopes do not.
-use Rattle.std.proofs.Common.{◌≡◌, ◌∙◌, sym, ap, subst, true, false, Bool, pos, List, [], ◌∷◌, refl, inl, inr}
+use Rattle.std.proofs.Common.{◌≡◌, ◌∙◌, sym, ap, subst, true, false, pos, [], ◌∷◌, refl, inl, inr}
 use Rattle.std.specs.declared.cmp.Ordering.{Ordering}
 use Rattle.std.specs.declared.cmp.Ordering.TheVariants.{Less, Equal, Greater}
 use Rattle.plus_fraction.specs.Fraction.{Fraction, whole, ◌+ℚ◌, ◌-ℚ◌, ◌*ℚ◌, ◌/ℚ◌, ◌<ℚ◌, neg_ℚ, compared}
 use Rattle.plus_fraction.proofs.Ring.{var, num, ◌⊕◌, ◌⊖◌, ◌⊗◌, minus}
 use Rattle.plus_fraction.proofs.FractionRing.{ringℚ}
 use Rattle.plus_fraction.proofs.FractionSigns.{/ℚ-mul, lt_sub, lt_of_sub, below_cancel}
-use Rattle.plus_fraction.proofs.FractionOrder.{<ℚ_irrefl, <ℚ_trans, <ℚ_or, *ℚ-lt}
-use Rattle.plus_fraction.proofs.Compared.{compared-less, compared-equal, compared-greater}
+use Rattle.plus_fraction.proofs.FractionOrder.{<ℚ_irrefl, <ℚ_or, *ℚ-lt}
+use Rattle.plus_fraction.proofs.Compared.{compared-less, compared-greater}
 use Rattle.plus_fraction.proofs.Compared.{less-compared, greater-compared}
 use Rattle.plus_model.proofs.Along.{mul_cancel}
 use Rattle.plus_crossing.specs.Roots.{IsRoot, opposite, meets_later, meeting_asks, root_asks}

@@ -1,7 +1,7 @@
 -- How far fluents are moved.
-use Rattle.std.proofs.Common.{◌≡◌, ℕ, ◌<◌, ◌≤◌, ◌+◌, zero, suc, Bool, true, false, List, [], ◌∷◌, ◌++◌, length, get_or, set, drop, refl, ap, sym, subst, ◌∙◌, append_assoc, arith, pos, inl, inr, length-append}
-use Rattle.std.proofs.lemmas.List.{length-set, set_at, append-nil}
-use Rattle.std.specs.Prelude.{Option, Some, None, option_map, slice_get, unwrap_or, if◌then◌else◌}
+use Rattle.std.proofs.Common.{◌≡◌, ℕ, ◌<◌, ◌+◌, zero, suc, Bool, true, false, List, [], ◌∷◌, ◌++◌, length, set, drop, refl, ap, sym, subst, ◌∙◌, append_assoc, arith, pos, inl, inr, length-append}
+use Rattle.std.proofs.lemmas.List.{length-set, set_at}
+use Rattle.std.specs.Prelude.{Option, Some, None, slice_get, unwrap_or, if◌then◌else◌}
 use Rattle.plus_fraction.specs.Fraction.{Fraction, whole, ◌+ℚ◌, ◌*ℚ◌}
 use Rattle.plus_fraction.proofs.Ring.{var, num, ◌⊕◌, ◌⊗◌}
 use Rattle.plus_fraction.proofs.FractionRing.{ringℚ}
@@ -12,7 +12,7 @@ use Rattle.plus_model.specs.Running.{moved_values, moved}
 use Rattle.plus_model.proofs.Along.{from_zero}
 use Rattle.plus_state.specs.declared.term.Sign.TheVariants.{Plus, Times}
 use Rattle.plus_state.specs.Node.{Node}
-use Rattle.plus_state.specs.Asked.{node, result_of, NodeFits, AllFit, FirstUnfit}
+use Rattle.plus_state.specs.Asked.{node, NodeFits, AllFit, FirstUnfit}
 use Rattle.plus_state.specs.Fits.{StateFits}
 use Rattle.plus_state.specs.Tested as tested
 use Rattle.plus_state.proofs.Testing.{pass_none, pass_append, fail_left, fail_right}

@@ -1,19 +1,19 @@
 -- The least root, by cases; what this asks.
-use Rattle.std.proofs.Common.{◌≡◌, true, false, Bool, List, [], ◌∷◌, ◌++◌, ◌&&◌, refl, ap, ap₂, sym, subst, ◌∙◌, if◌then◌else◌, inl, inr, ◌⊎◌}
+use Rattle.std.proofs.Common.{◌≡◌, true, false, Bool, List, ◌++◌, refl, ap, sym, subst, if◌then◌else◌, inl, inr, ◌⊎◌}
 use Rattle.std.specs.Prelude.{Option, Some, None}
 use Rattle.std.specs.declared.cmp.Ordering.{Ordering}
 use Rattle.std.specs.declared.cmp.Ordering.TheVariants.{Less, Equal, Greater}
 use Rattle.plus_fraction.specs.Fraction.{Fraction, ◌<ℚ◌, compared}
 use Rattle.plus_fraction.proofs.FractionOrder.{<ℚ_irrefl, <ℚ_trans, <ℚ_or}
-use Rattle.plus_fraction.proofs.Compared.{compared-less, compared-equal, compared-greater}
+use Rattle.plus_fraction.proofs.Compared.{compared-less}
 use Rattle.plus_fraction.proofs.Compared.{less-compared}
 use Rattle.plus_model.specs.Terms.{Below}
 use Rattle.plus_model.specs.Value.{passes}
-use Rattle.plus_model.specs.Piece.{Piece, Missing, Crooked, Straight}
+use Rattle.plus_model.specs.Piece.{Piece, Missing, Straight}
 use Rattle.plus_crossing.specs.Asked.{Ask, Passes, AllPass, FirstFailing}
 use Rattle.plus_crossing.specs.Pieces.{if_straight}
 use Rattle.plus_crossing.specs.Roots.{IsRoot, root_asks}
-use Rattle.plus_crossing.specs.Next.{root_on, cross_sides, RootSides, RootOpen, Nowhere, IsLeast, IsNext, is_below, lesser}
+use Rattle.plus_crossing.specs.Next.{root_on, cross_sides, RootSides, IsNext, is_below, lesser}
 use Rattle.plus_state.proofs.Testing.{pass_none, pass_append, fail_left, fail_right}
 use Rattle.plus_crossing.proofs.Meeting.{one_root}
 

@@ -1,21 +1,30 @@
 -- The changes of a state that moves.
-use Rattle.std.proofs.Common.{◌≡◌, ℕ, ◌<◌, ◌≤◌, ◌+◌, zero, suc, Bool, true, false, List, [], ◌∷◌, ◌++◌, length, drop, refl, ap, ap₂, sym, subst, ◌∙◌, append_assoc, arith, pos, length-append}
-use Rattle.std.proofs.lemmas.List.{set_at, append-nil}
-use Rattle.std.specs.Prelude.{Option, Some, None, slice_get, unwrap_or, if◌then◌else◌}
-use Rattle.plus_fraction.specs.Fraction.{Fraction, whole, ◌+ℚ◌, ◌*ℚ◌}
+use Rattle.std.proofs.Common.{◌≡◌, ℕ, ◌<◌, ◌≤◌, ◌+◌, zero, suc, Bool, true, false, List, [], ◌∷◌, ◌++◌, length, get_or, drop, refl, ap, ap₂, sym, subst, ◌∙◌, append_assoc, arith, pos, length-append, drop-cons}
+use Rattle.std.proofs.lemmas.List.{set_at, append-nil, drop_all}
+use Rattle.std.specs.Prelude.{Option, Some, None, not, slice_get, unwrap_or, if◌then◌else◌}
+use Rattle.plus_fraction.specs.Fraction.{Fraction, ◌+ℚ◌, ◌*ℚ◌}
 use Rattle.plus_fraction.proofs.Ring.{var, num, ◌⊕◌, ◌⊗◌}
 use Rattle.plus_fraction.proofs.FractionRing.{ringℚ}
 use Rattle.plus_model.specs.Terms.{State}
 use Rattle.plus_model.specs.Value.{is_zero}
+use Rattle.plus_model.specs.Firing.{numbers_of}
+use Rattle.plus_model.specs.Piece.{rate_of}
 use Rattle.plus_model.specs.Running.{moved_values, moved}
 use Rattle.plus_model.proofs.Along.{from_zero}
+use Rattle.plus_state.specs.declared.term.FluentId.{FluentId}
+use Rattle.plus_state.specs.declared.term.Sign.TheVariants.{Plus, Times}
 use Rattle.plus_state.specs.Node.{Node}
-use Rattle.plus_state.specs.Asked.{NodeFits, AllFit, FirstUnfit}
+use Rattle.plus_state.specs.Asked.{node, NodeFits, AllFit, FirstUnfit}
+use Rattle.plus_state.specs.View.{overflow_of}
 use Rattle.plus_state.specs.declared.changes.AtomChange.{AtomChange}
 use Rattle.plus_state.specs.ChangesView.{atom_changes}
 use Rattle.plus_state.specs.Changes.{Changes, patched_list, patched, AreIn, Over, Rises, RisesIn}
 use Rattle.plus_state.proofs.Testing.{pass_none, pass_append, fail_left, fail_right}
-use Rattle.plus_crossing.specs.Moves.{moved_value, fluent_nodes, moved_nodes, change_if, moving_changes, MovesTo}
+use Rattle.plus_crossing.specs.declared.moves.MoveStop.{MoveStop}
+use Rattle.plus_crossing.specs.declared.moves.MoveStop.TheVariants.{Number, Memory}
+use Rattle.plus_crossing.specs.Rated.{moving_of, fluent_numbers}
+use Rattle.plus_crossing.specs.Moves.{moved_value, fluent_nodes, moved_nodes, change_if, moving_changes, MovesTo, MoveStops}
+use Rattle.plus_crossing.proofs.Moving.{next_rate}
 
 -- ---- the list of changes leads to the moment
 no_time : (v : Option Fraction) (r x y : Fraction) → is_zero r ≡ true → moved_value v r x ≡ moved_value v r y
@@ -92,34 +101,127 @@ next_value (v ∷ vs) (suc i) h =
     let e : suc i + 1 ≡ suc (i + 1) = omega arith in
     next_value vs i (omega arith) ∙ ap (λ (n : ℕ). unwrap_or (slice_get vs i) None ∷ drop n (v ∷ vs)) (sym e)
 
-pub record Noting (fits : Fraction → Type 0) (found : List (ℕ × Option Fraction)) (k : ℕ) (vs : List (Option Fraction)) (rs : List Fraction) (x : Fraction) (all : List (Option Fraction)) (whole : List Fraction) : Type 0 where
-  pub so_far : found ++ moving_changes k vs rs x ≡ moving_changes 0 all whole x
-  pub fit : AllFit fits (moved_nodes vs rs x) → AllFit fits (moved_nodes all whole x)
-  pub unfit : (m : Node) → FirstUnfit fits (moved_nodes vs rs x) m → FirstUnfit fits (moved_nodes all whole x) m
+-- ---- the fluents that move alone
+abbrev pub changes_among : List ℕ → List (Option Fraction) → List Fraction → Fraction → List (ℕ × Option Fraction)
+changes_among [] vs rs x = []
+changes_among (k ∷ ks) vs rs x = (k, moved_value (unwrap_or (slice_get vs k) None) (rate_of rs k) x) ∷ changes_among ks vs rs x
 
-pub noting_start : (fits : Fraction → Type 0) (found : List (ℕ × Option Fraction)) (x : Fraction) (all : List (Option Fraction)) (whole : List Fraction) → found ≡ [] → Noting fits found 0 all whole x all whole
-noting_start fits found x all whole e = record { so_far = ap (λ (l : List (ℕ × Option Fraction)). l ++ moving_changes 0 all whole x) e; fit = λ a. a; unfit = λ m u. u }
+abbrev pub nodes_among : List ℕ → List (Option Fraction) → List Fraction → Fraction → List Node
+nodes_among [] vs rs x = []
+nodes_among (k ∷ ks) vs rs x = fluent_nodes (unwrap_or (slice_get vs k) None) (rate_of rs k) x ++ nodes_among ks vs rs x
 
-module _ (fits : Fraction → Type 0) (found : List (ℕ × Option Fraction)) (k : ℕ) (v : Option Fraction) (vs : List (Option Fraction)) (r : Fraction) (rs : List Fraction) (x : Fraction) (all : List (Option Fraction)) (whole : List Fraction) (h : Noting fits found k (v ∷ vs) (r ∷ rs) x all whole) where
-  pub noting_err : (w : Option Fraction) (q : Fraction) (m : Node) → w ≡ v → q ≡ r → FirstUnfit fits (fluent_nodes w q x) m → FirstUnfit fits (moved_nodes all whole x) m
-  noting_err w q m e d u =
-      h.unfit m (fail_left (NodeFits fits) _ _ m (subst (λ (y : Option Fraction). FirstUnfit fits (fluent_nodes y r x) m) e (subst (λ (y : Fraction). FirstUnfit fits (fluent_nodes w y x) m) d u)))
+one_change : (b : Bool) (k : ℕ) (ks : List ℕ) (vs : List (Option Fraction)) (rs : List Fraction) (x : Fraction) → changes_among (if not b then k ∷ ks else ks) vs rs x ≡ (if b then [] else (k, moved_value (unwrap_or (slice_get vs k) None) (rate_of rs k) x) ∷ []) ++ changes_among ks vs rs x
+one_change true k ks vs rs x = refl
+one_change false k ks vs rs x = refl
 
-  pub noting_next : (w now : Option Fraction) (q : Fraction) (new : List (ℕ × Option Fraction)) → w ≡ v → q ≡ r → AllFit fits (fluent_nodes w q x) → now ≡ moved_value w q x → new ≡ found ++ (if is_zero q then [] else (k, now) ∷ []) → Noting fits new (k + 1) vs rs x all whole
-  noting_next w now q new e d a f n =
-      let b : AllFit fits (fluent_nodes v r x) = subst (λ (y : Option Fraction). AllFit fits (fluent_nodes y r x)) e (subst (λ (y : Fraction). AllFit fits (fluent_nodes w y x)) d a) in
-      let one : suc k ≡ k + 1 = omega arith in
-      let is : new ≡ found ++ change_if k v r x =
-      n ∙ ap (λ (y : Option Fraction). found ++ (if is_zero q then [] else (k, y) ∷ [])) (f ∙ ap (λ (y : Option Fraction). moved_value y q x) e)
-      ∙ ap (λ (y : Fraction). found ++ change_if k v y x) d in
-      subst (λ (i : ℕ). Noting fits new i vs rs x all whole) one (record {
-        so_far = ap (λ (l : List (ℕ × Option Fraction)). l ++ moving_changes (suc k) vs rs x) is ∙ append_assoc found (change_if k v r x) (moving_changes (suc k) vs rs x) ∙ h.so_far;
-        fit = λ c. h.fit (pass_append (NodeFits fits) _ _ b c);
+no_nodes : (v : Option Fraction) (r x : Fraction) → is_zero r ≡ true → [] ≡ fluent_nodes v r x
+unfolding fluent_nodes
+no_nodes None r x e = refl
+no_nodes (Some v) r x e = ap (λ (b : Bool). if b then [] else node Times r x ∷ node Plus v (r *ℚ x) ∷ []) (sym e)
+
+one_asked : (b : Bool) (k : ℕ) (ks : List ℕ) (vs : List (Option Fraction)) (rs : List Fraction) (x : Fraction) → is_zero (rate_of rs k) ≡ b → nodes_among (if not b then k ∷ ks else ks) vs rs x ≡ fluent_nodes (unwrap_or (slice_get vs k) None) (rate_of rs k) x ++ nodes_among ks vs rs x
+one_asked true k ks vs rs x e = ap (λ (ns : List Node). ns ++ nodes_among ks vs rs x) (no_nodes (unwrap_or (slice_get vs k) None) (rate_of rs k) x e)
+one_asked false k ks vs rs x e = refl
+
+-- the numbers of those that move, from k on, with what they change and ask
+pub record Among (k : ℕ) (vs : List (Option Fraction)) (rs : List Fraction) (x : Fraction) : Type 0 where
+  pub changes : changes_among (numbers_of (λ r. not (is_zero r)) k (drop k rs)) vs rs x ≡ moving_changes k (drop k vs) (drop k rs) x
+  pub nodes : nodes_among (numbers_of (λ r. not (is_zero r)) k (drop k rs)) vs rs x ≡ moved_nodes (drop k vs) (drop k rs) x
+
+next_among : (k : ℕ) (vs : List (Option Fraction)) (rs : List Fraction) (x : Fraction) → k < length vs → k < length rs → Among (suc k) vs rs x → Among k vs rs x
+next_among k vs rs x h l a =
+    let one : k + 1 ≡ suc k = omega arith in
+    let ks : List ℕ = numbers_of (λ r. not (is_zero r)) (suc k) (drop (suc k) rs) in
+    let v : Option Fraction = unwrap_or (slice_get vs k) None in
+    let r : Fraction = rate_of rs k in
+    let d : drop k vs ≡ v ∷ drop (suc k) vs = next_value vs k h ∙ ap (λ (i : ℕ). v ∷ drop i vs) one in
+    let e : drop k rs ≡ r ∷ drop (suc k) rs = next_rate rs k l ∙ ap (λ (i : ℕ). r ∷ drop i rs) one in
+    record {
+      changes = ap (λ (qs : List Fraction). changes_among (numbers_of (λ q. not (is_zero q)) k qs) vs rs x) e
+          ∙ one_change (is_zero r) k ks vs rs x
+          ∙ ap (λ (cs : List (ℕ × Option Fraction)). change_if k v r x ++ cs) a.changes
+          ∙ sym (ap₂ (λ (ws : List (Option Fraction)) (qs : List Fraction). moving_changes k ws qs x) d e);
+      nodes = ap (λ (qs : List Fraction). nodes_among (numbers_of (λ q. not (is_zero q)) k qs) vs rs x) e
+          ∙ one_asked (is_zero r) k ks vs rs x refl
+          ∙ ap (λ (ns : List Node). fluent_nodes v r x ++ ns) a.nodes
+          ∙ sym (ap₂ (λ (ws : List (Option Fraction)) (qs : List Fraction). moved_nodes ws qs x) d e);
+    }
+
+among : (n k : ℕ) (vs : List (Option Fraction)) (rs : List Fraction) (x : Fraction) → k + n ≡ length vs → length rs ≡ length vs → Among k vs rs x
+among zero k vs rs x h l =
+    let d : drop k vs ≡ [] = drop_all k vs (omega arith) in
+    let e : drop k rs ≡ [] = drop_all k rs (omega arith) in
+    record {
+      changes = ap (λ (qs : List Fraction). changes_among (numbers_of (λ q. not (is_zero q)) k qs) vs rs x) e
+          ∙ sym (ap₂ (λ (ws : List (Option Fraction)) (qs : List Fraction). moving_changes k ws qs x) d e);
+      nodes = ap (λ (qs : List Fraction). nodes_among (numbers_of (λ q. not (is_zero q)) k qs) vs rs x) e
+          ∙ sym (ap₂ (λ (ws : List (Option Fraction)) (qs : List Fraction). moved_nodes ws qs x) d e);
+    }
+among (suc n) k vs rs x h l = next_among k vs rs x (omega arith) (omega arith) (among n (suc k) vs rs x (omega arith) l)
+
+-- each number is below n
+abbrev pub Inside : ℕ → List ℕ → Type 0
+Inside n [] = Unit {0}
+Inside n (k ∷ ks) = (k < n) × Inside n ks
+
+inside_if : (b : Bool) (n k : ℕ) (ks : List ℕ) → k < n → Inside n ks → Inside n (if b then k ∷ ks else ks)
+inside_if true n k ks h i = (h, i)
+inside_if false n k ks h i = i
+
+numbers_inside : {A : Type 0} (test : A → Bool) (n k : ℕ) (xs : List A) → k + length xs ≤ n → Inside n (numbers_of test k xs)
+numbers_inside test n k [] h = tt
+numbers_inside test n k (x ∷ xs) h = inside_if (test x) n k (numbers_of test (suc k) xs) (omega arith) (numbers_inside test n (suc k) xs (omega arith))
+
+pub record Noting (fits : Fraction → Type 0) (found : List (ℕ × Option Fraction)) (ks : List ℕ) (vs : List (Option Fraction)) (rs : List Fraction) (x : Fraction) : Type 0 where
+  pub inside : Inside (length vs) ks
+  pub so_far : found ++ changes_among ks vs rs x ≡ moving_changes 0 vs rs x
+  pub fit : AllFit fits (nodes_among ks vs rs x) → AllFit fits (moved_nodes vs rs x)
+  pub unfit : (m : Node) → FirstUnfit fits (nodes_among ks vs rs x) m → FirstUnfit fits (moved_nodes vs rs x) m
+
+pub noting_start : (fits : Fraction → Type 0) (found : List (ℕ × Option Fraction)) (ks : List ℕ) (vs : List (Option Fraction)) (rs : List Fraction) (x : Fraction) → found ≡ [] → ks ≡ moving_of rs → length rs ≡ length vs → Noting fits found ks vs rs x
+noting_start fits found ks vs rs x e d l =
+    let z : 0 + length vs ≡ length vs = omega arith in
+    let a = among (length vs) 0 vs rs x z l in
+    let n : nodes_among ks vs rs x ≡ moved_nodes vs rs x = ap (λ (js : List ℕ). nodes_among js vs rs x) d ∙ a.nodes in
+    record {
+      inside = subst (Inside (length vs)) (sym d) (numbers_inside (λ r. not (is_zero r)) (length vs) 0 rs (omega arith));
+      so_far = ap₂ (λ (f : List (ℕ × Option Fraction)) (js : List ℕ). f ++ changes_among js vs rs x) e d ∙ a.changes;
+      fit = subst (AllFit fits) n;
+      unfit = λ m. subst (λ (ns : List Node). FirstUnfit fits ns m) n;
+    }
+
+module _ (fits : Fraction → Type 0) (found : List (ℕ × Option Fraction)) (k : ℕ) (ks : List ℕ) (vs : List (Option Fraction)) (rs : List Fraction) (x : Fraction) (h : Noting fits found (k ∷ ks) vs rs x) where
+  pub noting_inside : k < length vs
+  noting_inside = h.inside.0
+
+  pub noting_stop : {Q : Type 0} (v : Q → Fraction) (w : Option Fraction) (q : Fraction) (stop : MoveStop Q) → w ≡ unwrap_or (slice_get vs k) None → q ≡ rate_of rs k → MoveStops v fits (fluent_nodes w q x) stop → MoveStops v fits (moved_nodes vs rs x) stop
+  noting_stop v w q (Number o) e d u =
+      h.unfit (overflow_of v o) (fail_left (NodeFits fits) _ _ (overflow_of v o) (subst (λ (y : Option Fraction). FirstUnfit fits (fluent_nodes y (rate_of rs k) x) (overflow_of v o)) e (subst (λ (y : Fraction). FirstUnfit fits (fluent_nodes w y x) (overflow_of v o)) d u)))
+  noting_stop v w q Memory e d u = tt
+
+  pub noting_next : (w : Option Fraction) (q : Fraction) (new : List (ℕ × Option Fraction)) → w ≡ unwrap_or (slice_get vs k) None → q ≡ rate_of rs k → AllFit fits (fluent_nodes w q x) → new ≡ found ++ (k, moved_value w q x) ∷ [] → Noting fits new ks vs rs x
+  noting_next w q new e d a n =
+      let c : ℕ × Option Fraction = (k, moved_value (unwrap_or (slice_get vs k) None) (rate_of rs k) x) in
+      let b : AllFit fits (fluent_nodes (unwrap_or (slice_get vs k) None) (rate_of rs k) x) = subst (λ (y : Option Fraction). AllFit fits (fluent_nodes y (rate_of rs k) x)) e (subst (λ (y : Fraction). AllFit fits (fluent_nodes w y x)) d a) in
+      let is : new ≡ found ++ c ∷ [] = n ∙ ap₂ (λ (y : Option Fraction) (r : Fraction). found ++ (k, moved_value y r x) ∷ []) e d in
+      record {
+        inside = h.inside.1;
+        so_far = ap (λ (l : List (ℕ × Option Fraction)). l ++ changes_among ks vs rs x) is ∙ append_assoc found (c ∷ []) (changes_among ks vs rs x) ∙ h.so_far;
+        fit = λ f. h.fit (pass_append (NodeFits fits) _ _ b f);
         unfit = λ m u. h.unfit m (fail_right (NodeFits fits) _ _ m b u);
-      })
+      }
 
-pub noting_end : (fits : Fraction → Type 0) (found : List (ℕ × Option Fraction)) (k : ℕ) (rs : List Fraction) (x : Fraction) (all : List (Option Fraction)) (whole : List Fraction) → Noting fits found k [] rs x all whole → AllFit fits (moved_nodes all whole x) × (found ≡ moving_changes 0 all whole x)
-noting_end fits found k rs x all whole h = (h.fit (pass_none (NodeFits fits)), sym (append-nil found) ∙ h.so_far)
+pub noting_end : (fits : Fraction → Type 0) (found : List (ℕ × Option Fraction)) (vs : List (Option Fraction)) (rs : List Fraction) (x : Fraction) → Noting fits found [] vs rs x → AllFit fits (moved_nodes vs rs x) × (found ≡ moving_changes 0 vs rs x)
+noting_end fits found vs rs x h = (h.fit (pass_none (NodeFits fits)), sym (append-nil found) ∙ h.so_far)
+
+-- the numbers from place i on
+pub next_fluent : (xs : List FluentId) (i : ℕ) (d : FluentId) → i < length xs → fluent_numbers (drop i xs) ≡ (get_or xs i d).0 ∷ fluent_numbers (drop (i + 1) xs)
+next_fluent xs i d h =
+    let one : suc i ≡ i + 1 = omega arith in
+    ap fluent_numbers (drop-cons xs i d h) ∙ ap (λ (n : ℕ). (get_or xs i d).0 ∷ fluent_numbers (drop n xs)) one
+
+pub no_fluent : (xs : List FluentId) (i : ℕ) → length xs ≤ i → fluent_numbers (drop i xs) ≡ []
+no_fluent xs i h = ap fluent_numbers (drop_all i xs h)
 
 -- no atoms
 abbrev pub noted : List (ℕ × Bool) → List (ℕ × Option Fraction) → Changes

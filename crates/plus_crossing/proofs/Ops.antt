@@ -1,11 +1,11 @@
 -- Zero factors and zero dividends.
-use Rattle.std.proofs.Common.{◌≡◌, ◌∙◌, sym, ap, subst, true, false, Bool, pos}
-use Rattle.plus_fraction.specs.Fraction.{Fraction, whole, ◌*ℚ◌, ◌/ℚ◌, compared}
-use Rattle.plus_fraction.proofs.Ring.{var, num, ◌⊕◌, ◌⊖◌, ◌⊗◌}
+use Rattle.std.proofs.Common.{◌≡◌, ◌∙◌, sym, ap, true, false, pos}
+use Rattle.plus_fraction.specs.Fraction.{Fraction, whole, ◌*ℚ◌, ◌/ℚ◌}
+use Rattle.plus_fraction.proofs.Ring.{var, num, ◌⊗◌}
 use Rattle.plus_fraction.proofs.FractionRing.{ringℚ}
 use Rattle.plus_fraction.proofs.FractionSigns.{/ℚ-mul}
 use Rattle.plus_model.specs.Value.{is_zero}
-use Rattle.std.proofs.Common.{List, [], ◌∷◌, refl}
+use Rattle.std.proofs.Common.{[], ◌∷◌, refl}
 use Rattle.plus_model.proofs.Along.{from_zero, not_zero, mul_cancel}
 
 pub times_zero : (v n z : Fraction) → is_zero n ≡ true → z ≡ whole (pos 0) → z ≡ v *ℚ n

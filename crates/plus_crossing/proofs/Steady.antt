@@ -1,5 +1,5 @@
 -- Where each test passes and no live comparison has a root, plus_model's NoRoot holds.
-use Rattle.std.proofs.Common.{◌≡◌, ℕ, suc, ◌+◌, true, false, Bool, List, [], ◌∷◌, ◌++◌, ◌||◌, refl, ap, sym, subst, ◌∙◌, if◌then◌else◌, inl, inr, ◌⊎◌, pos}
+use Rattle.std.proofs.Common.{◌≡◌, ℕ, suc, ◌+◌, true, false, Bool, List, [], ◌||◌, refl, subst, if◌then◌else◌, inl, inr, pos}
 use Rattle.std.specs.Prelude.{Option, Some, None}
 use Rattle.plus_fraction.specs.Fraction.{Fraction, whole, ◌<ℚ◌, ◌≤ℚ◌, ◌+ℚ◌, ◌*ℚ◌, ◌/ℚ◌}
 use Rattle.plus_model.specs.Terms.{Expression, Number, Fluent, Sum, Difference, Product, Quotient, Condition, Always, Never, Both, Either, Atom, Compare, State}
@@ -11,7 +11,7 @@ use Rattle.plus_state.specs.declared.term.Sign.{Sign}
 use Rattle.plus_state.specs.declared.term.Sign.TheVariants.{Plus, Minus, Times, Divide}
 use Rattle.plus_crossing.specs.Asked.{Ask, Passes, AllPass}
 use Rattle.plus_crossing.specs.Pieces.{op_asks, op_piece, asks_both, piece_asks}
-use Rattle.plus_crossing.specs.Roots.{IsRoot, meets_later, meeting_asks, root_asks}
+use Rattle.plus_crossing.specs.Roots.{meets_later, meeting_asks, root_asks}
 use Rattle.plus_crossing.specs.Laws.{PiecesTell, AnySize, OneTruthUntilRoot, OneTruthUntilNext}
 use Rattle.plus_fraction.proofs.FractionAtMost.{≤ℚ-<ℚ_trans}
 use Rattle.plus_model.proofs.Along.{FollowsPiece, along}
@@ -23,7 +23,7 @@ use Rattle.plus_state.specs.Tested as tested
 use Rattle.plus_state.specs.Asked.{NodeFits}
 use Rattle.plus_crossing.proofs.Joins.{numbered_pass, numbered_back}
 use Rattle.plus_state.proofs.Testing.{pass_none, pass_append, pass_left, pass_right}
-use Rattle.plus_crossing.specs.Next.{cross_sides, cross_asks, RootSides, RootOpen, LiveRoot, Nowhere, IsNext}
+use Rattle.plus_crossing.specs.Next.{cross_sides, cross_asks, RootSides, RootOpen, LiveRoot, IsNext}
 
 abbrev pub IsLine : Piece → Type 0
 IsLine Missing = Unit {0}

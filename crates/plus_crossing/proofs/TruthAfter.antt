@@ -1,13 +1,13 @@
 -- Truth just after, by cases; what a comparison and a condition ask.
-use Rattle.std.proofs.Common.{◌≡◌, ℕ, true, false, Bool, List, [], ◌∷◌, ◌++◌, ◌&&◌, ◌||◌, refl, ap, ap₂, sym, subst, ◌∙◌, pos, if◌then◌else◌}
-use Rattle.std.specs.Prelude.{Option, Some, None, ◌↔◌}
-use Rattle.plus_fraction.specs.Fraction.{Fraction, whole, ◌<ℚ◌, compared}
+use Rattle.std.proofs.Common.{◌≡◌, true, false, Bool, List, ◌&&◌, ◌||◌, refl, ap, ap₂, sym, subst, ◌∙◌, pos}
+use Rattle.std.specs.Prelude.{Some, ◌↔◌}
+use Rattle.plus_fraction.specs.Fraction.{Fraction, whole, compared}
 use Rattle.plus_fraction.proofs.JustAfter.{one_above}
 use Rattle.plus_fraction.proofs.FractionOrder.{<ℚ_trans}
-use Rattle.plus_model.specs.Terms.{Test, Expression, Condition, Always, Never, Both, Either, Atom, Compare, State}
-use Rattle.plus_model.specs.Value.{passes, signed, atom_of, holds}
+use Rattle.plus_model.specs.Terms.{Test, Expression, Condition, Both, Either, Compare, State}
+use Rattle.plus_model.specs.Value.{passes, signed}
 use Rattle.plus_model.specs.Running.{moved, JustAfter}
-use Rattle.plus_model.specs.Piece.{Piece, Missing, Crooked, Straight, piece, then_slopes, after_sides, after, StraightSides, IsStraight}
+use Rattle.plus_model.specs.Piece.{Piece, Missing, Straight, piece, then_slopes, after_sides, after, StraightSides}
 use Rattle.plus_model.proofs.Motion.{between_both}
 use Rattle.plus_model.proofs.Truth.{TruthAfter as Soon, after_is}
 use Rattle.plus_crossing.specs.Asked.{Ask, Passes, AllPass, FirstFailing}

@@ -1,15 +1,15 @@
 -- Conditions member by member: comparisons, tests, truths just after, roots.
-use Rattle.std.proofs.Common.{◌≡◌, ℕ, ◌<◌, ◌≤◌, ◌+◌, ◌^◌, suc, Bool, true, false, not, List, [], ◌∷◌, ◌++◌, length, map, refl, ap, ap₂, sym, subst, ◌∙◌, inl, inr, ◌⊎◌, arith, add_assoc}
+use Rattle.std.proofs.Common.{◌≡◌, ℕ, ◌<◌, ◌+◌, ◌^◌, suc, Bool, true, false, not, List, [], ◌∷◌, ◌++◌, length, refl, ap, ap₂, sym, subst, ◌∙◌, inl, inr, ◌⊎◌, arith, add_assoc}
 use Rattle.std.specs.Prelude.{Option, Some, None}
-use Rattle.plus_fraction.specs.Fraction.{Fraction, ◌<ℚ◌}
-use Rattle.plus_model.specs.Terms.{Test, Expression, Condition, Always, Never, Both, Either, Atom, Compare, State}
+use Rattle.plus_fraction.specs.Fraction.{Fraction}
+use Rattle.plus_model.specs.Terms.{Expression, Condition, Always, Never, Both, Either, Atom, Compare, State}
 use Rattle.plus_model.specs.Value.{signed, atom_of}
 use Rattle.plus_state.specs.Fits.{Fits, comparisons}
 use Rattle.plus_state.specs.Tests.{decided, pair, unit, joined, join, join_decided}
 use Rattle.plus_state.proofs.TestsLemmas.{decided_pair, decided_atom, decided_compare, decided_unit, fits_head, fits_tail, fits_all, fits_any, undecided_all, undecided_any}
 use Rattle.plus_crossing.specs.Asked.{Ask, Passes, AllPass, FirstFailing, number, numbered}
 use Rattle.plus_crossing.specs.Conds.{if_open, asks_open, live_tests, TruthAfter}
-use Rattle.plus_crossing.specs.Next.{RootSides, RootOpen, Nowhere, LiveRoot, IsNext, lesser}
+use Rattle.plus_crossing.specs.Next.{RootOpen, Nowhere, LiveRoot, IsNext, lesser}
 use Rattle.plus_crossing.proofs.Joins.{numbered_pass, numbered_first}
 use Rattle.plus_state.proofs.Testing.{pass_none, pass_append, fail_left, fail_right}
 use Rattle.plus_crossing.proofs.TruthAfter.{truth_decided, truth_pair, truth_unit}

@@ -1,5 +1,5 @@
 -- What holds just after a state, and the tests that this asks.
-use Rattle.std.specs.Prelude.{◌≡◌, ℕ, suc, ◌+◌, Bool, true, false, List, [], ◌∷◌, ◌++◌, Option, Some, None, Result, MatchResult, ◌↔◌, pos}
+use Rattle.std.specs.Prelude.{◌≡◌, ℕ, suc, ◌+◌, Bool, true, List, [], ◌++◌, Option, Some, None, Result, MatchResult, ◌↔◌, pos}
 use Rattle.plus_fraction.specs.Fraction.{Fraction, whole, ◌<ℚ◌}
 use Rattle.plus_model.specs.Terms.{Test, Expression, Condition, Always, Never, Both, Either, Atom, Compare, State}
 use Rattle.plus_model.specs.Value.{holds}

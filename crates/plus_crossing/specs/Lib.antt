@@ -4,5 +4,6 @@ pub mod Roots
 pub mod Conds
 pub mod Next
 pub mod Listed
+pub mod Rated
 pub mod Moves
 pub mod Laws

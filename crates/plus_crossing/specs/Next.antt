@@ -1,6 +1,6 @@
 -- The next root of the live comparisons, and the tests that this asks: of each comparison the pieces of its sides, and where
 -- both have a value and meet later the nodes of their root.
-use Rattle.std.specs.Prelude.{◌≡◌, ◌⊎◌, ℕ, Bool, true, false, List, [], ◌∷◌, ◌++◌, Option, Some, None, option_map, Result, MatchResult, if◌then◌else◌}
+use Rattle.std.specs.Prelude.{◌⊎◌, ℕ, Bool, List, [], ◌++◌, Option, Some, None, option_map, Result, MatchResult, if◌then◌else◌}
 use Rattle.plus_fraction.specs.Fraction.{Fraction, ◌<ℚ◌, compared}
 use Rattle.plus_model.specs.Terms.{Below, Expression, Condition, Always, Never, Both, Either, Atom, Compare, State}
 use Rattle.plus_model.specs.Value.{passes}

@@ -1,7 +1,7 @@
 -- The tests that a piece asks, in the order of evaluation (this project's profile): the operands from the left; where both
 -- have a value, that one factor, or the divisor, stands still; then the node of the value, and then the node of the slope
 -- where it has one. A zero divisor that stands still asks no node and has no value.
-use Rattle.std.specs.Prelude.{◌≡◌, Bool, true, false, List, [], ◌∷◌, ◌++◌, ◌||◌, Option, Some, None, Result, MatchResult, if◌then◌else◌}
+use Rattle.std.specs.Prelude.{◌≡◌, List, [], ◌∷◌, ◌++◌, ◌||◌, Option, Some, None, Result, MatchResult, if◌then◌else◌}
 use Rattle.plus_fraction.specs.Fraction.{Fraction, ◌+ℚ◌, ◌-ℚ◌}
 use Rattle.plus_model.specs.Terms.{Expression, Number, Fluent, Sum, Difference, Product, Quotient, State}
 use Rattle.plus_model.specs.Value.{is_zero}

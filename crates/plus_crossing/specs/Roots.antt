@@ -1,8 +1,8 @@
 -- Where two lines meet, and the nodes that this asks.
-use Rattle.std.specs.Prelude.{◌≡◌, Bool, true, false, List, [], ◌∷◌, Option, Some, None, Result, MatchResult, MatchOption, pos, if◌then◌else◌}
+use Rattle.std.specs.Prelude.{◌≡◌, Bool, true, false, List, [], ◌∷◌, Option, Result, MatchResult, MatchOption, pos, if◌then◌else◌}
 use Rattle.std.specs.declared.cmp.Ordering.{Ordering}
 use Rattle.std.specs.declared.cmp.Ordering.TheVariants.{Less, Equal, Greater}
-use Rattle.plus_fraction.specs.Fraction.{Fraction, whole, ◌+ℚ◌, ◌-ℚ◌, ◌*ℚ◌, ◌/ℚ◌, ◌<ℚ◌, compared}
+use Rattle.plus_fraction.specs.Fraction.{Fraction, whole, ◌+ℚ◌, ◌-ℚ◌, ◌*ℚ◌, ◌<ℚ◌, compared}
 use Rattle.plus_state.specs.declared.term.Sign.TheVariants.{Minus, Divide}
 use Rattle.plus_state.specs.Asked.{node}
 use Rattle.plus_crossing.specs.declared.node.PieceStop.{PieceStop}

@@ -3,7 +3,8 @@
 //!
 //! `piece` visits each node of an expression once. `just_after` and `next_crossing` first look at the
 //! atoms of a condition, and then take each live comparison once, with two pieces; neither moves a
-//! state, and neither takes memory. `moved` copies the state once and visits each fluent once.
+//! state, and neither takes memory. `moved` copies the state once and visits each fluent once;
+//! `moved_changes` visits the fluents that move.
 #![tactic(auto)]
 
 pub mod afters;

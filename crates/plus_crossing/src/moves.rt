@@ -1,12 +1,13 @@
 //! Moved states.
-ghost use Rattle.std.specs.Prelude.{◌≡◌, ◌<◌, [], ◌∷◌, ◌++◌, length, option_map, slice_set, IfOk, if◌then◌else◌};
+ghost use Rattle.std.specs.Prelude.{◌≡◌, ◌<◌, [], ◌∷◌, ◌++◌, length, option_map, slice_set, IfOk, MatchResult};
 ghost use Rattle.plus_fraction.specs.Fraction.{◌+ℚ◌, ◌*ℚ◌};
-ghost use Rattle.plus_model.specs.Value.{fluent_of, is_zero as is_zero_of};
+ghost use Rattle.plus_model.specs.Value.{fluent_of};
+ghost use Rattle.plus_state.specs.Asked.{AllFit};
 ghost use Rattle.plus_state.specs.Changes.{RisesIn};
 ghost use Rattle.plus_state.specs.ChangesView.{fluent_changes};
 ghost use Rattle.plus_state.specs.Fits.{StateFits};
 ghost use Rattle.plus_state.specs.Tells.{Tells};
-ghost use Rattle.plus_crossing.specs.Moves.{fluent_nodes, moved_value as moved_value_of, MoveAnswers, MovesTell};
+ghost use Rattle.plus_crossing.specs.Moves.{fluent_nodes, moved_value as moved_value_of, MoveAnswers, MoveStops, MovesTell};
 
 use crate::node::exact;
 use crate::rates::Rates;
@@ -15,7 +16,7 @@ use plus_state::changes::{Changes, FluentChange};
 use plus_state::evaluation::is_zero;
 use plus_state::states::State;
 use plus_state::term::{FluentId, Overflow, Sign};
-use std::alloc::{AllocError, Global};
+use std::alloc::Global;
 use std::fmt::Debug;
 use thiserror::Error;
 
@@ -97,24 +98,31 @@ pub fn moved<Q: Exact>(
     }
 }
 
-// Notes the value of a fluent after so much time if it has a rate that is not zero.
+// Notes the value of a fluent after so much time at this rate.
 fn note<Q: Exact>(
     into: &mut Vec<FluentChange<Q>>,
     fluent: FluentId,
-    value: Option<Q>,
+    now: Option<Q>,
     rate: Q,
-) -> Result<(), AllocError>
-    ensures { IfOk result (λ _. fluent_changes Q.value into.new.items
-        ≡ fluent_changes Q.value into.old.items ++ (if is_zero_of (Q.value rate) then [] else (fluent.0, option_map Q.value value) ∷ [])) }
+    delay: Q,
+) -> Result<(), MoveStop<Q>>
+    ensures { MatchResult result
+        (λ _. AllFit Q.fits (fluent_nodes (option_map Q.value now) (Q.value rate) (Q.value delay))
+        × (fluent_changes Q.value into.new.items ≡ fluent_changes Q.value into.old.items ++ (fluent.0, moved_value_of (option_map Q.value now) (Q.value rate) (Q.value delay)) ∷ []))
+        (λ stop. MoveStops Q.value Q.fits (fluent_nodes (option_map Q.value now) (Q.value rate) (Q.value delay)) stop) }
 {
-    if !is_zero(rate) {
-        into.push(FluentChange { fluent, value })?;
+    match moved_value(now, rate, delay) {
+        Err(overflow) => Err(MoveStop::Number(overflow)),
+        Ok(value) => match into.push(FluentChange { fluent, value }) {
+            Err(_) => Err(MoveStop::Memory),
+            Ok(()) => Ok(()),
+        },
     }
-    Ok(())
 }
 
 /// What so much time at these rates changes: the values of the fluents that move, by their numbers. It
 /// leads there also from the state after any other time at these rates. The refusal is that of `moved`.
+/// No fluent that stands still is visited.
 pub fn moved_changes<Q: Exact>(
     alloc: Global,
     state: &State<Q>,
@@ -124,17 +132,17 @@ pub fn moved_changes<Q: Exact>(
     requires { length rates.now ≡ length (state.now.fluents) }
     ensures told { MovesTell Q.value Q.fits state.now rates.now (Q.value delay) result }
     ensures rises { IfOk result (RisesIn state.now) }
+    ensures fluents { IfOk result (λ c. c.atoms ≡ []) }
 {
+    let Ok(moving) = rates.moving(alloc) else {
+        return Err(MoveStop::Memory);
+    };
     let mut fluents = Vec::new(alloc);
-    'each: for number in 0..state.fluents() {
-        let fluent = FluentId(number);
-        let rate = rates.get(fluent);
-        match moved_value(state.fluent(fluent), rate, delay) {
-            Err(overflow) => return Err(MoveStop::Number(overflow)),
-            Ok(value) => match note(&mut fluents, fluent, value, rate) {
-                Err(_) => return Err(MoveStop::Memory),
-                Ok(()) => {}
-            },
+    'each: for fluent in &moving {
+        let now = state.fluent(*fluent);
+        match note(&mut fluents, *fluent, now, rates.get(*fluent), delay) {
+            Err(stop) => return Err(stop),
+            Ok(()) => {}
         }
     }
     Ok(Changes {

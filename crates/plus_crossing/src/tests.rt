@@ -4,7 +4,7 @@ ghost use Rattle.plus_fraction.specs.Fraction.{whole, ◌≤ℚ◌};
 ghost use Rattle.plus_state.specs.View.{condition_of, expression_of};
 ghost use Rattle.plus_state.specs.Fits.{Fits, IsIn, comparisons};
 
-use crate::{PieceStop, Rates, just_after, moved, next_crossing, piece};
+use crate::{PieceStop, Rates, just_after, moved, moved_changes, next_crossing, piece};
 use plus_number::consts::{one, zero};
 use plus_number::exact::Exact;
 use plus_number::frac::Frac64;
@@ -32,8 +32,8 @@ fn with_value(alloc: Global, value: Frac64) -> Result<State<Frac64>, AllocError>
 fn with_rate(alloc: Global, rate: Frac64) -> Result<Rates<Frac64>, AllocError>
     ensures { IfOk result (λ r. length r ≡ 1) }
 {
-    let mut rates = Rates::zero(alloc, 1)?;
-    rates.set(FluentId(0), rate);
+    let mut rates = Rates::zero(alloc, 1);
+    rates.set(FluentId(0), rate)?;
     Ok(rates)
 }
 
@@ -165,5 +165,30 @@ fn vectors(rt: HostRuntime) -> Result<(), Fail> {
     assert_eq!(rt; line.slope.parts(), (0, 1));
 
     assert_eq!(rt; moved_from_zero(alloc, 2, fraction(5, 2))?, Some((5, 1)));
+    Ok(())
+}
+
+// Of four fluents the last is given a rate first, then the first, and the second one that is 0.
+#[test]
+fn those_that_move(rt: HostRuntime) -> Result<(), Fail> {
+    let alloc = rt.alloc();
+    let mut state = State::new(alloc, 0, 4)?;
+    state.give(FluentId(3), Some(one()));
+    let mut rates = Rates::zero(alloc, 4);
+    rates.set(FluentId(3), fraction(1, 2))?;
+    rates.set(FluentId(0), fraction(7, 1))?;
+    rates.set(FluentId(3), fraction(3, 2))?;
+    rates.set(FluentId(1), zero())?;
+    let moving = rates.moving(alloc)?;
+    assert_eq!(rt; moving.as_slice(), [FluentId(0), FluentId(3)].as_slice());
+
+    let changes = moved_changes(alloc, &state, &rates, fraction(2, 1))
+        .ok()
+        .ok_or("refused")?;
+    assert_eq!(rt; changes.fluents.len(), 2);
+    assert_eq!(rt; changes.fluents[0].fluent, FluentId(0));
+    assert!(rt; changes.fluents[0].value.is_none());
+    let last = changes.fluents[1].value.ok_or("no value")?;
+    assert_eq!(rt; last.parts(), (4, 1));
     Ok(())
 }

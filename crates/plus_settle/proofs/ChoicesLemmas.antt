@@ -18,9 +18,14 @@ use Rattle.plus_state.specs.Tests.{tests_of}
 use Rattle.plus_settle.specs.declared.stops.GoStop.{GoStop}
 use Rattle.plus_settle.specs.declared.stops.GoStop.TheVariants as go
 use Rattle.plus_settle.specs.Steps.{SettleStep, AllPass, FirstStop, Passes}
-use Rattle.plus_settle.specs.Members.{AreMembers, soon}
+use Rattle.plus_state.specs.Numbers.{AreMembers}
+use Rattle.plus_settle.specs.Members.{soon}
 use Rattle.plus_settle.specs.Confirms.{soon_steps, GoStops}
-use Rattle.plus_settle.specs.Settles.{condition_nodes, chosen_steps, running_soon, ChosenStops, of_go}
+use Rattle.plus_settle.specs.Settles.{chosen_steps, running_soon, ConditionStops, ChosenStops, of_go, of_walk}
+use Rattle.plus_state.specs.declared.walk.WalkStop.{WalkStop}
+use Rattle.plus_state.specs.declared.walk.WalkStop.TheVariants as walk
+use Rattle.plus_state.specs.Walk.{process_conditions, WalkStops}
+use Rattle.plus_state.proofs.LookingLemmas.{numbers_by}
 use Rattle.plus_state.proofs.Testing.{pass_none, pass_append, pass_one, fail_left, fail_right, fail_one, fail_here, carry_pass, carry_fail}
 
 choose : (found : List ℕ) (k : ℕ) (b : Bool) (more : List ℕ) → (found ++ (if b then k ∷ [] else [])) ++ more ≡ found ++ (if b then k ∷ more else more)
@@ -28,35 +33,12 @@ choose found k true more = append_assoc found (k ∷ []) more
 choose found k false more = ap (λ (x : List ℕ). x ++ more) (append-nil found)
 
 -- ---- which hold
-pub record Gathering (fits : Fraction → Type 0) (found : List ℕ) (k : ℕ) (rest whole : List Process) (s : State) : Type 0 where
-  pub inside : All (ProcessFits (length s.atoms) (length s.fluents)) rest
-  pub so_far : found ++ numbers_of (λ (p : Process). holds p.condition s) k rest ≡ numbers_of (λ (p : Process). holds p.condition s) 0 whole
-  pub fit : AllFit fits (condition_nodes rest s) → AllFit fits (condition_nodes whole s)
-  pub unfit : (m : Node) → FirstUnfit fits (condition_nodes rest s) m → FirstUnfit fits (condition_nodes whole s) m
+pub holding_found : (P : Problem) (s : State) (found : List ℕ) → found ≡ numbers_of (λ c. holds c s) 0 (process_conditions P) → found ≡ holding P s
+holding_found P s found h = h ∙ numbers_by (λ (p : Process). p.condition) s 0 P.processes
 
-pub gathering_start : (fits : Fraction → Type 0) (found : List ℕ) (whole : List Process) (s : State) → found ≡ [] → All (ProcessFits (length s.atoms) (length s.fluents)) whole → Gathering fits found 0 whole whole s
-gathering_start fits found whole s e h = record { inside = h; so_far = ap (λ (x : List ℕ). x ++ numbers_of (λ (p : Process). holds p.condition s) 0 whole) e; fit = λ a. a; unfit = λ m u. u }
-
-module _ (fits : Fraction → Type 0) (found : List ℕ) (k : ℕ) (p : Process) (rest whole : List Process) (s : State) (h : Gathering fits found k (p ∷ rest) whole s) where
-  pub gathering_inside : ProcessFits (length s.atoms) (length s.fluents) p
-  gathering_inside = All-head (ProcessFits (length s.atoms) (length s.fluents)) p rest h.inside
-
-  pub gathering_err : (m : Node) → FirstUnfit fits (tests_of p.condition s) m → FirstUnfit fits (condition_nodes whole s) m
-  gathering_err m u = h.unfit m (fail_left (NodeFits fits) _ _ m u)
-
-  pub gathering_next : (b : Bool) (new : List ℕ) → AllFit fits (tests_of p.condition s) → b ≡ holds p.condition s → new ≡ found ++ (if b then k ∷ [] else []) → Gathering fits new (k + 1) rest whole s
-  gathering_next b new a d n =
-      let one : suc k ≡ k + 1 = omega arith in
-      let more : List ℕ = numbers_of (λ (p : Process). holds p.condition s) (suc k) rest in
-      subst (λ (i : ℕ). Gathering fits new i rest whole s) one (record {
-        inside = All-tail (ProcessFits (length s.atoms) (length s.fluents)) p rest h.inside;
-        so_far = ap (λ (x : List ℕ). x ++ more) n ∙ choose found k b more ∙ ap (λ (c : Bool). found ++ (if c then k ∷ more else more)) d ∙ h.so_far;
-        fit = λ r. h.fit (pass_append (NodeFits fits) _ _ a r);
-        unfit = λ m u. h.unfit m (fail_right (NodeFits fits) _ _ m a u);
-      })
-
-pub gathering_end : (fits : Fraction → Type 0) (found : List ℕ) (k : ℕ) (P : Problem) (s : State) → Gathering fits found k [] P.processes s → AllFit fits (condition_nodes P.processes s) × (found ≡ holding P s)
-gathering_end fits found k P s h = (h.fit (pass_none (NodeFits fits)), sym (append-nil found) ∙ h.so_far)
+pub walk_stops : {Q : Type 0} (v : Q → Fraction) (fits : Fraction → Type 0) (ns : List Node) (stop : WalkStop Q) → WalkStops v fits ns stop → ConditionStops v fits ns (of_walk stop)
+walk_stops v fits ns (walk.Number o) u = u
+walk_stops v fits ns walk.Memory u = tt
 
 -- ---- which hold just after
 pub record Choosing (fits : Fraction → Type 0) (P : Problem) (found : List ℕ) (k : ℕ) (rest : List Process) (s : State) (rs : List Fraction) : Type 0 where

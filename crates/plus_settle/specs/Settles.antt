@@ -10,7 +10,9 @@ use Rattle.plus_model.specs.Breach.{IsFirst, Differs}
 use Rattle.plus_state.specs.Node.{Node}
 use Rattle.plus_state.specs.View.{overflow_of}
 use Rattle.plus_state.specs.Asked.{FirstUnfit}
-use Rattle.plus_state.specs.Tests.{tests_of}
+use Rattle.plus_state.specs.Walk.{all_asked}
+use Rattle.plus_state.specs.declared.walk.WalkStop.{WalkStop}
+use Rattle.plus_state.specs.declared.walk.WalkStop.TheVariants as walk
 use Rattle.plus_settle.specs.declared.settling.Running.{Running}
 use Rattle.plus_settle.specs.declared.stops.RateStop.{RateStop}
 use Rattle.plus_settle.specs.declared.stops.RateStop.TheVariants as rate
@@ -20,13 +22,13 @@ use Rattle.plus_settle.specs.declared.stops.SettleStop.{SettleStop}
 use Rattle.plus_settle.specs.declared.stops.SettleStop.TheVariants.{Unsettled, Coupled, NoValue, Number, Nonlinear, Memory}
 use Rattle.plus_settle.specs.Steps.{SettleStep, asks, straight, no_value, unsettled, coupled, AllPass, FirstStop}
 use Rattle.plus_settle.specs.Rates.{after_sums, rates_steps}
-use Rattle.plus_settle.specs.Members.{process_numbers, soon}
+use Rattle.plus_state.specs.Numbers.{process_numbers}
+use Rattle.plus_settle.specs.Members.{soon}
 use Rattle.plus_settle.specs.Confirms.{soon_steps, go_steps, first_other}
 
 -- what the conditions of these processes ask
 abbrev pub condition_nodes : List Process → State → List Node
-condition_nodes [] s = []
-condition_nodes (p ∷ ps) s = tests_of p.condition s ++ condition_nodes ps s
+condition_nodes ps s = all_asked (map (λ (p : Process). p.condition) ps) s
 
 -- what it asks which processes hold just after
 abbrev pub chosen_steps : ℕ → List Process → State → List Fraction → List SettleStep
@@ -103,6 +105,10 @@ abbrev pub of_rate : {Q : Type 0} → RateStop Q → SettleStop Q
 of_rate (rate.NoValue f) = NoValue f
 of_rate (rate.Number o) = Number o
 of_rate rate.Memory = Memory
+
+abbrev pub of_walk : {Q : Type 0} → WalkStop Q → SettleStop Q
+of_walk (walk.Number o) = Number o
+of_walk walk.Memory = Memory
 
 abbrev pub of_go : {Q : Type 0} → GoStop Q → SettleStop Q
 of_go (go.Number o) = Number o

@@ -5,8 +5,8 @@ ghost use Rattle.plus_state.specs.View.{problem_of};
 ghost use Rattle.plus_state.specs.Fits.{StateFits};
 ghost use Rattle.plus_state.specs.Asked.{AllFit};
 ghost use Rattle.plus_settle.specs.Steps.{AllPass};
-ghost use Rattle.plus_settle.specs.Members.{process_numbers};
-ghost use Rattle.plus_settle.specs.Settles.{condition_nodes, chosen_steps, running_soon, ConditionStops, ChosenStops, of_go};
+ghost use Rattle.plus_state.specs.Numbers.{process_numbers};
+ghost use Rattle.plus_settle.specs.Settles.{condition_nodes, chosen_steps, running_soon, ConditionStops, ChosenStops, of_go, of_walk};
 
 use crate::confirms::runs_after;
 use crate::stops::{GoStop, SettleStop};
@@ -15,7 +15,7 @@ use plus_number::exact::Exact;
 use plus_state::problem::Ground;
 use plus_state::states::State;
 use plus_state::term::ProcessId;
-use plus_state::truth::holds;
+use plus_state::walk::{WalkStop, holding_of_all};
 use std::alloc::{AllocError, Global};
 
 fn append_if(members: &mut Vec<ProcessId>, member: ProcessId, runs: bool) -> Result<(), AllocError>
@@ -28,7 +28,18 @@ fn append_if(members: &mut Vec<ProcessId>, member: ProcessId, runs: bool) -> Res
     Ok(())
 }
 
-// The processes whose condition holds, in ground order.
+// The stop of a walk as that of the whole.
+fn walk_stop<Q: Exact>(stop: WalkStop<Q>) -> SettleStop<Q>
+    ensures { result ≡ of_walk stop }
+{
+    match stop {
+        WalkStop::Number(overflow) => SettleStop::Number(overflow),
+        WalkStop::Memory => SettleStop::Memory,
+    }
+}
+
+/// The processes whose condition holds, in ground order. The refusal is the first node of the conditions
+/// of all processes, in ground order, that is no value; or want of memory.
 pub fn holding<Q: Exact>(
     alloc: Global,
     ground: &Ground<Q>,
@@ -40,17 +51,10 @@ pub fn holding<Q: Exact>(
         × (process_numbers members.items ≡ holding_of (problem_of Q.value ground.now) state.now))
         (λ stop. ConditionStops Q.value Q.fits (condition_nodes ((problem_of Q.value ground.now).processes) state.now) stop) }
 {
-    let mut members = Vec::new(alloc);
-    'each: for number in 0..ground.processes.len() {
-        match holds(&ground.processes[number].condition, state) {
-            Err(overflow) => return Err(SettleStop::Number(overflow)),
-            Ok(truth) => match append_if(&mut members, ProcessId(number as u32), truth) {
-                Err(_) => return Err(SettleStop::Memory),
-                Ok(()) => {}
-            },
-        }
+    match holding_of_all(alloc, ground, state) {
+        Ok(members) => Ok(members),
+        Err(stop) => Err(walk_stop(stop)),
     }
-    Ok(members)
 }
 
 // The stop of one process as that of the whole.

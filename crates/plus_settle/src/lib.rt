@@ -1,8 +1,9 @@
 //! Running sets of a ground PDDL+ problem: the processes that run from a state on, and their net rates.
 //!
-//! `net_rates` evaluates each rate of a member once. `goes_on` takes the condition of each process once,
-//! up to the first that differs, and takes no memory. `settle` evaluates the condition of each process
-//! once in the state and twice just after it, at two rates, and the rates of two sets of processes.
+//! `holding` evaluates the condition of each process once, `net_rates` each rate of a member. `goes_on`
+//! takes the condition of each process once, up to the first that differs, and takes no memory. `settle`
+//! evaluates the condition of each process once in the state and twice just after it, at two rates, and
+//! the rates of two sets of processes.
 #![tactic(auto)]
 
 mod choices;
@@ -15,6 +16,7 @@ pub mod stops;
 #[cfg(test)]
 mod tests;
 
+pub use choices::holding;
 pub use confirms::goes_on;
 pub use net::net_rates;
 pub use settling::{Running, settle};

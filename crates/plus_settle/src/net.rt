@@ -57,7 +57,7 @@ fn add_rate<Q: Exact>(
             Some(_) => match summed(rate.up, rates.get(rate.fluent), amount) {
                 Err(overflow) => Err(RateStop::Number(overflow)),
                 Ok(sum) => {
-                    rates.set(rate.fluent, sum);
+                    rates.set(rate.fluent, sum)?;
                     Ok(())
                 }
             },
@@ -100,20 +100,13 @@ pub fn net_rates<Q: Exact>(
     ensures size { IfOk result (λ rs. length rs ≡ length (state.now.fluents)) }
     ensures told { NetRates Q.value Q.fits (problem_of Q.value ground.now) state.now (process_numbers members.now) result }
 {
-    match Rates::zero(alloc, state.fluents() as usize) {
-        Err(_) => Err(RateStop::Memory),
-        Ok(mut rates) => {
-            'each: for member in members {
-                match add_all(
-                    &mut rates,
-                    &ground.processes[member.0 as usize].rates,
-                    state,
-                ) {
-                    Err(stop) => return Err(stop),
-                    Ok(()) => {}
-                }
-            }
-            Ok(rates)
+    let mut rates = Rates::zero(alloc, state.fluents() as usize);
+    'each: for member in members {
+        let own = &ground.processes[member.0 as usize].rates;
+        match add_all(&mut rates, own, state) {
+            Err(stop) => return Err(stop),
+            Ok(()) => {}
         }
     }
+    Ok(rates)
 }

@@ -18,13 +18,25 @@ use plus_number::exact::Exact;
 use plus_state::problem::Ground;
 use plus_state::states::State;
 use plus_state::term::ProcessId;
-use std::alloc::Global;
+use std::alloc::{AllocError, Global};
 
 /// A running set: its processes, in ground order, and the net rates under them.
 #[derive(Drop)]
 pub struct Running<Q: Exact> {
     pub members: Vec<ProcessId>,
     pub rates: Rates<Q>,
+}
+
+impl<Q: Exact> Running<Q> {
+    /// An equal running set.
+    pub fn copy(&self, alloc: Global) -> Result<Running<Q>, AllocError>
+        ensures { IfOk result (λ r. (r.members.items ≡ self.now.members.items) × (r.rates ≡ self.now.rates)) }
+    {
+        Ok(Running {
+            members: Vec::from_slice(alloc, &self.members)?,
+            rates: self.rates.copy(alloc)?,
+        })
+    }
 }
 
 fn rate_stop<Q: Exact>(stop: RateStop<Q>) -> SettleStop<Q>

@@ -1,5 +1,6 @@
 //! Why rates, or a running set, cannot be had.
 use plus_state::term::{FluentId, Overflow, ProcessId};
+use std::alloc::AllocError;
 use std::fmt::Debug;
 use thiserror::Error;
 
@@ -14,6 +15,17 @@ pub enum RateStop<Q> {
     Number(Overflow<Q>),
     #[error("out of memory")]
     Memory,
+}
+
+impl<Q> From<AllocError> for RateStop<Q> {
+    ghost use Rattle.std.specs.Prelude.{◌≡◌};
+    ghost use Rattle.plus_settle.specs.declared.stops.RateStop.TheVariants.{Memory};
+
+    ghost from_gives = { λ _ stop. stop ≡ Memory };
+
+    fn from(_error: AllocError) -> RateStop<Q> {
+        RateStop::Memory
+    }
 }
 
 /// Why it cannot be told whether a running set goes on.

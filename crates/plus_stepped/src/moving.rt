@@ -1,5 +1,5 @@
 //! A step of time without its literals and events: the processes that hold run for the whole step.
-ghost use Rattle.std.specs.Prelude.{◌≡◌, [], ◌∷◌, ◌++◌, length, IfOk, MatchResult, if◌then◌else◌};
+ghost use Rattle.std.specs.Prelude.{◌≡◌, length, IfOk, MatchResult};
 ghost use Rattle.plus_model.specs.Running.{holding as holding_of};
 ghost use Rattle.plus_state.specs.View.{problem_of};
 ghost use Rattle.plus_state.specs.Fits.{StateFits};
@@ -13,22 +13,11 @@ ghost use Rattle.plus_stepped.specs.Moving.{MovesTo, CannotMove, ConditionStops}
 use crate::stop::StepStop;
 use plus_crossing::moved;
 use plus_number::exact::Exact;
-use plus_settle::net_rates;
+use plus_settle::{SettleStop, net_rates};
 use plus_state::problem::Ground;
 use plus_state::states::State;
 use plus_state::term::ProcessId;
-use plus_state::truth::holds;
-use std::alloc::{AllocError, Global};
-
-fn append_if(members: &mut Vec<ProcessId>, member: ProcessId, runs: bool) -> Result<(), AllocError>
-    ensures { IfOk result (λ _. process_numbers members.new.items
-        ≡ process_numbers members.old.items ++ (if runs then member.0 ∷ [] else [])) }
-{
-    if runs {
-        members.push(member)?;
-    }
-    Ok(())
-}
+use std::alloc::Global;
 
 // The processes whose condition holds, in ground order.
 fn holding<Q: Exact>(
@@ -42,17 +31,12 @@ fn holding<Q: Exact>(
         × (process_numbers members.items ≡ holding_of (problem_of Q.value ground.now) state.now))
         (λ stop. ConditionStops Q.value Q.fits (condition_nodes ((problem_of Q.value ground.now).processes) state.now) stop) }
 {
-    let mut members = Vec::new(alloc);
-    'each: for number in 0..ground.processes.len() {
-        match holds(&ground.processes[number].condition, state) {
-            Err(overflow) => return Err(StepStop::Number(overflow)),
-            Ok(truth) => match append_if(&mut members, ProcessId(number as u32), truth) {
-                Err(_) => return Err(StepStop::Memory),
-                Ok(()) => {}
-            },
-        }
+    match plus_settle::holding(alloc, ground, state) {
+        Ok(members) => Ok(members),
+        Err(SettleStop::Number(overflow)) => Err(StepStop::Number(overflow)),
+        Err(SettleStop::Memory) => Err(StepStop::Memory),
+        Err(_) => unreachable!(),
     }
-    Ok(members)
 }
 
 // The state in which the processes that hold have run for so long, all at the rates of this state.

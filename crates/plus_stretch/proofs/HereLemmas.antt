@@ -16,7 +16,7 @@ use Rattle.plus_state.specs.Tested.{Carries}
 use Rattle.plus_state.specs.Tests.{tests_of}
 use Rattle.plus_state.proofs.Testing.{pass_append, pass_one, fail_one, fail_left, fail_right, carry_pass, carry_fail}
 use Rattle.plus_cascade.specs.Steps.{condition_nodes}
-use Rattle.plus_cascade.proofs.FiringLemmas.{Gathering, gathering_start, gathering_next, gathering_end}
+use Rattle.plus_stretch.proofs.Gathering.{Gathering, gathering_start, gathering_next, gathering_end}
 use Rattle.plus_state.specs.Fits.{EventFits, StateFits}
 use Rattle.std.specs.List.{All}
 use Rattle.plus_state.specs.Changes.{Changes, patched, Within, RisesIn}

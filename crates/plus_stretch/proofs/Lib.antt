@@ -7,6 +7,7 @@ pub mod Halts
 pub mod SoonLemmas
 pub mod Thinned
 pub mod Collecting
+pub mod Gathering
 pub mod HereLemmas
 pub mod CrossingLemmas
 pub mod SearchLemmas

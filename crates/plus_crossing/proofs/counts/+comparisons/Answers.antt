@@ -1,9 +1,9 @@
-use Rattle.std.proofs.Common.{◌≡◌, ℕ, ◌<◌, ◌^◌, true, false, subst, sym, ap, ◌∙◌}
+use Rattle.std.proofs.Common.{◌<◌, ◌^◌, true, false, subst, sym, ap, ◌∙◌}
 use Rattle.plus_model.specs.Terms.{Condition}
 use Rattle.plus_state.specs.View.{condition_of}
 use Rattle.plus_state.specs.Fits.{comparisons}
-use Rattle.plus_state.proofs.TestsLemmas.{next_member, no_member, all_view, any_view}
-use Rattle.plus_crossing.proofs.Walking.{counting_start, counting_inside, counting_next, counting_below, counting_end}
+use Rattle.plus_state.proofs.TestsLemmas.{no_member, all_view, any_view}
+use Rattle.plus_crossing.proofs.Walking.{counting_start, counting_end}
 use Rattle.plus_crossing.proofs.counts.+comparisons.Goals as goal
 
 pub all-init : goal.all-init

@@ -1,4 +1,4 @@
-use Rattle.std.proofs.Common.{◌≡◌, ℕ, ◌<◌, ◌+◌, ◌^◌, true, false, subst, sym}
+use Rattle.std.proofs.Common.{◌<◌, ◌+◌, ◌^◌, true, false, subst, sym}
 use Rattle.std.proofs.lemmas.Result.{err_from_is_err_and}
 use Rattle.std.specs.Prelude.{option_map}
 use Rattle.plus_model.specs.Terms.{Condition}

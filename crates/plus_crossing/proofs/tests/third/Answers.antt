@@ -1,4 +1,4 @@
-use Rattle.std.proofs.Common.{◌≡◌, sym, subst}
+use Rattle.std.proofs.Common.{sym, subst}
 use Rattle.plus_fraction.specs.Fraction.{Fraction, ◌≤ℚ◌}
 use Rattle.plus_number.specs.Frac.{fraction_of}
 use Rattle.plus_fraction.proofs.Compared.{compared-less}

@@ -18,8 +18,8 @@ returns-in-Err-summed-clause-told g c =
     let h = rw c.in-Ok-Some.field-0-is at c.in-Ok-Some.ensures in
     (rate_sum_unfit _ (rate_of g.Q.Exact.value c.args.rate.now) _ _ _ _ _ _ h.0 h.1 c.in-Some.ensures c.get.ensures c.in-Err-summed.ensures, tt)
 
-pub returns-in-Ok-clause-told : goal.returns-in-Ok-clause-told
-returns-in-Ok-clause-told g c =
+pub returns-in_ok-set-in-Ok-clause-told : goal.returns-in_ok-set-in-Ok-clause-told
+returns-in_ok-set-in-Ok-clause-told g c =
     let h = rw c.in-Ok-Some.field-0-is at c.in-Ok-Some.ensures in
     let l : c.args.rate.now.fluent.0 < length c.args.rates.now = omega (arith, c.requires.fits.0, c.requires.size) in
-    (rate_pass _ (rate_of g.Q.Exact.value c.args.rate.now) _ _ _ _ _ h.0 h.1 c.in-Some.ensures c.get.ensures c.in-Ok.ensures.0, rated_sum _ _ _ _ _ _ _ _ _ _ h.1 c.in-Some.ensures c.get.ensures l c.in-Ok.ensures.1 c.set.ensures)
+    (rate_pass _ (rate_of g.Q.Exact.value c.args.rate.now) _ _ _ _ _ h.0 h.1 c.in-Some.ensures c.get.ensures c.in-Ok.ensures.0, rated_sum _ _ _ _ _ _ _ _ _ _ h.1 c.in-Some.ensures c.get.ensures l c.in-Ok.ensures.1 c.in_ok-set-in-Ok.ensures.ok)

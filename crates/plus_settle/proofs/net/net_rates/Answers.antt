@@ -6,7 +6,7 @@ use Rattle.plus_settle.proofs.net.net_rates.Goals as goal
 
 pub each-init : goal.each-init
 each-init g c =
-    summing_start _ (problem_of g.Q.Exact.value c.args.ground.now) _ _ _ _ c.in-Ok.ensures c.fluents.ensures (below_all g.Q.Exact.value c.args.ground.now _ c.requires.members.inside)
+    summing_start _ (problem_of g.Q.Exact.value c.args.ground.now) _ _ _ _ c.zero-rates.ensures c.fluents.ensures (below_all g.Q.Exact.value c.args.ground.now _ c.requires.members.inside)
 
 pub index-requires : goal.index-requires
 index-requires g c =
@@ -20,21 +20,21 @@ add_all-requires-clause-fits g c =
     let h : (get_or c.args.members.now c.each.member-index (record { 0 = 0 })).0 < length c.args.ground.now.processes.items = summing_inside g.Q.Exact.value _ c.args.ground.now _ _ _ _ _ (rw e at c.each.invariant) in
     rw c.deref.ensures.value (process_fits g.Q.Exact.value _ _ c.args.ground.now.processes.items _ c.index.result.now h c.index.ensures (all_fit _ _ _ _ c.requires.state c.args.ground.now.fits.processes)).rates
 
-pub returns-in-Err-add_all-clause-told : goal.returns-in-Err-add_all-clause-told
-returns-in-Err-add_all-clause-told g c =
+pub returns-in-Err-clause-told : goal.returns-in-Err-clause-told
+returns-in-Err-clause-told g c =
     let e = next_number c.args.members.now c.each.member-index (record { 0 = 0 }) c.each-test.true in
     let h : (get_or c.args.members.now c.each.member-index (record { 0 = 0 })).0 < length c.args.ground.now.processes.items = summing_inside g.Q.Exact.value _ c.args.ground.now _ _ _ _ _ (rw e at c.each.invariant) in
     let k = rates_here g.Q.Exact.value c.args.ground.now.processes.items _ c.index.result.now h c.index.ensures in
-    let t = rw c.deref.ensures.value at c.in-Err-add_all.ensures.told in
-    summing_stop _ _ _ _ _ _ _ _ (rw e at c.each.invariant) k g.Q.Exact.value c.in-Err-add_all.stop t.0 t.1
+    let t = rw c.deref.ensures.value at c.in-Err.ensures.told in
+    summing_stop _ _ _ _ _ _ _ _ (rw e at c.each.invariant) k g.Q.Exact.value c.in-Err.stop t.0 t.1
 
 pub each-preserved : goal.each-preserved
 each-preserved g c =
     let e = next_number c.args.members.now c.each.member-index (record { 0 = 0 }) c.each-test.true in
     let h : (get_or c.args.members.now c.each.member-index (record { 0 = 0 })).0 < length c.args.ground.now.processes.items = summing_inside g.Q.Exact.value _ c.args.ground.now _ _ _ _ _ (rw e at c.each.invariant) in
     let k = rates_here g.Q.Exact.value c.args.ground.now.processes.items _ c.index.result.now h c.index.ensures in
-    let t = rw c.deref.ensures.value at c.in-Ok-add_all.ensures.told in
-    summing_next _ _ _ _ _ _ _ _ (rw e at c.each.invariant) k _ c.in-Ok-add_all.ensures.size t.0 t.1
+    let t = rw c.deref.ensures.value at c.in-Ok.ensures.told in
+    summing_next _ _ _ _ _ _ _ _ (rw e at c.each.invariant) k _ c.in-Ok.ensures.size t.0 t.1
 
-pub returns-after-each-clause-told : goal.returns-after-each-clause-told
-returns-after-each-clause-told g c = summing_end _ _ _ _ _ (rw (no_number c.args.members.now c.each.member-index c.each-test.false) at c.each.invariant)
+pub returns-clause-told : goal.returns-clause-told
+returns-clause-told g c = summing_end _ _ _ _ _ (rw (no_number c.args.members.now c.each.member-index c.each-test.false) at c.each.invariant)

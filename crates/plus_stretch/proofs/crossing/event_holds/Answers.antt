@@ -1,7 +1,7 @@
 use Rattle.std.proofs.Common.{◌<◌, ◌≤◌, length, arith}
 use Rattle.plus_state.specs.View.{event_of, problem_of}
 use Rattle.plus_state.proofs.TestsLemmas.{next_member, no_member}
-use Rattle.plus_cascade.proofs.FiringLemmas.{gathering_inside, gathering_err}
+use Rattle.plus_stretch.proofs.Gathering.{gathering_inside, gathering_err}
 use Rattle.plus_stretch.proofs.HereLemmas.{finding_start, finding_next, finding_end}
 use Rattle.plus_stretch.proofs.crossing.event_holds.Goals as goal
 

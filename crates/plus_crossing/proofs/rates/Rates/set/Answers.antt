@@ -1,7 +1,9 @@
-use Rattle.std.proofs.Common.{arith}
-use Rattle.std.proofs.lemmas.Grind.{common_steps}
-use Rattle.std.proofs.lemmas.List.{map-set}
+use Rattle.plus_crossing.proofs.Rated.{in_insert, given_below, given_set}
 use Rattle.plus_crossing.proofs.rates.Rates.set.Goals as goal
 
-pub returns : goal.returns
-returns g c = grind (arith, common_steps, map-set, c.self.view_is)
+pub invariant_of-self-2 : goal.invariant_of-self-2
+invariant_of-self-2 g c =
+    rw c.in_ok-insert.ensures.entries (in_insert _ _ _ _ (given_below g.Q.Exact.value _ _ _ _ c.self.view_is c.requires) c.self.invariant)
+
+pub returns-clause-ok : goal.returns-clause-ok
+returns-clause-ok g c = given_set g.Q.Exact.value _ _ _ _ _ _ c.self.view_is c.in_ok-insert.ensures.updates.0

@@ -1,0 +1,8 @@
+use Rattle.std.proofs.Common.{◌≡◌, ◌++◌}
+use Rattle.plus_crossing.specs.Rated.{fluent_numbers, moving_of}
+use Rattle.plus_crossing.proofs.Rated.{moving_keys}
+use Rattle.plus_crossing.proofs.rates.Rates.moving.Given as goal
+
+abbrev pub invariant-each : goal.invariant-each
+invariant-each g l =
+    fluent_numbers l.fluents.items ++ moving_keys g.Q.Exact.value l.fluent-iterator ≡ moving_of l.self
