@@ -1,11 +1,10 @@
 -- The ids of what a well-typed pair stands for are below the numbers of their kinds.
-use Rattle.std.proofs.Common.{◌≡◌, ℕ, zero, suc, ◌<◌, ◌≤◌, Bool, true, false, cond, List, [], ◌∷◌, length, All, Option, Some, None, refl, ap, subst, ltb, ltb-false, sum_by, slice_get, get_or, arith}
+use Rattle.std.proofs.Common.{◌≡◌, ℕ, zero, suc, ◌≤◌, Bool, true, false, cond, List, [], ◌∷◌, length, All, Option, Some, None, refl, ap, subst, ltb, ltb-false, sum_by, slice_get, get_or, arith}
 use Rattle.std.specs.List.{position_or_len, AllByRecursion}
 use Rattle.std.specs.Str.{bytes_eq}
 use Rattle.std.proofs.lemmas.List.Sums.{get_or-le-sum_by}
-use Rattle.std.proofs.lemmas.List.Elements.{All-nil}
 use Rattle.plus_fraction.specs.Fraction.{Fraction}
-use Rattle.plus_model.specs.Terms.{Condition, Always, Never, Both, Either, Atom, Compare, Action, Event, Process, Timed, Problem}
+use Rattle.plus_model.specs.Terms.{Condition, Always, Never, Both, Either, Atom, Compare, Action, Event, Process, Problem}
 use Rattle.plus_model.specs.Plan.{Instance}
 use Rattle.plus_state.specs.Fits.{Fits, AllEffectsFit, RateFits, ActionFits, comparisons, ProblemFits}
 use Rattle.plus_tree.specs.declared.trees.Schema.{Schema}
@@ -23,6 +22,7 @@ use Rattle.plus_expansion.specs.Laws.{ExpansionFits, InstancesFit}
 use Rattle.plus_expansion.proofs.Members.{bound-stands}
 use Rattle.plus_expansion.proofs.Conditions.{atoms_of, fluents_of, condition-fits}
 use Rattle.plus_expansion.proofs.Effects.{effect-fits, rates-fit}
+use Rattle.plus_expansion.proofs.Timed.{timed-in, timed-ordered}
 use Rattle.plus_expansion.proofs.WellTyped.{SchemaTyped, PairTyped, pair-typed, no-type-fault, instances-all, schema-at}
 
 -- ---- counts
@@ -119,8 +119,8 @@ problem-fits d p e counts =
     record {
       processes = λ k x h. record { condition = (processes k x h).0; rates = (processes k x h).1; few = omega (arith, few_p k x h) };
       events = λ k x h. record { condition = (events k x h).0; effects = (events k x h).1; few = omega (arith, few_e k x h) };
-      timed = All-nil (λ (x : Timed). x.atom < atoms_of m);
-      in_order = tt;
+      timed = timed-in m t.same p.init t.init;
+      in_order = timed-ordered m p.init;
       initial = record { atoms_fit = length-truths _ 0 (atoms_of m); fluents_fit = length-values _ 0 (fluents_of m) };
       goal = condition-fits m m t.same p.goal [] [] true tt t.goal;
       few_atoms = omega (arith, w.atoms);

@@ -4,4 +4,5 @@ pub mod Uses
 pub mod Conditions
 pub mod Effects
 pub mod WellTyped
+pub mod Timed
 pub mod Fitting

@@ -1,5 +1,5 @@
 -- Objects of types: what stands under a type, and what the variables and names of a form stand for.
-use Rattle.std.proofs.Common.{◌≡◌, ℕ, suc, ◌+◌, Bool, true, false, not, cond, ◌||◌, List, [], ◌∷◌, ◌++◌, ◌&&◌, Option, ap, ap₂, sym, refl, ◌∙◌, subst, true≢false, Some, None, arith, nat_eq, eq-eqb, All, flat_map, append-nil, append_assoc}
+use Rattle.std.proofs.Common.{◌≡◌, ℕ, suc, ◌+◌, Bool, true, false, not, cond, ◌||◌, List, [], ◌∷◌, ◌++◌, Option, ap, ap₂, sym, refl, ◌∙◌, subst, true≢false, Some, None, arith, nat_eq, eq-eqb, All, flat_map, append-nil, append_assoc}
 use Rattle.std.specs.List.{list_any, position_or_len}
 use Rattle.std.specs.Str.{bytes_eq}
 use Rattle.std.proofs.lemmas.List.Elements.{All-nil, All-cons, All-append, All-weaker, All-head, All-tail}

@@ -9,8 +9,7 @@ use Rattle.plus_tree.specs.declared.trees.Domain.{Domain}
 use Rattle.plus_tree.specs.declared.trees.Problem as tree
 use Rattle.plus_types.specs.declared.faults.TypeFault.{TypeFault}
 use Rattle.plus_types.specs.Types.{bindings_of, bound_kinds, kind_of}
-use Rattle.plus_types.specs.Unbuilt.{is_empty}
-use Rattle.plus_types.specs.Faults.{Context, domain_context, problem_context, types_faults, twice_faults, variables_faults, cond_faults, effect_faults, schema_faults, schemas_faults, init_faults, list_faults, domain_name_faults, declaration_faults, rule_faults, state_faults, problem_faults, type_faults, faults_of, is_well_typed}
+use Rattle.plus_types.specs.Faults.{Context, domain_context, problem_context, types_faults, twice_faults, variables_faults, cond_faults, effect_faults, schema_faults, schemas_faults, init_faults, list_faults, domain_name_faults, declaration_faults, rule_faults, state_faults, problem_faults, type_faults, is_empty, is_well_typed}
 use Rattle.plus_types.proofs.SoundLemmas.{left-none, right-none, well_listed}
 use Rattle.plus_expansion.specs.Environments.{Environment, environments}
 use Rattle.plus_expansion.specs.Expansion.{instances_of}
@@ -28,6 +27,7 @@ pub record PairTyped (d : Domain) (p : tree.Problem) : Type 0 where
   pub actions : All (SchemaTyped (domain_context d) false) d.actions
   pub processes : All (SchemaTyped (domain_context d) true) d.processes
   pub events : All (SchemaTyped (domain_context d) false) d.events
+  pub init : init_faults (problem_context d p) [] p.init ≡ []
   pub goal : cond_faults (problem_context d p) [] p.goal ≡ []
   pub widens : Widens (domain_context d) (problem_context d p)
   pub same : Widens (problem_context d p) (problem_context d p)
@@ -76,6 +76,7 @@ pair-typed d p e =
       actions = schemas-typed (domain_context d) false [] d.actions (left-none (schemas_faults (domain_context d) false [] d.actions) _ rules);
       processes = schemas-typed (domain_context d) true [] d.processes (left-none (schemas_faults (domain_context d) true [] d.processes) _ later);
       events = schemas-typed (domain_context d) false [] d.events (right-none (schemas_faults (domain_context d) true [] d.processes) _ later);
+      init = left-none (init_faults (problem_context d p) [] p.init) _ state;
       goal = right-none (init_faults (problem_context d p) [] p.init) _ state;
       widens = record { types = refl; predicates = refl; functions = refl; objects = kind-kept d.constants p.objects; through = through };
       same = record { types = refl; predicates = refl; functions = refl; objects = λ name kind is. is; through = through };
@@ -87,7 +88,7 @@ none-empty (f ∷ fs) e = cc
 
 -- a well-typed pair breaks no rule
 pub no-type-fault : (d : Domain) (p : tree.Problem) → IsTrue (is_well_typed d p) → type_faults d p ≡ []
-no-type-fault d p e = left-none (type_faults d p) _ (none-empty (faults_of d p) e)
+no-type-fault d p e = none-empty (type_faults d p) e
 
 -- ---- instances
 

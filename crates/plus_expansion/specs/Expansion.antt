@@ -4,10 +4,12 @@ use Rattle.std.specs.Prelude.{ℕ, zero, suc, Bool, true, false, not, List, [], 
 use Rattle.std.specs.List.{list_any, flat_map}
 use Rattle.plus_fraction.specs.Fraction.{Fraction, whole}
 use Rattle.plus_model.specs.Terms as model
-use Rattle.plus_model.specs.Terms.{Expression, Sum, Difference, Product, Quotient, Test, Below, Same, Above, Condition, Always, Write, Effect, Rate, Action, Event, Process, State, Problem}
+use Rattle.plus_model.specs.Terms.{Expression, Sum, Difference, Product, Quotient, Test, Below, Same, Above, Condition, Always, Write, Effect, Rate, Action, Event, Process, Timed, State, Problem}
 use Rattle.plus_state.specs.Tests.{joined}
 use Rattle.plus_model.specs.Value.{signed}
+use Rattle.plus_model.specs.Trajectory.{is_below}
 use Rattle.plus_state.specs.View.{Labels}
+use Rattle.plus_tree.specs.declared.terms.Literal.{Literal}
 use Rattle.plus_tree.specs.declared.terms.Comparison.{Comparison}
 use Rattle.plus_tree.specs.declared.terms.Comparison.TheVariants.{Less, AtMost, Equal, AtLeast, Greater}
 use Rattle.plus_tree.specs.declared.trees.Leaf.{Leaf}
@@ -16,7 +18,7 @@ use Rattle.plus_tree.specs.declared.trees.LeafNode.TheVariants.{Add, Delete, Ass
 use Rattle.plus_tree.specs.declared.trees.Schema.{Schema}
 use Rattle.plus_tree.specs.declared.trees.Domain.{Domain}
 use Rattle.plus_tree.specs.declared.trees.Init.{Init}
-use Rattle.plus_tree.specs.declared.trees.Init.TheVariants.{Holds, Value}
+use Rattle.plus_tree.specs.declared.trees.Init.TheVariants.{Holds, Value, At, AtNot}
 use Rattle.plus_tree.specs.declared.trees.Problem as tree
 use Rattle.plus_tree.specs.Expr.{Expr, Exprs, x_number, x_clock, x_fluent, x_sum, x_product, x_minus, x_difference, x_quotient, no_exprs, more_exprs}
 use Rattle.plus_tree.specs.Cond.{Cond, Conds, c_all, c_any, c_not, c_imply, c_forall, c_exists, c_atom, c_same, c_compare, no_conds, more_conds}
@@ -204,6 +206,32 @@ initial_state c inits = record {
   fluents = values_from (flat_map (given_by c) inits) 0 (length (ground_names c c.functions));
 }
 
+-- ---- timed initial literals
+
+-- the literal that an atom becomes true, or false, at this time; at a time below 0, which no text spells, nothing happens
+abbrev pub literal_at : Literal → ℕ → Bool → List Timed
+literal_at t atom positive = if t.negative then [] else record { time = literal_value t; atom = atom; positive = positive } ∷ []
+
+-- the timed literal that a member of `:init` is, where it is one
+abbrev pub timed_by : Context → Init → List Timed
+timed_by c (At t u s) = literal_at t (atom_number c [] u) true
+timed_by c (AtNot t u s) = literal_at t (atom_number c [] u) false
+timed_by c _ = []
+
+-- behind those of an earlier time, before those of the same time
+abbrev pub insert_timed : Timed → List Timed → List Timed
+insert_timed l [] = l ∷ []
+insert_timed l (m ∷ ms) = if is_below m.time l.time then m ∷ insert_timed l ms else l ∷ m ∷ ms
+
+-- ordered by time, those of one time as they stood
+abbrev pub by_time : List Timed → List Timed
+by_time [] = []
+by_time (l ∷ ls) = insert_timed l (by_time ls)
+
+-- the timed literals of `:init`, ordered by time and then by text
+abbrev pub timed_meant : Context → List Init → List Timed
+timed_meant c inits = by_time (flat_map (timed_by c) inits)
+
 -- ---- the ground problem
 
 abbrev pub expanded_in : Context → Domain → tree.Problem → Problem
@@ -212,7 +240,7 @@ expanded_in c d p = record {
   fluents = length (ground_names c c.functions);
   processes = instances_of c (process_meant c) d.processes;
   events = instances_of c (event_meant c) d.events;
-  timed = [];
+  timed = timed_meant c p.init;
   initial = initial_state c p.init;
   goal = condition_meant c [] true p.goal;
 }

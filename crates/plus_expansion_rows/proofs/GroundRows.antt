@@ -1,8 +1,10 @@
 -- The rows of what is ground, by computation.
 use Rattle.std.proofs.Common.{refl}
+use Rattle.plus_fraction.specs.Gcd.{gcd, gcd_within}
+use Rattle.plus_fraction.specs.Fraction.{over, compared}
 use Rattle.plus_types.specs.Types.{is_above_within, is_above, is_under}
 use Rattle.plus_types.specs.Faults.{listed_faults, member_faults, head_faults, leaf_faults, schema_faults, declaration_faults, rule_faults, state_faults, problem_faults}
-use Rattle.plus_expansion_rows.specs.Ground.{ObjectRows, NumberRows, ProblemRows, CallRows, ConditionRows, ExpressionRows, SizeRows}
+use Rattle.plus_expansion_rows.specs.Ground.{ObjectRows, NumberRows, ProblemRows, TimedRows, CallRows, ConditionRows, ExpressionRows, SizeRows}
 
 pub object_rows : ObjectRows
 unfolding is_above_within is_above is_under listed_faults member_faults head_faults leaf_faults schema_faults declaration_faults rule_faults state_faults problem_faults
@@ -41,6 +43,17 @@ problem_rows = record {
   first_atoms = refl;
   first_values = refl;
   goal_meant = refl;
+}
+
+pub timed_rows : TimedRows
+unfolding is_above_within is_above is_under listed_faults member_faults head_faults leaf_faults schema_faults declaration_faults rule_faults state_faults problem_faults compared over gcd gcd_within
+timed_rows = record {
+  well_typed = refl;
+  none = refl;
+  in_order = refl;
+  first_atoms = refl;
+  before_zero = refl;
+  times = refl;
 }
 
 pub call_rows : CallRows

@@ -18,17 +18,24 @@
 --     (define (problem q) (:domain d) (:objects a - place v - van t - truck)
 --      (:init (at v a) (= (fuel v) 10) (not (at t a)))
 --      (:goal (and (imply (at v a) (seen home)) (forall (?b - boat) (done)) (exists (?p - place) (seen ?p)))))
-use Rattle.std.specs.Prelude.{[], ◌∷◌}
+--
+-- And a problem for it with timed literals.
+--
+--     (define (problem r) (:domain d) (:objects a - place v - van t - truck)
+--      (:init (at 3 (not (done))) (at v a) (at 2 (seen a)) (at 3 (at t a)) (at 0.5 (done)) (at 2 (not (seen a))))
+--      (:goal (done)))
+use Rattle.std.specs.Prelude.{false, [], ◌∷◌}
 use Rattle.plus_tree.specs.declared.terms.Comparison.TheVariants.{Greater}
+use Rattle.plus_tree.specs.declared.terms.Literal.{Literal}
 use Rattle.plus_tree.specs.declared.trees.Domain.{Domain}
-use Rattle.plus_tree.specs.declared.trees.Init.TheVariants.{Holds, Absent, Value}
+use Rattle.plus_tree.specs.declared.trees.Init.TheVariants.{Holds, Absent, Value, At, AtNot}
 use Rattle.plus_tree.specs.declared.trees.LeafNode.TheVariants.{Add, Delete, Increase, Decrease}
 use Rattle.plus_tree.specs.declared.trees.Problem.{Problem}
 use Rattle.plus_tree.specs.declared.trees.Schema.{Schema}
 use Rattle.plus_tree.specs.Expr.{x_product, exprs_of}
 use Rattle.plus_tree.specs.Cond.{Cond, c_not, c_imply, c_same, c_compare}
 use Rattle.plus_tree.specs.Effect.{e_when}
-use Rattle.plus_types_rows.specs.Words.{form_at, typed, untyped, the, var, use_of, literal, number, clock, fluent, atom, both, every, some, leaf, write, all, for_all, head, schema, bare, problem}
+use Rattle.plus_types_rows.specs.Words.{name_at, form_at, typed, untyped, the, var, use_of, literal, number, clock, fluent, atom, both, every, some, leaf, write, all, for_all, head, schema, bare, problem}
 
 abbrev pub drive : Schema
 drive =
@@ -84,3 +91,17 @@ delivery = problem (typed 100 "a" "place" ∷ typed 102 "v" "van" ∷ typed 104 
     ∷ Value (use_of 110 "fuel" (the 112 "v" ∷ [])) (literal 113 10) (form_at 0)
     ∷ Absent (use_of 114 "at" (the 116 "t" ∷ the 117 "a" ∷ [])) (form_at 0)
     ∷ []) goal
+
+-- 0.5
+abbrev pub half : Literal
+half = record { negative = false; digits = 5; places = 1; span = name_at 160 }
+
+abbrev pub shifts : Problem
+shifts = problem (typed 100 "a" "place" ∷ typed 102 "v" "van" ∷ typed 104 "t" "truck" ∷ []) (
+    AtNot (literal 140 3) (use_of 141 "done" []) (form_at 0)
+    ∷ Holds (use_of 142 "at" (the 144 "v" ∷ the 145 "a" ∷ []))
+    ∷ At (literal 146 2) (use_of 147 "seen" (the 149 "a" ∷ [])) (form_at 0)
+    ∷ At (literal 150 3) (use_of 151 "at" (the 153 "t" ∷ the 154 "a" ∷ [])) (form_at 0)
+    ∷ At half (use_of 161 "done" []) (form_at 0)
+    ∷ AtNot (literal 163 2) (use_of 164 "seen" (the 166 "a" ∷ [])) (form_at 0)
+    ∷ []) (atom 167 "done" [])

@@ -1,10 +1,12 @@
 -- The ground form of the depot, worked by hand. The objects are home, a, v and t, in that order, since constants come
 -- first; v is a van, and so a truck too.
-use Rattle.std.specs.Prelude.{◌≡◌, ℕ, true, false, List, [], ◌∷◌, map, Some, None, pos, codes}
+use Rattle.std.specs.Prelude.{◌≡◌, ℕ, Bool, true, false, List, [], ◌∷◌, map, Some, None, pos, codes}
 use Prim.Native.String.{String}
-use Rattle.plus_fraction.specs.Fraction.{whole}
-use Rattle.plus_model.specs.Terms.{Number, Fluent, Sum, Difference, Product, Quotient, Expression, Above, Condition, Always, Never, Both, Either, Atom, Compare, Write, Add, Delete, Decrease, Effect, Action, Event, Process}
+use Rattle.plus_fraction.specs.Fraction.{Fraction, over, whole}
+use Rattle.plus_model.specs.Terms.{Number, Fluent, Sum, Difference, Product, Quotient, Expression, Above, Condition, Always, Never, Both, Either, Atom, Compare, Write, Add, Delete, Decrease, Effect, Action, Event, Process, Timed}
 use Rattle.plus_model.specs.Plan.{Called, Instance, UnknownAction, WrongArguments}
+use Rattle.plus_tree.specs.declared.trees.Init.{Init}
+use Rattle.plus_tree.specs.declared.trees.Init.TheVariants.{At}
 use Rattle.plus_tree.specs.Expr.{Expr, x_sum, x_product, x_minus, x_quotient, exprs_of}
 use Rattle.plus_tree.specs.Cond.{Cond, c_not, c_imply}
 use Rattle.plus_types.specs.declared.faults.File.TheVariants as files
@@ -13,13 +15,13 @@ use Rattle.plus_numbering.specs.Objects.{members_of}
 use Rattle.plus_numbering.specs.Numbers.{number_of}
 use Rattle.plus_numbering.specs.Counts.{first_over}
 use Rattle.plus_expansion.specs.Environments.{environments, bound_object}
-use Rattle.plus_expansion.specs.Expansion.{expanded, labels_meant, instances_of, action_meant, condition_meant, expression_meant}
+use Rattle.plus_expansion.specs.Expansion.{expanded, labels_meant, instances_of, action_meant, condition_meant, expression_meant, timed_meant}
 use Rattle.plus_expansion.specs.Calls.{called_of}
 use Rattle.plus_expansion.specs.Nodes.{problem_nodes, action_nodes}
 use Rattle.plus_expansion.specs.Literals.{literals_of, call_literals}
 use Rattle.plus_expansion.specs.Counting.{counts_of}
-use Rattle.plus_types_rows.specs.Words.{form_at, typed, the, var, literal, number, fluent, atom, both, either, every, some}
-use Rattle.plus_expansion_rows.specs.Depot.{drive, sail, depot, delivery}
+use Rattle.plus_types_rows.specs.Words.{name_at, form_at, typed, the, var, use_of, literal, number, fluent, atom, both, either, every, some}
+use Rattle.plus_expansion_rows.specs.Depot.{drive, sail, depot, delivery, half, shifts}
 
 abbrev pub here : Context
 here = problem_context depot delivery
@@ -92,6 +94,39 @@ pub record ProblemRows : Type 0 where
       (expanded depot delivery).goal
       ≡ Both (Either (Atom 1 false) (Either (Atom 4 true) Never))
       (Both Always (Both (Either (Atom 4 true) (Either (Atom 5 true) Never)) Always))
+
+-- ---- timed literals
+
+abbrev pub becomes : Bool → Fraction → ℕ → Timed
+becomes positive time atom = record { time = time; atom = atom; positive = positive }
+
+-- the literal (at -1 (done)), which no text spells
+abbrev pub below_zero : Init
+below_zero = At (record { negative = true; digits = 1; places = 0; span = name_at 0 }) (use_of 0 "done" []) (form_at 0)
+
+-- by their times, and where two have one time in the order of the text; nothing of them is there at first
+pub record TimedRows : Type 0 where
+  pub well_typed : type_faults depot shifts ≡ []
+  pub none : (expanded depot delivery).timed ≡ []
+  pub in_order :
+      (expanded depot shifts).timed
+      ≡ becomes true (over (pos 5) 10) 6
+      ∷ becomes true (whole (pos 2)) 5
+      ∷ becomes false (whole (pos 2)) 5
+      ∷ becomes false (whole (pos 3)) 6
+      ∷ becomes true (whole (pos 3)) 3
+      ∷ []
+  pub first_atoms : (expanded depot shifts).initial.atoms ≡ false ∷ true ∷ false ∷ false ∷ false ∷ false ∷ false ∷ []
+  pub before_zero : timed_meant here (below_zero ∷ []) ≡ []
+  pub times :
+      literals_of depot shifts
+      ≡ (files.Problem, literal 140 3)
+      ∷ (files.Problem, literal 146 2)
+      ∷ (files.Problem, literal 150 3)
+      ∷ (files.Problem, half)
+      ∷ (files.Problem, literal 163 2)
+      ∷ (files.Domain, literal 93 0)
+      ∷ []
 
 -- ---- actions
 

@@ -1,5 +1,5 @@
-//! Objects, numbers, the ground problem, calls, conditions, expressions and sizes.
-ghost use Rattle.plus_expansion_rows.specs.Ground.{ObjectRows, NumberRows, ProblemRows, CallRows, ConditionRows, ExpressionRows, SizeRows};
+//! Objects, numbers, the ground problem, timed literals, calls, conditions, expressions and sizes.
+ghost use Rattle.plus_expansion_rows.specs.Ground.{ObjectRows, NumberRows, ProblemRows, TimedRows, CallRows, ConditionRows, ExpressionRows, SizeRows};
 
 /// The objects of each type, and the choices of objects for variables.
 pub fn object_rows()
@@ -14,6 +14,11 @@ pub fn number_rows()
 /// Processes, events, the initial state and the goal.
 pub fn problem_rows()
     ensures { ProblemRows }
+{}
+
+/// Timed literals, by their times and then by the text.
+pub fn timed_rows()
+    ensures { TimedRows }
 {}
 
 /// The instance of a call, its refusals, and the order of instances.

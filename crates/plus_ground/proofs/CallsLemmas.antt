@@ -23,7 +23,7 @@ use Rattle.plus_types.specs.Faults.{Context, problem_context, action_names}
 use Rattle.plus_numbering.specs.Objects.{members_of, object_place, extents_of, tuples, object_names}
 use Rattle.plus_numbering.specs.Numbers.{ground_names, ground_names_from, ground_labels, label_of}
 use Rattle.plus_expansion.specs.Environments.{Environment}
-use Rattle.plus_expansion.specs.Expansion.{action_meant, process_meant, event_meant, condition_meant, instances_of, initial_state, expanded, labels_meant}
+use Rattle.plus_expansion.specs.Expansion.{action_meant, process_meant, event_meant, condition_meant, instances_of, initial_state, timed_meant, expanded, labels_meant}
 use Rattle.plus_expansion.specs.Calls.{called_of, bound_by}
 use Rattle.plus_expansion.specs.Literals.{in_file, literals_of, init_literals, condition_literals, schema_literals, call_literals}
 use Rattle.plus_state.specs.Fits.{ProblemFits, ActionFits}
@@ -88,7 +88,7 @@ pub expanded_is :
     → atoms ≡ ground_labels (problem_context d p) d.predicates → fluents ≡ ground_labels (problem_context d p) d.functions
     → processes ≡ instances_of (problem_context d p) (process_meant (problem_context d p)) d.processes
     → events ≡ instances_of (problem_context d p) (event_meant (problem_context d p)) d.events
-    → timed ≡ [] → s ≡ initial_state (problem_context d p) p.init → goal ≡ condition_meant (problem_context d p) [] true p.goal
+    → timed ≡ timed_meant (problem_context d p) p.init → s ≡ initial_state (problem_context d p) p.init → goal ≡ condition_meant (problem_context d p) [] true p.goal
     → record { atoms = length atoms; fluents = length fluents; processes = processes; events = events; timed = timed; initial = s; goal = goal } ≡ expanded d p
 expanded_is d p atoms fluents processes events timed s goal a f ps es ts i g =
     let names = ap length a ∙ labels_many (problem_context d p) 0 d.predicates in

@@ -4,5 +4,7 @@ pub mod ConditionsLemmas
 pub mod EffectsLemmas
 pub mod RatesLemmas
 pub mod InitialLemmas
+pub mod Sorting
+pub mod TimedLemmas
 pub mod CallsLemmas
 pub mod NothingLemmas

@@ -18,6 +18,7 @@ use crate::environments::Environment;
 use crate::faults::{GroundFault, InstanceFault};
 use crate::initial::initial;
 use crate::schemas::{action, events, processes};
+use crate::timed_literals::timed_literals;
 use plus_limits::{fit, is_small, schema_fits, within};
 use plus_literal::FromParts;
 use plus_numbering::{CountFault, Numbering};
@@ -63,12 +64,13 @@ fn expand<Q: FromParts>(alloc: Global, numbering: &Numbering) -> Result<Ground<Q
     let goal = condition(alloc, numbering, &none, true, &problem.goal)?;
     let processes = processes(alloc, numbering, domain.processes.as_slice())?;
     let events = events(alloc, numbering, domain.events.as_slice())?;
+    let timed = timed_literals(alloc, numbering, problem.init.as_slice())?;
     Ok(Ground {
         atoms,
         fluents,
         processes,
         events,
-        timed: Vec::new(alloc),
+        timed,
         initial,
         goal,
     })

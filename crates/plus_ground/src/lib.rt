@@ -10,6 +10,7 @@ pub mod faults;
 mod initial;
 mod rates;
 mod schemas;
+mod timed_literals;
 
 pub use expansion::{ground, instance};
 pub use faults::{GroundFault, InstanceFault};

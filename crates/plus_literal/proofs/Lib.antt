@@ -1,2 +1,2 @@
-mod Powers
+pub mod Powers
 pub mod Reduced
