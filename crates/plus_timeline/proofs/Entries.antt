@@ -1,49 +1,41 @@
--- The states of an entry after a step.
-use Rattle.std.proofs.Common.{◌≡◌, ℕ, List, length, ◌++◌, refl, ap, ap₂, sym, subst, ◌∙◌}
-use Rattle.std.specs.Prelude.{Bool, Option}
+-- The states of an entry after a step, and where a running set comes to.
+use Rattle.std.proofs.Common.{◌≡◌, ℕ, List, length, ◌++◌, ap, ap₂, sym, subst, ◌∙◌}
+use Rattle.std.specs.Prelude.{Bool, Option, Some, None, IfSome, option_map}
 use Rattle.plus_fraction.specs.Fraction.{Fraction}
-use Rattle.plus_model.specs.Terms.{State}
-use Rattle.plus_state.specs.Changes.{Changes, patched, AreIn, LeadsTo}
+use Rattle.plus_model.specs.Terms.{State, Problem}
+use Rattle.plus_model.specs.Running.{moved}
+use Rattle.plus_state.specs.Changes.{Changes, patched, AreIn, RisesIn}
 use Rattle.plus_state.proofs.PatchLemmas.{same_atoms, same_fluents}
 use Rattle.plus_state.proofs.OpenLemmas.{in_append, patched_append}
-use Rattle.plus_timeline.specs.declared.next.Next.{Next}
-use Rattle.plus_timeline.specs.EntryStates.{EntryView, LedBy}
-use Rattle.plus_timeline.specs.Timeline.{Keeps}
+use Rattle.plus_stretch.specs.declared.arrival.Arrival.{Arrival}
+use Rattle.plus_stretch.specs.Arrives.{Arrives}
+use Rattle.plus_timeline.specs.EntryStates.{LedBy, IsReached}
 
--- what the last step changed joins what was changed before it
-pub led_on : (arrival before state : State) (past last all : Changes) → LedBy arrival past before → LeadsTo before last state → all ≡ record { atoms = past.atoms ++ last.atoms; fluents = past.fluents ++ last.fluents } → LedBy arrival all state
-led_on arrival before state past last all h l e =
-    let a : length before.atoms ≡ length arrival.atoms = ap (λ (s : State). length s.atoms) h.is ∙ same_atoms arrival past in
-    let f : length before.fluents ≡ length arrival.fluents = ap (λ (s : State). length s.fluents) h.is ∙ same_fluents arrival past in
-    subst (λ (c : Changes). LedBy arrival c state) (sym e) (record {
-      is = l.is ∙ ap (λ (s : State). patched s last) h.is ∙ ap₂ (λ (x : List Bool) (y : List (Option Fraction)). record { atoms = x; fluents = y })
-          (sym (patched_append past.atoms last.atoms arrival.atoms)) (sym (patched_append past.fluents last.fluents arrival.fluents));
+-- ---- a step
+ahead_on : (state new : State) (c : Changes) (ahead : Option State) → IfSome ahead (λ s. s ≡ state) → new ≡ patched state c → IfSome (option_map (λ s. patched s c) ahead) (λ s. s ≡ new)
+ahead_on state new c None h n = tt
+ahead_on state new c (Some s) h n = ap (λ (x : State). patched x c) h ∙ sym n
+
+-- what a step changes joins what was changed before it
+pub led_on : (arrival state new : State) (past c all : Changes) (ahead then : Option State) → LedBy arrival past state ahead → RisesIn state c → all ≡ record { atoms = past.atoms ++ c.atoms; fluents = past.fluents ++ c.fluents } → new ≡ patched state c → then ≡ option_map (λ s. patched s c) ahead → LedBy arrival all new then
+led_on arrival state new past c all ahead then h r e n k =
+    let a : length state.atoms ≡ length arrival.atoms = ap (λ (s : State). length s.atoms) h.is ∙ same_atoms arrival past in
+    let f : length state.fluents ≡ length arrival.fluents = ap (λ (s : State). length s.fluents) h.is ∙ same_fluents arrival past in
+    subst (λ (x : Changes). LedBy arrival x new then) (sym e) (record {
+      is = n ∙ ap (λ (s : State). patched s c) h.is ∙ ap₂ (λ (x : List Bool) (y : List (Option Fraction)). record { atoms = x; fluents = y })
+          (sym (patched_append past.atoms c.atoms arrival.atoms)) (sym (patched_append past.fluents c.fluents arrival.fluents));
       within = record {
-        atoms_in = in_append _ past.atoms last.atoms h.within.atoms_in (subst (λ (n : ℕ). AreIn n last.atoms) a l.rises.within.atoms_in);
-        fluents_in = in_append _ past.fluents last.fluents h.within.fluents_in (subst (λ (n : ℕ). AreIn n last.fluents) f l.rises.within.fluents_in);
+        atoms_in = in_append _ past.atoms c.atoms h.within.atoms_in (subst (λ (n : ℕ). AreIn n c.atoms) a r.within.atoms_in);
+        fluents_in = in_append _ past.fluents c.fluents h.within.fluents_in (subst (λ (n : ℕ). AreIn n c.fluents) f r.within.fluents_in);
       };
+      same = subst (λ (o : Option State). IfSome o (λ s. s ≡ new)) (sym k) (ahead_on state new c ahead h.same n);
     })
 
--- a step keeps the numbers of atoms and fluents
-module _ (old new : EntryView) (c : Changes) (e : new ≡ record old { state = patched old.state c; before = old.state }) where
-  pub step_atoms : length new.state.atoms ≡ length old.state.atoms
-  step_atoms = ap (λ (v : EntryView). length v.state.atoms) e ∙ same_atoms old.state c
-
-  pub step_fluents : length new.state.fluents ≡ length old.state.fluents
-  step_fluents = ap (λ (v : EntryView). length v.state.fluents) e ∙ same_fluents old.state c
-
-  pub keeps_on : (running : List ℕ) (answer : Option (Next Fraction)) (entries most : ℕ) → Keeps old.state old.before old.arrival (length old.state.atoms) (length old.state.fluents) running answer entries most → Keeps new.state new.before new.arrival (length new.state.atoms) (length new.state.fluents) running answer entries most
-  keeps_on running answer entries most h = record {
-    state_fits = record { atoms_fit = refl; fluents_fit = refl };
-    before_fits = record {
-      atoms_fit = ap (λ (v : EntryView). length v.before.atoms) e ∙ sym step_atoms;
-      fluents_fit = ap (λ (v : EntryView). length v.before.fluents) e ∙ sym step_fluents;
-    };
-    arrival_fits = record {
-      atoms_fit = ap (λ (v : EntryView). length v.arrival.atoms) e ∙ h.arrival_fits.atoms_fit ∙ sym step_atoms;
-      fluents_fit = ap (λ (v : EntryView). length v.arrival.fluents) e ∙ h.arrival_fits.fluents_fit ∙ sym step_fluents;
-    };
-    none_runs = h.none_runs;
-    within = h.within;
-    room = h.room;
-  }
+-- ---- where a running set comes to
+pub reached_is : {Q : Type 0} (value : Q → Fraction) (P : Problem) (u t : Fraction) (s ahead : State) (R : List ℕ) (rs : List Fraction) (a : Arrival Q) → Arrives value P u t s R rs a → ahead ≡ patched s a.changes → IsReached s a.changes ahead
+unfolding moved
+reached_is value P u t s ahead R rs a h e = record {
+  rises = h.rises;
+  is = e;
+  atoms = ap (λ (x : State). x.atoms) (e ∙ h.may.arrival_is);
+}

@@ -1,6 +1,6 @@
 -- What `advance` does, and why it is refused. The moment u up to which time may go is the least of the
 -- time asked for and of the later times of literals.
-use Rattle.std.specs.Prelude.{◌≡◌, ◌⊎◌, ℕ, suc, ◌<◌, false, List, [], Option, Some, None, Result, Err}
+use Rattle.std.specs.Prelude.{◌≡◌, ◌⊎◌, ℕ, suc, ◌<◌, Bool, false, List, [], Option, Some, None, Result, Err}
 use Rattle.plus_fraction.specs.Fraction.{Fraction, ◌<ℚ◌, ◌≤ℚ◌}
 use Rattle.plus_model.specs.Terms.{Effect, State, Problem}
 use Rattle.plus_model.specs.Joint.{Fault, joint, NoValue as no_value, Conflict as conflict}
@@ -52,9 +52,24 @@ pub record ClosesEntry (P : Problem) (u : Fraction) (old new : TimelineView) : T
       ≡ record old {
         now = view_after old.now (history.Run members);
         running = members;
+        rates = may.rate;
         answer = Some Run;
         acted = false;
       }
+
+-- the next entry is at time t, with these states on arrival and after its literals, if there are any
+abbrev pub EntersAt : Fraction → State → State → Bool → TimelineView → TimelineView → Type 0
+EntersAt t arrived after some old new =
+    new
+    ≡ record old {
+      now = view_after old.now (Enter t arrived after);
+      before = old.now.state;
+      arrival = arrived;
+      literal = some;
+      entries = suc old.entries;
+      answer = Some (Entry t);
+      acted = false;
+    }
 
 -- the next entry is begun, at time t
 pub record BeginsEntry (P : Problem) (u t : Fraction) (old new : TimelineView) : Type 0 where
@@ -63,17 +78,7 @@ pub record BeginsEntry (P : Problem) (u t : Fraction) (old new : TimelineView) :
   pub arrived : State
   pub after : State
   pub may : EnterMayFollow P u old.now members t arrived after
-  pub is :
-      new
-      ≡ record old {
-        now = view_after old.now (Enter t arrived after);
-        before = old.now.state;
-        arrival = arrived;
-        literal = has_literal P t;
-        entries = suc old.entries;
-        answer = Some (Entry t);
-        acted = false;
-      }
+  pub is : EntersAt t arrived after (has_literal P t) old new
 
 -- nothing is due, and the time asked for is reached
 pub record IsThere (P : Problem) (until : Fraction) (old new : TimelineView) : Type 0 where

@@ -1,9 +1,9 @@
 -- What contracts see of the states of an entry.
-use Rattle.std.specs.Prelude.{◌≡◌, length, refl}
+use Rattle.std.specs.Prelude.{◌≡◌, length, refl, Option, IfSome}
 use Rattle.std.specs.Coded.{Coded, code_by, coded×}
 use Rattle.plus_model.specs.Terms.{State}
 use Rattle.plus_model.specs.Codes.{coded_state}
-use Rattle.plus_state.specs.Changes.{Changes, patched, Within}
+use Rattle.plus_state.specs.Changes.{Changes, patched, Within, RisesIn}
 
 pub record EntryView : Type 0 where
   pub state : State  -- now
@@ -17,7 +17,14 @@ coded_entry =
     (λ p. record { state = p.0; before = p.1.0; arrival = p.1.1 })
     (λ _. refl)
 
--- the changes lead from the arrival to the state before the last step
-pub record LedBy (arrival : State) (past : Changes) (before : State) : Type 0 where
-  pub is : before ≡ patched arrival past
+-- the changes lead from the arrival to the state now, and where there is a state ahead it is equal to that
+pub record LedBy (arrival : State) (past : Changes) (state : State) (ahead : Option State) : Type 0 where
+  pub is : state ≡ patched arrival past
   pub within : Within (length arrival.atoms) (length arrival.fluents) past
+  pub same : IfSome ahead (λ s. s ≡ state)
+
+-- the moves lead from a state to the one ahead, which has the same atoms
+pub record IsReached (s : State) (moves : Changes) (ahead : State) : Type 0 where
+  pub rises : RisesIn s moves
+  pub is : ahead ≡ patched s moves
+  pub atoms : ahead.atoms ≡ s.atoms

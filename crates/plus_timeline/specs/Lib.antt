@@ -1,7 +1,11 @@
 pub mod EntryStates
+pub mod Reaching
 pub mod Timeline
 pub mod TimelineCode
-pub mod Still
+pub mod Serving
+pub mod Stopping
+pub mod Due
+pub mod Literals
 pub mod Stops
 pub mod Asked
 pub mod AskedLaws

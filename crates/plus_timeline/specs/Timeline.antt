@@ -1,15 +1,15 @@
 -- What contracts see of a timeline: the view of the history played so far, on which the next part
 -- depends, and what the accessors answer.
-use Rattle.std.specs.Prelude.{◌≡◌, ℕ, ◌<◌, ◌≤◌, Bool, false, List, [], map, Option, Some, None, pos}
+use Rattle.std.specs.Prelude.{◌≡◌, ℕ, ◌<◌, ◌≤◌, Bool, false, List, [], length, Option, Some, None, pos, All}
 use Rattle.std.specs.List.{list_any}
 use Rattle.plus_fraction.specs.Fraction.{Fraction, whole, compared}
 use Rattle.plus_model.specs.Terms.{Same, State, Problem}
 use Rattle.plus_model.specs.Value.{passes}
 use Rattle.plus_model.specs.History.{View}
 use Rattle.plus_model.specs.Trajectory.{first_view}
-use Rattle.plus_state.specs.declared.term.EventId.{EventId}
-use Rattle.plus_state.specs.declared.term.ProcessId.{ProcessId}
+pub use Rattle.plus_state.specs.Numbers.{event_numbers, process_numbers}
 use Rattle.plus_state.specs.Fits.{StateFits}
+use Rattle.plus_cascade.specs.Fired.{IsSetOf}
 use Rattle.plus_timeline.specs.declared.next.Next.{Next}
 use Rattle.plus_timeline.specs.declared.next.Next.TheVariants.{Round, Run, Entry, There}
 
@@ -20,6 +20,7 @@ pub record TimelineView : Type 0 where
   pub literal : Bool  -- the present entry has a timed literal
   pub events : List ℕ  -- of the last round
   pub running : List ℕ  -- the last running set
+  pub rates : List Fraction  -- the net rates of the fluents under it
   pub entries : ℕ  -- begun so far
   pub most : ℕ  -- entries that are allowed
   pub answer : Option (Next Fraction)  -- of the last `advance`
@@ -27,6 +28,7 @@ pub record TimelineView : Type 0 where
   pub ended : Bool  -- a call was refused, or the goal was tested
   pub atoms : ℕ
   pub fluents : ℕ
+  pub event_count : ℕ
 
 -- an answer of the code, over fractions
 abbrev pub next_of : {Q : Type 0} → (Q → Fraction) → Next Q → Next Fraction
@@ -49,6 +51,7 @@ begun P most =
       literal = has_literal P (whole (pos 0));
       events = [];
       running = [];
+      rates = [];
       entries = 1;
       most = most;
       answer = None;
@@ -56,14 +59,8 @@ begun P most =
       ended = false;
       atoms = P.atoms;
       fluents = P.fluents;
+      event_count = length P.events;
     }
-
--- the numbers of these events, and of these processes
-abbrev pub event_numbers : List EventId → List ℕ
-event_numbers es = map (λ (e : EventId). e.0) es
-
-abbrev pub process_numbers : List ProcessId → List ℕ
-process_numbers ps = map (λ (p : ProcessId). p.0) ps
 
 -- the last part is a running set exactly after the answer `Run`
 abbrev pub running_by : Option (Next Fraction) → List ℕ → Option (List ℕ)
@@ -73,12 +70,13 @@ running_by (Some Run) running = Some running
 running_by (Some (Entry t)) running = None
 running_by (Some There) running = None
 
--- what each timeline keeps: all its states are for the same atoms and fluents, no process runs, and no
--- more entries are begun than are allowed
-pub record Keeps (state before arrival : State) (atoms fluents : ℕ) (running : List ℕ) (answer : Option (Next Fraction)) (entries most : ℕ) : Type 0 where
+-- what each timeline keeps: all its states are for the same atoms and fluents, the events that have fired are among those that
+-- there are, in a set and in order, and no more entries are begun than are allowed
+pub record Keeps (state before arrival : State) (atoms fluents : ℕ) (set : List Bool) (fired : List ℕ) (answer : Option (Next Fraction)) (entries most : ℕ) : Type 0 where
   pub state_fits : StateFits atoms fluents state
   pub before_fits : StateFits atoms fluents before
   pub arrival_fits : StateFits atoms fluents arrival
-  pub none_runs : running ≡ []
+  pub set_is : IsSetOf set fired
+  pub inside : All (λ e. e < length set) fired
   pub within : entries ≤ most
   pub room : answer ≡ Some Run → entries < most

@@ -1,22 +1,43 @@
 //! The states of an entry: now, before the last step, and on arrival.
-ghost use Rattle.std.specs.Prelude.{◌≡◌, IfOk, OnOk, OnErr};
-ghost use Rattle.plus_state.specs.Changes.{patched, RisesIn, LeadsTo};
+ghost use Rattle.std.specs.Prelude.{◌≡◌, [], length, Ok, Option, option_map, IfOk, IfSome, OnOk, OnErr};
+ghost use Rattle.plus_fraction.specs.Fraction.{◌<ℚ◌};
+ghost use Rattle.plus_model.specs.Running.{rates as rates_of, GoesOn};
+ghost use Rattle.plus_state.specs.Changes.{patched, Within, RisesIn, LeadsTo};
+ghost use Rattle.plus_state.specs.Fits.{StateFits};
+ghost use Rattle.plus_state.specs.View.{problem_of};
+ghost use Rattle.plus_settle.specs.Members.{process_numbers, AreMembers};
+ghost use Rattle.plus_timeline.specs.EntryStates.{IsReached};
+ghost use Rattle.plus_timeline.specs.Reaching.{ReachTold};
 
 use plus_number::exact::Exact;
+use plus_settle::settling::Running;
 use plus_state::changes::Changes;
+use plus_state::problem::Ground;
 use plus_state::states::State;
 use plus_state::trail::Trail;
+use plus_stretch::arrival::Arrival;
+use plus_stretch::halt::Halt;
+use plus_stretch::search;
 use std::alloc::{AllocError, Global};
 use std::marker::Model;
 
+/// Where a running set comes to, and the state there.
+#[derive(Drop)]
+pub struct Reached<Q: Exact> {
+    pub arrival: Arrival<Q>,
+    pub ahead: State<Q>,
+}
+
 /// The state now, the one before the last step, and the one on arrival in the present entry. A step
-/// costs what it changes: the other two states follow by the changes of the steps before.
+/// costs what it changes: the other states follow by the changes of the steps before.
 #[derive(Drop)]
 pub struct EntryStates<Q: Exact> {
     trail: Trail<Q>,
     arrival: State<Q>,
-    // all changes since the arrival but those of the last step
+    // all changes since the arrival
     past: Changes<Q>,
+    // one more copy of the state now, which moves where time is searched
+    ahead: Option<State<Q>>,
 }
 
 impl<Q: Exact> Model for EntryStates<Q> {
@@ -32,18 +53,53 @@ impl<Q: Exact> Model for EntryStates<Q> {
       arrival = e.arrival;
     } };
 
-    ghost invariant = { λ e. LedBy e.arrival e.past e.trail.before };
+    ghost invariant = { λ e. LedBy e.arrival e.past e.trail.state e.ahead };
+}
+
+// The atoms of the first changes and the fluents of the others.
+fn joined<Q: Exact>(atoms: Changes<Q>, fluents: Changes<Q>) -> Changes<Q>
+    ensures { result ≡ record { atoms = atoms.atoms; fluents = fluents.fluents } }
+{
+    Changes {
+        atoms: atoms.atoms,
+        fluents: fluents.fluents,
+    }
+}
+
+// Makes the changes in a state, where there is one.
+fn patch_some<Q: Exact>(state: &mut Option<State<Q>>, changes: &Changes<Q>)
+    requires { IfSome state.old (λ s. Within (length s.atoms) (length s.fluents) changes.now) }
+    ensures { state.new ≡ option_map (λ s. patched s changes.now) state.old }
+{
+    match state {
+        Some(state) => state.patch(changes),
+        None => {}
+    }
 }
 
 impl<Q: Exact> EntryStates<Q> {
-    /// An entry in this state, before which nothing happened.
-    pub fn begin(alloc: Global, state: &State<Q>) -> Result<EntryStates<Q>, AllocError>
-        ensures { IfOk result (λ e. e ≡ record { state = state.now; before = state.now; arrival = state.now }) }
+    /// The first entry: the initial state, and what the literals of its time change.
+    pub fn begin(
+        alloc: Global,
+        initial: &State<Q>,
+        literals: Changes<Q>,
+    ) -> Result<EntryStates<Q>, AllocError>
+        requires { RisesIn initial.now literals }
+        ensures { IfOk result (λ e. e ≡ record {
+          state = patched initial.now literals;
+          before = initial.now;
+          arrival = initial.now;
+        }) }
     {
+        let mut trail = Trail::new(alloc, initial.copy(alloc)?)?;
+        let arrival = initial.copy(alloc)?;
+        let past = literals.copy(alloc)?;
+        trail.step(literals);
         Ok(EntryStates {
-            trail: Trail::new(alloc, state.copy(alloc)?)?,
-            arrival: state.copy(alloc)?,
-            past: Changes::none(alloc),
+            trail,
+            arrival,
+            past,
+            ahead: None,
         })
     }
 
@@ -56,23 +112,86 @@ impl<Q: Exact> EntryStates<Q> {
         }) }
         ensures err { OnErr result (self.new ≡ self.old) }
     {
-        self.past.append(self.trail.changes())?;
+        self.past.append(&changes)?;
+        patch_some(&mut self.ahead, &changes);
         self.trail.step(changes);
         Ok(())
     }
 
-    /// Begins the next entry, in the same state. It takes no memory.
-    pub fn enter(&mut self, alloc: Global)
-        ensures { self.new ≡ record {
-          state = self.old.state;
-          before = self.old.state;
-          arrival = self.old.state;
-        } }
+    // A state equal to the present one: the one ahead, or else a new copy.
+    fn take_ahead(&mut self, alloc: Global) -> Result<State<Q>, AllocError>
+        ensures state { IfOk result (λ s. s ≡ self.old.state) }
+        ensures same { self.new ≡ self.old }
     {
+        match self.ahead.take() {
+            Some(state) => Ok(state),
+            None => self.trail.state().copy(alloc),
+        }
+    }
+
+    /// How far a running set goes on, as `plus_stretch::reach` tells it, and the state there. Nothing
+    /// changes.
+    pub fn reach(
+        &mut self,
+        alloc: Global,
+        ground: &Ground<Q>,
+        running: &Running<Q>,
+        time: Q,
+        until: Q,
+    ) -> Result<Reached<Q>, Halt<Q>>
+        requires state { StateFits (length (ground.now.atoms.items)) (length (ground.now.fluents.items)) self.old.state }
+        requires members { AreMembers (length (ground.now.processes.items)) (process_numbers running.now.members.items) }
+        requires size { length (running.now.rates) ≡ length (self.old.state.fluents) }
+        requires rates { rates_of (problem_of Q.value ground.now) self.old.state (process_numbers running.now.members.items) ≡ Ok running.now.rates }
+        requires on { GoesOn (problem_of Q.value ground.now) self.old.state running.now.rates (process_numbers running.now.members.items) }
+        requires later { Q.value time <ℚ Q.value until }
+        ensures told { ReachTold Q.value Q.fits (problem_of Q.value ground.now) (Q.value until) (Q.value time) self.old.state (process_numbers running.now.members.items) running.now.rates result }
+        ensures reached { IfOk result (λ r. IsReached self.old.state r.arrival.changes r.ahead) }
+        ensures same { self.new ≡ self.old }
+    {
+        match self.take_ahead(alloc) {
+            Err(_) => Err(Halt::Memory),
+            Ok(mut ahead) => match search::reach(
+                alloc,
+                ground,
+                self.trail.state(),
+                &mut ahead,
+                running,
+                time,
+                until,
+            ) {
+                Err(halt) => Err(halt),
+                Ok(arrival) => Ok(Reached { arrival, ahead }),
+            },
+        }
+    }
+
+    /// Begins the next entry, in the state that is reached, with what the literals of its time change.
+    pub fn enter(
+        &mut self,
+        alloc: Global,
+        moves: Changes<Q>,
+        mut ahead: State<Q>,
+        literals: Changes<Q>,
+    ) -> Result<(), AllocError>
+        requires reached { IsReached self.old.state moves ahead }
+        requires literals { RisesIn self.old.state literals }
+        requires only { literals.fluents ≡ [] }
+        ensures ok { OnOk result (self.new ≡ record {
+          state = patched (patched self.old.state moves) literals;
+          before = self.old.state;
+          arrival = patched self.old.state moves;
+        }) }
+        ensures err { OnErr result (self.new ≡ self.old) }
+    {
+        let past = literals.copy(alloc)?;
         self.arrival.patch(&self.past);
-        self.arrival.patch(self.trail.changes());
-        self.past.clear();
-        self.trail.step(Changes::none(alloc));
+        self.arrival.patch(&moves);
+        ahead.patch(&past);
+        self.trail.step(joined(literals, moves));
+        self.past = past;
+        self.ahead = Some(ahead);
+        Ok(())
     }
 
     /// The state now.
@@ -96,7 +215,7 @@ impl<Q: Exact> EntryStates<Q> {
         &self.arrival
     }
 
-    /// What the last step changed; nothing, where the entry has no step yet.
+    /// What the last step changed. The first step of an entry is the way to it, with its literals.
     pub fn changes(&self) -> &Changes<Q>
         ensures { LeadsTo self.now.before result.now self.now.state }
     {
@@ -111,6 +230,7 @@ impl<Q: Exact> EntryStates<Q> {
             trail: self.trail.copy(alloc)?,
             arrival: self.arrival.copy(alloc)?,
             past: self.past.copy(alloc)?,
+            ahead: None,
         })
     }
 }

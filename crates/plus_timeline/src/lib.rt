@@ -4,6 +4,7 @@
 mod effect;
 mod entry;
 pub mod laws;
+mod literals;
 pub mod next;
 pub mod stop;
 pub mod timeline;

@@ -1,30 +1,41 @@
 //! A timeline: a history that is played one part at a time, and of which only the view is kept.
-ghost use Rattle.std.specs.Prelude.{◌≡◌, ◌≤◌, ◌<◌, ◌↔◌, IsTrue, ℕ, suc, Bool, true, false, Option, Some, None, List, [], length, map, option_map, unwrap_or, IfOk, OnOk, OnErr, if◌then◌else◌};
-ghost use Rattle.plus_fraction.specs.Fraction.{◌<ℚ◌};
-ghost use Rattle.plus_model.specs.History.{view_after, Enter, Act, Run as Runs};
-ghost use Rattle.plus_model.specs.Trajectory.{is_below};
+ghost use Rattle.std.specs.Prelude.{◌≡◌, ◌≤◌, ◌<◌, ◌↔◌, IsTrue, ℕ, suc, Bool, true, false, Option, Some, None, List, [], length, map, option_map, All, IfOk, IfSome, OnOk, OnErr};
+ghost use Rattle.plus_fraction.specs.Fraction.{◌<ℚ◌, ◌≤ℚ◌};
+ghost use Rattle.plus_model.specs.Firing.{firing};
+ghost use Rattle.plus_model.specs.History.{view_after, Act, Run as Runs, Round as Rounds};
+ghost use Rattle.plus_model.specs.Trajectory.{is_below, literals};
 ghost use Rattle.plus_state.specs.View.{problem_of, action_of};
 ghost use Rattle.plus_state.specs.Changes.{patched, RisesIn, LeadsTo};
 ghost use Rattle.plus_state.specs.Fits.{StateFits, ActionFits};
-ghost use Rattle.plus_timeline.specs.Still.{IsStill, Serves};
-ghost use Rattle.plus_timeline.specs.Timeline.{TimelineView, begun, next_of, event_numbers, process_numbers};
+ghost use Rattle.plus_stretch.specs.Tests.{AllPass};
+ghost use Rattle.plus_timeline.specs.Serving.{Serves};
+ghost use Rattle.plus_timeline.specs.EntryStates.{IsReached};
+ghost use Rattle.plus_timeline.specs.Reaching.{ReachTold};
+ghost use Rattle.plus_timeline.specs.Timeline.{TimelineView, begun, has_literal, next_of, event_numbers, process_numbers};
+ghost use Rattle.plus_timeline.specs.Asked.{round_tests};
+ghost use Rattle.plus_timeline.specs.Due.{DueTold};
 ghost use Rattle.plus_timeline.specs.Stops.{IsGoing};
 ghost use Rattle.plus_timeline.specs.Act.{ActTold};
 ghost use Rattle.plus_timeline.specs.Finish.{IsPaused, FinishTold, TakesNoMemory};
-ghost use Rattle.plus_timeline.specs.Advance.{IsAhead, AdvanceTold};
+ghost use Rattle.plus_timeline.specs.Advance.{IsAhead, EntersAt, AdvanceTold};
 
 use crate::effect::action_changes;
-use crate::entry::EntryStates;
+use crate::entry::{EntryStates, Reached};
+use crate::literals::{are_there, bound, literal_changes};
 use crate::next::Next;
-use crate::stop::Stop;
+use crate::stop::{Stop, cascade_stop, halt_stop, settle_stop};
+use plus_cascade::{Cascade, CascadeStop, DueRound, round_changes};
+use plus_crossing::rates::Rates;
 use plus_number::consts::zero;
 use plus_number::exact::Exact;
+use plus_settle::settling::{Running, settle};
 use plus_state::changes::Changes;
 use plus_state::outcome::{Breach, Limit};
 use plus_state::problem::{Action, Ground};
 use plus_state::states::State;
-use plus_state::term::{EventId, Overflow, ProcessId, Sign};
+use plus_state::term::{EventId, ProcessId};
 use plus_state::truth::holds;
+use plus_stretch::{Arrival, Halt};
 use std::alloc::{AllocError, Global};
 use std::cmp::Ordering;
 use std::marker::Model;
@@ -36,8 +47,13 @@ pub struct Timeline<Q: Exact> {
     alloc: Global,
     time: Q,
     states: EntryStates<Q>,
+    // the events that have fired in this cascade, as a set and in order
+    cascade: Cascade,
+    fired: Vec<EventId>,
+    // those of the last round
     events: Vec<EventId>,
-    running: Vec<ProcessId>,
+    running: Running<Q>,
+    literal: bool,
     lines: u64,
     entries: u64,
     most: u64,
@@ -61,16 +77,17 @@ impl<Q: Exact> Model for Timeline<Q> {
       now = record {
         time = Q.value t.time;
         state = t.states.state;
-        fired = [];
+        fired = event_numbers t.fired.items;
         running = running_by (option_map (next_of Q.value) t.answer)
-            (process_numbers t.running.items);
+            (process_numbers t.running.members.items);
         acted = t.lines;
       };
       before = t.states.before;
       arrival = t.states.arrival;
-      literal = false;
+      literal = t.literal;
       events = event_numbers t.events.items;
-      running = process_numbers t.running.items;
+      running = process_numbers t.running.members.items;
+      rates = t.running.rates;
       entries = t.entries;
       most = t.most;
       answer = option_map (next_of Q.value) t.answer;
@@ -78,11 +95,12 @@ impl<Q: Exact> Model for Timeline<Q> {
       ended = t.ended;
       atoms = length (t.states.state.atoms);
       fluents = length (t.states.state.fluents);
+      event_count = length t.cascade;
     } };
 
     ghost invariant = { λ t. Keeps t.states.state t.states.before t.states.arrival
         (length (t.states.state.atoms)) (length (t.states.state.fluents))
-        (process_numbers t.running.items)
+        t.cascade (event_numbers t.fired.items)
         (option_map (next_of Q.value) t.answer) t.entries t.most };
 }
 
@@ -103,16 +121,23 @@ impl<Q: Exact> Timeline<Q> {
         ground: &Ground<Q>,
         happenings: u64,
     ) -> Result<Timeline<Q>, AllocError>
-        requires some { 1 ≤ happenings }
-        requires still { IsStill (problem_of Q.value ground.now) }
+        requires { 1 ≤ happenings }
         ensures { IfOk result (λ t. t ≡ begun (problem_of Q.value ground.now) happenings) }
     {
+        let time = zero();
+        let literals = literal_changes(alloc, ground, time)?;
         Ok(Timeline {
             alloc,
-            time: zero(),
-            states: EntryStates::begin(alloc, &ground.initial)?,
+            time,
+            literal: are_there(&literals),
+            states: EntryStates::begin(alloc, &ground.initial, literals)?,
+            cascade: plus_cascade::begin(alloc, ground)?,
+            fired: Vec::new(alloc),
             events: Vec::new(alloc),
-            running: Vec::new(alloc),
+            running: Running {
+                members: Vec::new(alloc),
+                rates: Rates::zero(alloc, 0),
+            },
             lines: 0,
             entries: 1,
             most: happenings,
@@ -135,34 +160,13 @@ impl<Q: Exact> Timeline<Q> {
         if self.has_ended() {
             return Err(Stop::Ended);
         }
-        let time = self.time();
-        if self.is_running() {
-            return match until.sub(time) {
-                Ok(_) => {
-                    self.begin_entry(until);
-                    Ok(Next::Entry { time: until })
-                }
-                Err(_) => {
-                    self.end();
-                    Err(Stop::Limit(Limit::Number(Overflow {
-                        sign: Sign::Minus,
-                        left: until,
-                        right: time,
-                    })))
-                }
-            };
+        match self.next(ground, until) {
+            Ok(next) => Ok(next),
+            Err(stop) => {
+                self.end();
+                Err(stop)
+            }
         }
-        if !is_earlier(time, until) {
-            self.arrive();
-            return Ok(Next::There);
-        }
-        if self.is_full() {
-            let most = self.most();
-            self.end();
-            return Err(Stop::Limit(Limit::Happenings(most)));
-        }
-        self.close_entry();
-        Ok(Next::Run)
     }
 
     /// Does an action that is due at the present time: its condition holds, and its joint effect is done.
@@ -268,15 +272,14 @@ impl<Q: Exact> Timeline<Q> {
     pub fn running(&self) -> &[ProcessId]
         ensures { process_numbers result.now ≡ self.now.running }
     {
-        &self.running
+        &self.running.members
     }
 
     /// Whether the present entry has a timed literal.
     pub fn has_literals(&self) -> bool
         ensures { result ≡ self.now.literal }
     {
-        let _ = &self.most;
-        false
+        self.literal
     }
 
     /// A timeline that goes on in the same way.
@@ -287,8 +290,11 @@ impl<Q: Exact> Timeline<Q> {
             alloc,
             time: self.time,
             states: self.states.copy(alloc)?,
+            cascade: self.cascade.copy(alloc)?,
+            fired: Vec::from_slice(alloc, &self.fired)?,
             events: Vec::from_slice(alloc, &self.events)?,
-            running: Vec::from_slice(alloc, &self.running)?,
+            running: self.running.copy(alloc)?,
+            literal: self.literal,
             lines: self.lines,
             entries: self.entries,
             most: self.most,
@@ -304,9 +310,10 @@ impl<Q: Exact> Timeline<Q> {
         self.ended
     }
 
-    // Whether the last part is a running set; it is empty then, and a further entry is allowed.
+    // Whether the last part is a running set; a further entry is allowed then.
     fn is_running(&self) -> bool
-        ensures running { self.now.now.running ≡ (if result then Some [] else None) }
+        ensures runs { result ≡ true → self.now.now.running ≡ Some self.now.running }
+        ensures rests { result ≡ false → self.now.now.running ≡ None }
         ensures room { result ≡ true → self.now.entries < self.now.most }
     {
         matches!(self.answer, Some(Next::Run))
@@ -343,6 +350,186 @@ impl<Q: Exact> Timeline<Q> {
         self.lines < u64::MAX
     }
 
+    // Does one thing. A refusal changes nothing.
+    fn next(&mut self, ground: &Ground<Q>, until: Q) -> Result<Next<Q>, Stop<Q>>
+        requires going { IsGoing self.old }
+        requires serves { Serves (problem_of Q.value ground.now) self.old }
+        requires ahead { IsAhead (self.old.now.running) (self.old.now.time) (Q.value until) }
+        ensures told { AdvanceTold Q.value Q.fits (problem_of Q.value ground.now) (Q.value until)
+            self.old self.new result }
+        ensures kept { OnErr result (self.new ≡ self.old) }
+    {
+        if self.is_running() {
+            return self.pass(ground, until);
+        }
+        match self.due(ground) {
+            Err(stop) => Err(cascade_stop(stop)),
+            Ok(Some(round)) => match self.put_round(round) {
+                Err(_) => Err(Stop::Memory),
+                Ok(()) => Ok(Next::Round),
+            },
+            Ok(None) => self.rest(ground, until),
+        }
+    }
+
+    // The round that is due.
+    fn due(&self, ground: &Ground<Q>) -> Result<Option<DueRound<Q>>, CascadeStop<Q>>
+        requires serves { Serves (problem_of Q.value ground.now) self.now }
+        ensures told { DueTold Q.value Q.fits (problem_of Q.value ground.now) self.now.now.fired self.now.now.state result }
+        ensures rises { IfOk result (λ o. IfSome o (λ r. RisesIn self.now.now.state r.changes)) }
+    {
+        round_changes(self.alloc, &self.cascade, ground, self.state())
+    }
+
+    // All events of the round fire.
+    fn put_round(&mut self, round: DueRound<Q>) -> Result<(), AllocError>
+        requires events { All (λ e. e < self.old.event_count) (event_numbers round.events.items) }
+        requires rises { RisesIn self.old.now.state round.changes }
+        ensures ok { OnOk result (self.new ≡ record (self.old) {
+          now = view_after (self.old.now)
+              (Rounds (event_numbers round.events.items) (patched self.old.now.state round.changes));
+          before = self.old.now.state;
+          events = event_numbers round.events.items;
+          answer = Some Next.Round;
+          acted = false;
+        }) }
+        ensures err { OnErr result (self.new ≡ self.old) }
+    {
+        let DueRound { events, changes } = round;
+        self.fired.reserve(events.len())?;
+        self.states.step(changes)?;
+        self.fired.extend_from_slice(&events)?;
+        self.cascade.add(&events);
+        self.events = events;
+        self.answer = Some(Next::Round);
+        self.acted = false;
+        Ok(())
+    }
+
+    // Where no event holds: the time is reached, or the entry is closed.
+    fn rest(&mut self, ground: &Ground<Q>, until: Q) -> Result<Next<Q>, Stop<Q>>
+        requires going { IsGoing self.old }
+        requires serves { Serves (problem_of Q.value ground.now) self.old }
+        requires moment { self.old.now.running ≡ None }
+        requires still { firing (problem_of Q.value ground.now) self.old.now.state ≡ [] }
+        requires passed { AllPass Q.fits (round_tests (problem_of Q.value ground.now) self.old.now.fired self.old.now.state) }
+        requires ahead { self.old.now.time ≤ℚ Q.value until }
+        ensures told { AdvanceTold Q.value Q.fits (problem_of Q.value ground.now) (Q.value until)
+            self.old self.new result }
+        ensures kept { OnErr result (self.new ≡ self.old) }
+    {
+        let time = self.time();
+        if !is_earlier(time, bound(ground, time, until)) {
+            self.arrive();
+            return Ok(Next::There);
+        }
+        if self.is_full() {
+            return Err(Stop::Limit(Limit::Happenings(self.most())));
+        }
+        match settle(self.alloc(), ground, self.state()) {
+            Err(stop) => Err(settle_stop(stop)),
+            Ok(running) => {
+                self.run(running);
+                Ok(Next::Run)
+            }
+        }
+    }
+
+    // This set runs from now on.
+    fn run(&mut self, running: Running<Q>)
+        requires { self.old.entries < self.old.most }
+        ensures { self.new ≡ record (self.old) {
+          now = view_after (self.old.now) (Runs (process_numbers running.members.items));
+          running = process_numbers running.members.items;
+          rates = running.rates;
+          answer = Some Next.Run;
+          acted = false;
+        } }
+    {
+        self.running = running;
+        self.answer = Some(Next::Run);
+        self.acted = false;
+    }
+
+    // Goes on along the running set, to the next entry.
+    fn pass(&mut self, ground: &Ground<Q>, until: Q) -> Result<Next<Q>, Stop<Q>>
+        requires going { IsGoing self.old }
+        requires serves { Serves (problem_of Q.value ground.now) self.old }
+        requires runs { self.old.now.running ≡ Some self.old.running }
+        requires room { self.old.entries < self.old.most }
+        requires later { self.old.now.time <ℚ Q.value until }
+        ensures told { AdvanceTold Q.value Q.fits (problem_of Q.value ground.now) (Q.value until)
+            self.old self.new result }
+        ensures kept { OnErr result (self.new ≡ self.old) }
+    {
+        let time = self.time();
+        match self.reach(ground, bound(ground, time, until)) {
+            Err(halt) => Err(halt_stop(halt)),
+            Ok(reached) => {
+                let Reached { arrival, ahead } = reached;
+                let Arrival { time, changes, .. } = arrival;
+                match self.enter(ground, time, changes, ahead) {
+                    Err(_) => Err(Stop::Memory),
+                    Ok(()) => Ok(Next::Entry { time }),
+                }
+            }
+        }
+    }
+
+    // How far the running set goes on, at most up to this time.
+    fn reach(&mut self, ground: &Ground<Q>, until: Q) -> Result<Reached<Q>, Halt<Q>>
+        requires serves { Serves (problem_of Q.value ground.now) self.old }
+        requires runs { self.old.now.running ≡ Some self.old.running }
+        requires later { self.old.now.time <ℚ Q.value until }
+        ensures told { ReachTold Q.value Q.fits (problem_of Q.value ground.now) (Q.value until)
+            self.old.now.time self.old.now.state self.old.running self.old.rates result }
+        ensures reached { IfOk result (λ r. IsReached self.old.now.state r.arrival.changes r.ahead) }
+        ensures same { self.new ≡ self.old }
+    {
+        self.states
+            .reach(self.alloc, ground, &self.running, self.time, until)
+    }
+
+    // Begins the next entry, at this time and in the state ahead, to which these moves lead.
+    fn enter(
+        &mut self,
+        ground: &Ground<Q>,
+        time: Q,
+        moves: Changes<Q>,
+        ahead: State<Q>,
+    ) -> Result<(), AllocError>
+        requires serves { Serves (problem_of Q.value ground.now) self.old }
+        requires reached { IsReached self.old.now.state moves ahead }
+        requires room { self.old.entries < self.old.most }
+        ensures ok { OnOk result (EntersAt (Q.value time) (patched self.old.now.state moves)
+            (literals (problem_of Q.value ground.now) (Q.value time) (patched self.old.now.state moves))
+            (has_literal (problem_of Q.value ground.now) (Q.value time)) self.old self.new) }
+        ensures err { OnErr result (self.new ≡ self.old) }
+    {
+        let literals = literal_changes(self.alloc, ground, time)?;
+        let literal = are_there(&literals);
+        self.states.enter(self.alloc, moves, ahead, literals)?;
+        self.cascade.clear(&self.fired);
+        self.fired.clear();
+        self.time = time;
+        self.literal = literal;
+        self.entries += 1;
+        self.answer = Some(Next::Entry { time });
+        self.acted = false;
+        Ok(())
+    }
+
+    fn arrive(&mut self)
+        ensures { self.new ≡ record (self.old) {
+          now = record (self.old.now) { running = None };
+          answer = Some Next.There;
+          acted = false;
+        } }
+    {
+        self.answer = Some(Next::There);
+        self.acted = false;
+    }
+
     // Goes on in the state after an action, which changed this.
     fn put_changes(&mut self, changes: Changes<Q>) -> Result<(), AllocError>
         requires there { self.old.answer ≡ Some Next.There }
@@ -358,55 +545,10 @@ impl<Q: Exact> Timeline<Q> {
         ensures err { OnErr result (self.new ≡ self.old) }
     {
         self.states.step(changes)?;
+        self.cascade.clear(&self.fired);
+        self.fired.clear();
         self.lines += 1;
         self.acted = true;
         Ok(())
-    }
-
-    fn arrive(&mut self)
-        ensures { self.new ≡ record (self.old) {
-          now = record (self.old.now) { running = None };
-          answer = Some Next.There;
-          acted = false;
-        } }
-    {
-        self.answer = Some(Next::There);
-        self.acted = false;
-    }
-
-    // Closes the entry with the empty running set.
-    fn close_entry(&mut self)
-        requires { self.old.entries < self.old.most }
-        ensures { self.new ≡ record (self.old) {
-          now = view_after (self.old.now) (Runs []);
-          running = [];
-          answer = Some Next.Run;
-          acted = false;
-        } }
-    {
-        self.running.clear();
-        self.answer = Some(Next::Run);
-        self.acted = false;
-    }
-
-    // Begins the next entry in the same state.
-    fn begin_entry(&mut self, time: Q)
-        requires { self.old.entries < self.old.most }
-        ensures { self.new ≡ record (self.old) {
-          now = view_after (self.old.now)
-              (Enter (Q.value time) (self.old.now.state) (self.old.now.state));
-          before = self.old.now.state;
-          arrival = self.old.now.state;
-          literal = false;
-          entries = suc (self.old.entries);
-          answer = Some (Next.Entry (Q.value time));
-          acted = false;
-        } }
-    {
-        self.time = time;
-        self.states.enter(self.alloc);
-        self.entries += 1;
-        self.answer = Some(Next::Entry { time });
-        self.acted = false;
     }
 }

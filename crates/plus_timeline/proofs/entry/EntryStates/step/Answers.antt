@@ -1,10 +1,9 @@
-use Rattle.std.proofs.Common.{sym, subst}
-use Rattle.plus_state.specs.Changes.{TrailView}
-use Rattle.plus_timeline.specs.EntryStates.{LedBy}
+use Rattle.std.proofs.Common.{ap, sym, subst}
+use Rattle.plus_state.specs.Changes.{TrailView, RisesIn}
+use Rattle.plus_timeline.specs.EntryStates.{EntryView}
 use Rattle.plus_timeline.proofs.Entries.{led_on}
 use Rattle.plus_timeline.proofs.entry.EntryStates.step.Goals as goal
 
 pub invariant_of-self-2 : goal.invariant_of-self-2
 invariant_of-self-2 g c =
-    subst (λ (t : TrailView). LedBy c.self.inside.arrival c.append.new.self t.before) (sym c.step.ensures)
-    (led_on _ _ _ c.self.inside.past _ _ c.self.invariant c.changes.ensures c.in_ok-append.ensures.ok)
+    led_on _ _ _ _ _ _ _ _ c.self.invariant (subst (λ (e : EntryView). RisesIn e.state c.args.changes) (sym c.self.view_is) c.requires) c.in_ok-append.ensures.ok (ap (λ (t : TrailView). t.state) c.step.ensures) c.patch_some.ensures

@@ -2,10 +2,9 @@ use Rattle.std.proofs.Common.{◌≡◌, false, sym, subst}
 use Rattle.std.specs.Prelude.{Ok, Err}
 use Rattle.plus_model.specs.Terms.{State}
 use Rattle.plus_state.specs.Changes.{patched, RisesIn}
-use Rattle.plus_state.specs.View.{problem_of, action_of}
+use Rattle.plus_state.specs.View.{action_of}
 use Rattle.plus_timeline.specs.Asked.{act_tests}
 use Rattle.plus_timeline.specs.Act.{ActsOn, BreaksAct, EffectTold}
-use Rattle.plus_timeline.proofs.StillWorld.{nothing_fires}
 use Rattle.plus_timeline.proofs.Telling.{refusal_told}
 use Rattle.plus_timeline.proofs.timeline.Timeline.act.Goals as goal
 
@@ -26,7 +25,7 @@ returns-in-Ok-put_changes-clause-told g c =
         moment = c.in-Ok-put_changes.ensures.moment;
         after = patched v.now.state c.in-Ok.changes;
         acts = record {
-          still = nothing_fires (problem_of g.Q.Exact.value c.args.ground.now) v.now.state (c.requires.serves going).still;
+          still = (c.requires.serves going).still (c.requires.paused going).there (c.requires.paused going).fresh;
           may = told.does.may;
           effect = told.does.effect;
         };

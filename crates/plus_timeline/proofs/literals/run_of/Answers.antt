@@ -1,0 +1,5 @@
+use Rattle.plus_timeline.proofs.LiteralLemmas.{in_turn}
+use Rattle.plus_timeline.proofs.literals.run_of.Goals as goal
+
+pub returns-clause-turn : goal.returns-clause-turn
+returns-clause-turn g c = in_turn g.Q.Exact.value _ c.args.literals.now _ _ c.first_from.ensures.point c.first_after.ensures.point c.first_from.ensures.inside
