@@ -4,7 +4,7 @@ use Rattle.std.specs.Prelude.{ℕ, List, ◌++◌, codes, decimal}
 use Rattle.plus_report.specs.declared.refusals.Text.{Text}
 use Rattle.plus_report.specs.declared.refusals.Text.TheVariants as texts
 use Rattle.plus_report.specs.declared.refusals.Word.{Word}
-use Rattle.plus_report.specs.declared.refusals.Word.TheVariants.{Byte, Long, Unclosed, Form, NotBuilt, UnknownType, UnknownName, Arity, WrongType, Twice, UnboundVariable, ShadowedVariable, TypeLoop, RateForm, DomainName, NameTaken, NotLevelTwo}
+use Rattle.plus_report.specs.declared.refusals.Word.TheVariants.{Byte, Long, Unclosed, Form, UnknownType, UnknownName, Arity, WrongType, Twice, UnboundVariable, ShadowedVariable, TypeLoop, RateForm, DomainName, NameTaken, NotLevelTwo}
 use Rattle.plus_report.specs.declared.refusals.Kinds.{Kinds}
 use Rattle.plus_report.specs.declared.refusals.Kinds.TheVariants.{Objects, Atoms, Fluents, Processes, Events, Actions, Nodes}
 use Rattle.plus_report.specs.declared.refusals.Early.{Early}
@@ -23,7 +23,6 @@ word_text Byte = codes "byte"
 word_text Long = codes "long"
 word_text Unclosed = codes "unclosed"
 word_text Form = codes "form"
-word_text NotBuilt = codes "not built"
 word_text UnknownType = codes "unknown type"
 word_text UnknownName = codes "unknown name"
 word_text Arity = codes "arity"

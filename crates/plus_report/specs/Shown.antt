@@ -1,9 +1,10 @@
 -- What can be shown beside a ground problem: states for its atoms and fluents, and ids that are
 -- places in its lists.
-use Rattle.std.specs.Prelude.{ℕ, ◌<◌, ◌^◌, List, All, length, map}
+use Rattle.std.specs.Prelude.{ℕ, ◌<◌, ◌^◌, List, All, length}
 use Rattle.plus_model.specs.Terms.{State, Problem}
 use Rattle.plus_state.specs.View.{Labels}
 use Rattle.plus_state.specs.Fits.{StateFits}
+pub use Rattle.plus_state.specs.Numbers.{event_numbers, process_numbers}
 use Rattle.plus_state.specs.declared.term.EventId.{EventId}
 use Rattle.plus_state.specs.declared.term.ProcessId.{ProcessId}
 
@@ -17,13 +18,6 @@ pub record AreOver (N : Labels) (s s' : State) : Type 0 where
 -- a state for the atoms and the fluents of a problem
 abbrev pub FitsIn : Problem → State → Type 0
 FitsIn P s = StateFits P.atoms P.fluents s
-
--- the numbers of events and of processes
-abbrev pub event_numbers : List EventId → List ℕ
-event_numbers events = map (λ (e : EventId). e.0) events
-
-abbrev pub process_numbers : List ProcessId → List ℕ
-process_numbers processes = map (λ (p : ProcessId). p.0) processes
 
 -- events and processes of a problem
 abbrev pub AreEvents : Problem → List EventId → Type 0

@@ -139,9 +139,9 @@ static REFUSALS: [(Early, &str); 8] = [
             text: Text::Problem,
             start: 18,
             end: 20,
-            word: Word::NotBuilt,
+            word: Word::Twice,
         },
-        "bad text: problem 18-20: not built\n",
+        "bad text: problem 18-20: twice\n",
     ),
     (
         Early::TooMany {

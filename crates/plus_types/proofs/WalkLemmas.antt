@@ -7,8 +7,7 @@ use Rattle.plus_tree.specs.declared.terms.TypedName.{TypedName}
 use Rattle.plus_tree.specs.declared.trees.Domain.{Domain}
 use Rattle.plus_tree.specs.declared.trees.Problem.{Problem}
 use Rattle.plus_types.specs.Types.{Binding, bindings_of, bound_names}
-use Rattle.plus_types.specs.Faults.{IsFirstFault, Context, argument_faults, arguments_faults, faults_of, is_well_typed, types_faults, list_faults, heads_faults, declaration_faults, rule_faults, problem_faults, state_faults, domain_name_faults}
-use Rattle.plus_types.specs.Unbuilt.{unbuilt_faults}
+use Rattle.plus_types.specs.Faults.{IsFirstFault, Context, argument_faults, arguments_faults, type_faults, is_well_typed, types_faults, list_faults, heads_faults, declaration_faults, rule_faults, problem_faults, state_faults, domain_name_faults}
 use Rattle.plus_types.specs.declared.faults.File.TheVariants as files
 
 -- the first form has none, and neither has the rest
@@ -60,10 +59,10 @@ pairs_err c vars whole ps ts i p t e h k m n w f =
     rw w (rw (d, g) (first_here _ _ e f))
 
 -- a pair without faults is well typed
-pub well_typed_if_none : (d : Domain) (p : Problem) → faults_of d p ≡ [] → IsTrue (is_well_typed d p)
+pub well_typed_if_none : (d : Domain) (p : Problem) → type_faults d p ≡ [] → IsTrue (is_well_typed d p)
 well_typed_if_none d p e = rw e search rules
 
--- the parts of the walk: the four declarations, the three kinds of rules, the problem, what is not handled yet
+-- the parts of the walk: the four declarations, the three kinds of rules, the problem
 pub declared_none :
     (d : Domain) → types_faults (bindings_of d.types) [] d.types ≡ [] → list_faults (bindings_of d.types) files.Domain [] [] d.constants ≡ []
     → heads_faults (bindings_of d.types) [] d.predicates ≡ [] → heads_faults (bindings_of d.types) [] d.functions ≡ [] → declaration_faults d ≡ []
@@ -92,22 +91,18 @@ pub declared_functions :
 unfolding declaration_faults
 declared_functions d f a b c h = first_later _ _ f a (first_later _ _ f b (first_later _ _ f c h))
 
-pub pair_none : (d : Domain) (p : Problem) → declaration_faults d ≡ [] → rule_faults d ≡ [] → problem_faults d p ≡ [] → unbuilt_faults d p ≡ [] → faults_of d p ≡ []
-pair_none d p a b c u = none_more _ _ (none_more _ _ a (none_more _ _ b c)) u
+pub pair_none : (d : Domain) (p : Problem) → declaration_faults d ≡ [] → rule_faults d ≡ [] → problem_faults d p ≡ [] → type_faults d p ≡ []
+pair_none d p a b c = none_more _ _ a (none_more _ _ b c)
 
-pub pair_declared : (d : Domain) (p : Problem) (f : TypeFault) → IsFirstFault (declaration_faults d) f → IsFirstFault (faults_of d p) f
-pair_declared d p f h = first_here _ _ f (first_here _ _ f h)
+pub pair_declared : (d : Domain) (p : Problem) (f : TypeFault) → IsFirstFault (declaration_faults d) f → IsFirstFault (type_faults d p) f
+pair_declared d p f h = first_here _ _ f h
 
-pub pair_rules : (d : Domain) (p : Problem) (f : TypeFault) → declaration_faults d ≡ [] → IsFirstFault (rule_faults d) f → IsFirstFault (faults_of d p) f
-pair_rules d p f a h = first_here _ _ f (first_later _ _ f a (first_here _ _ f h))
+pub pair_rules : (d : Domain) (p : Problem) (f : TypeFault) → declaration_faults d ≡ [] → IsFirstFault (rule_faults d) f → IsFirstFault (type_faults d p) f
+pair_rules d p f a h = first_later _ _ f a (first_here _ _ f h)
 
 pub pair_problem :
-    (d : Domain) (p : Problem) (f : TypeFault) → declaration_faults d ≡ [] → rule_faults d ≡ [] → IsFirstFault (problem_faults d p) f → IsFirstFault (faults_of d p) f
-pair_problem d p f a b h = first_here _ _ f (first_later _ _ f a (first_later _ _ f b h))
-
-pub pair_unbuilt :
-    (d : Domain) (p : Problem) (f : TypeFault) → declaration_faults d ≡ [] → rule_faults d ≡ [] → problem_faults d p ≡ [] → IsFirstFault (unbuilt_faults d p) f → IsFirstFault (faults_of d p) f
-pair_unbuilt d p f a b c h = first_later _ _ f (none_more _ _ a (none_more _ _ b c)) h
+    (d : Domain) (p : Problem) (f : TypeFault) → declaration_faults d ≡ [] → rule_faults d ≡ [] → IsFirstFault (problem_faults d p) f → IsFirstFault (type_faults d p) f
+pair_problem d p f a b h = first_later _ _ f a (first_later _ _ f b h)
 
 -- the objects, the name of the domain, the initial state and the goal
 pub problem_none :
@@ -138,4 +133,4 @@ pub ruleset walking_declarations = (declared_none, declared_types, declared_cons
 
 pub ruleset walking_problem = (problem_none, problem_objects, problem_name, problem_state)
 
-pub ruleset walking_pair = (pair_none, pair_declared, pair_rules, pair_problem, pair_unbuilt)
+pub ruleset walking_pair = (pair_none, pair_declared, pair_rules, pair_problem)

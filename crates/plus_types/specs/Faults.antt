@@ -31,7 +31,6 @@ use Rattle.plus_types.specs.declared.faults.Wrong.TheVariants.{UnknownType, Unkn
 use Rattle.plus_types.specs.declared.faults.TypeFault.{TypeFault}
 use Rattle.plus_types.specs.declared.faults.TypeFault.TheVariants.{At, Memory}
 use Rattle.plus_types.specs.Types.{is_among, is_type, is_above, is_under, objects_of, Binding, bindings_of, bound_names, kind_of}
-use Rattle.plus_types.specs.Unbuilt.{is_empty, unbuilt_faults}
 
 -- a fault, where the rule is broken
 abbrev pub fault_where : Bool → Wrong → File → Span → List TypeFault
@@ -337,12 +336,13 @@ problem_faults d p =
 abbrev pub type_faults : Domain → Problem → List TypeFault
 type_faults d p = declaration_faults d ++ (rule_faults d ++ problem_faults d p)
 
--- all faults: the broken rules, then the forms that are not handled yet
-abbrev pub faults_of : Domain → Problem → List TypeFault
-faults_of d p = type_faults d p ++ unbuilt_faults d p
+-- whether there is none
+abbrev pub is_empty : {A : Type 0} → List A → Bool
+is_empty [] = true
+is_empty (x ∷ xs) = false
 
 abbrev pub is_well_typed : Domain → Problem → Bool
-is_well_typed d p = is_empty (faults_of d p)
+is_well_typed d p = is_empty (type_faults d p)
 
 -- the names that a domain declares
 abbrev pub predicate_names : Domain → List (List ℕ)

@@ -27,8 +27,6 @@ pub enum Wrong {
     TypeLoop,
     RateForm,
     DomainName,
-    /// No rule: the form is not handled yet.
-    NotBuilt,
 }
 
 /// Why a pair is not well typed: the rule, and the form that breaks it; or memory was wanting.

@@ -13,7 +13,6 @@ pub mod names;
 mod schemas;
 pub mod typed;
 pub mod types;
-mod unbuilt;
 mod uses;
 
 pub use faults::{File, TypeFault, Wrong};

@@ -1,7 +1,7 @@
 //! A domain and a problem that are well typed.
 
 ghost use Rattle.std.specs.Prelude.{◌≡◌, IsTrue, IfOk};
-ghost use Rattle.plus_types.specs.Faults.{Walks, faults_of, problem_faults, declaration_faults, rule_faults, state_faults, domain_name_faults, is_well_typed, predicate_names, function_names, action_names, process_names, event_names};
+ghost use Rattle.plus_types.specs.Faults.{Walks, type_faults, problem_faults, declaration_faults, rule_faults, state_faults, domain_name_faults, is_well_typed, predicate_names, function_names, action_names, process_names, event_names};
 ghost use Rattle.plus_types.specs.Types.{bindings_of, objects_of};
 
 use crate::conditions::condition;
@@ -13,7 +13,6 @@ use crate::known::{Declared, Known};
 use crate::names::Names;
 use crate::schemas::schemas;
 use crate::types::{self, Types};
-use crate::unbuilt;
 use plus_tree::{Domain, Problem};
 use std::alloc::Global;
 
@@ -206,7 +205,7 @@ fn problem_forms(
 // The walk over the pair, and its tables.
 #[tactic(auto, using(crate::proofs::WalkLemmas::walking_pair))]
 fn pair(alloc: Global, domain: &Domain, problem: &Problem) -> Result<(Tables, Rules), TypeFault>
-    ensures walks { Walks (faults_of domain.now problem.now) result }
+    ensures walks { Walks (type_faults domain.now problem.now) result }
     ensures types { IfOk result (λ t. t.0.types ≡ bindings_of domain.now.types) }
     ensures objects { IfOk result (λ t. t.0.objects ≡ bindings_of (objects_of domain.now problem.now)) }
     ensures predicates { IfOk result (λ t. t.0.predicates ≡ predicate_names domain.now) }
@@ -218,18 +217,16 @@ fn pair(alloc: Global, domain: &Domain, problem: &Problem) -> Result<(Tables, Ru
     let mut tables = declarations(alloc, domain)?;
     let rules = rule_names(alloc, domain, &tables)?;
     problem_forms(alloc, domain, problem, &mut tables)?;
-    unbuilt::forms(domain, problem)?;
     Ok((tables, rules))
 }
 
 /// Tests whether a domain and a problem are well typed, and answers the first fault of the walk:
 /// types, constants, predicates, functions, actions, processes, events, objects, the name of the
-/// problem's domain, the initial state and the goal. Where no rule is broken, it answers the first
-/// form that is not handled yet.
+/// problem's domain, the initial state and the goal.
 #[tactic(auto, using(crate::proofs::WalkLemmas::well_typed_if_none))]
 pub fn check(alloc: Global, domain: Domain, problem: Problem) -> Result<Typed, TypeFault>
     ensures pair { IfOk result (λ t. (t.domain ≡ domain) × (t.problem ≡ problem)) }
-    ensures walks { Walks (faults_of domain problem) result }
+    ensures walks { Walks (type_faults domain problem) result }
 {
     let (tables, rules) = pair(alloc, &domain, &problem)?;
     let Tables {
