@@ -13,8 +13,9 @@ use Rattle.plus_number.specs.Frac.{fraction_of, IsFrac64}
 use Rattle.plus_state.specs.View.{Labels}
 use Rattle.plus_timeline.specs.Timeline as timeline
 use Rattle.plus_timeline.specs.Timeline.{TimelineView, begun}
-use Rattle.plus_timeline.specs.Still.{IsStill}
 use Rattle.plus_timeline.specs.Advance.{IsAhead}
+use Rattle.plus_timeline.specs.Serving.{Serves}
+use Rattle.plus_timeline.proofs.Serving.{begun_serves}
 use Rattle.plus_timeline.specs.declared.next.Next.TheVariants.{Entry}
 use Rattle.plus_report.specs.Report.{report_of, report_from}
 use Rattle.plus_report.specs.Text.{entry_text, literals_text}
@@ -50,13 +51,13 @@ first_report N P L most time e =
     ∙ ap (λ x. entry_text N (whole (pos 0)) P.initial P.initial ++ x) (literals_shown N P (whole (pos 0)) P.initial (literals P (whole (pos 0)) P.initial))
     ∙ sym (append-nil _)
 
-pub begins : (N : Labels) (P : Problem) (most : ℕ) (time : Frac64) (run : Run) → IsStill P → 1 ≤ most → run.timeline ≡ begun P most → run.ended ≡ false → fraction_of time ≡ run.timeline.now.time → run.report.bytes.items ≡ [] ++ next_text fraction_of N P run.timeline (Entry time) → Begins N P most run
-begins N P most time run s some e n t r =
+pub begins : (N : Labels) (P : Problem) (most : ℕ) (time : Frac64) (run : Run) → 1 ≤ most → run.timeline ≡ begun P most → run.ended ≡ false → fraction_of time ≡ run.timeline.now.time → run.report.bytes.items ≡ [] ++ next_text fraction_of N P run.timeline (Entry time) → Begins N P most run
+begins N P most time run some e n t r =
     let now : fraction_of time ≡ whole (pos 0) = t ∙ ap (λ v. v.now.time) e in
     record {
       rests = record {
         can = record {
-          serves = record { atoms = ap (λ v. v.atoms) e; fluents = ap (λ v. v.fluents) e; still = s };
+          serves = subst (Serves P) (sym e) (begun_serves P most);
           going = ap (λ v. v.ended) e;
           within = (let a : run.timeline.entries ≡ 1 = ap (λ v. v.entries) e in let b : run.timeline.most ≡ most = ap (λ v. v.most) e in omega arith);
         };

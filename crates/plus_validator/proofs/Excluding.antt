@@ -24,7 +24,7 @@ one_of Q (y ∷ front) back x a = one_of Q front back x (All-tail Q y (front ++ 
 abbrev Fits : File × Literal → Type 0
 Fits l = LiteralFits IsFrac64 l.1
 
-not_groundable : (d : Domain) (p : Problem) (line : List ℕ) (fault : GroundFault) → RefusesGround IsFrac64 d p fault → TellsFault fault line → IsGroundable IsFrac64 d p → ⊥
+pub not_groundable : (d : Domain) (p : Problem) (line : List ℕ) (fault : GroundFault) → RefusesGround IsFrac64 d p fault → TellsFault fault line → IsGroundable IsFrac64 d p → ⊥
 not_groundable d p line (faults.TooMany kind most) r t g = let e : None ≡ Some _ = sym g.counts ∙ r.1 in cc e
 not_groundable d p line (faults.Literal file span) r t g =
     r.unfit.first.fails (one_of Fits r.unfit.first.front r.unfit.first.back (file, r.unfit.literal) (subst (All Fits) r.unfit.first.split g.literals))

@@ -1,7 +1,10 @@
 pub mod Asking
 pub mod CalledTests
 pub mod Clear
+pub mod Numbers
+pub mod Rounds
 pub mod Steps
+pub mod FiresLemmas
 pub mod Lines
 pub mod Texts
 pub mod Runs
@@ -28,3 +31,6 @@ pub mod Judging
 pub mod Validating
 pub mod Making
 pub mod Excluding
+pub mod Inside
+pub mod Deciding
+pub mod Ending

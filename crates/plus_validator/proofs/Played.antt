@@ -37,9 +37,11 @@ use Rattle.plus_validator.specs.Standing.{IsPlayed, CanGoOn, IsReady, IsReached}
 use Rattle.plus_validator.specs.Running.{IsOnWay, Reaches}
 use Rattle.plus_validator.specs.Playing.{Readied, IsResting, ActsOnce, PlaysLine, IsInTime, ReadsAll, Closes, PlaysAll, Ends, Begins, ReadiedFor}
 use Rattle.plus_validator.specs.declared.memory.Report.{Report}
+use Rattle.plus_validator.proofs.FiresLemmas.{fires_exactly}
 use Rattle.plus_validator.proofs.Texts.{said_more, plan_of-append}
 use Rattle.plus_validator.specs.declared.run.Run.{Run}
-use Rattle.plus_validator.proofs.Steps.{played_on, serves_still, entries_of-append, asked_is}
+use Rattle.plus_validator.proofs.Steps.{played_on, entries_of-append, asked_is}
+use Rattle.plus_timeline.proofs.Serving.{act_serves}
 use Rattle.plus_validator.proofs.Lines.{with_line, has_begun, read_on, read_target, act_due, acted_target, act_ready, end_ready, Agree}
 use Rattle.std.proofs.lemmas.List.Elements.{All-cons, All-head, All-nil, All-tail}
 use Rattle.plus_stretch.specs.Tests.{AllPass, Test}
@@ -66,7 +68,7 @@ act_passes d N P L instance h call action v report i n s due x =
 pub acts_once : (d : Pair) (N : Labels) (P : Problem) (call : Call) (action : Action) (old new : Run) → CanGoOn P old.timeline → IsInstance IsFrac64 d.domain call.name (called_of d.domain d.problem call.name call.args) action → AllPass IsFrac64 (act_tests old.timeline.now.acted action old.timeline.now.state) → DoesAct P action old.timeline new.timeline → new.ended ≡ old.ended → new.report.bytes.items ≡ old.report.bytes.items ++ act_text N action.label new.timeline.before new.timeline.now.state → ActsOnce d N P call old new
 acts_once d N P call action old new c i x a e r = record {
   can = record {
-    serves = serves_still P old.timeline new.timeline (ap (λ v. v.atoms) a.is) (ap (λ v. v.fluents) a.is) c.serves;
+    serves = act_serves P action old.timeline new.timeline a c.serves;
     going = ap (λ v. v.ended) a.is ∙ c.going;
     within = (let w = c.within in let x : new.timeline.entries ≡ old.timeline.entries = ap (λ v. v.entries) a.is in let y : new.timeline.most ≡ old.timeline.most = ap (λ v. v.most) a.is in omega arith);
   };
@@ -307,6 +309,7 @@ accepted d p N P most text bytes old new z w e f b a k =
       history = finish.0;
       happens = ends.happens;
       only = λ other t. one_trajectory (expanded d p) (plan_of (pair d p) a.lines true) other finish.0 t ends.happens;
+      fires = fires_exactly (expanded d p) (plan_of (pair d p) a.lines true) finish.0 ends.happens;
       few = ends.few;
       times = a.times;
       clear = ends.clear;

@@ -1,29 +1,26 @@
 -- What one step of the timeline does to a run of a plan.
-use Rattle.std.proofs.Common.{◌≡◌, ℕ, suc, ◌+◌, ◌<◌, pos, Bool, List, [], ◌∷◌, ◌++◌, refl, ap, sym, subst, ◌∙◌, arith, zero-add, add-zero}
+use Rattle.std.proofs.Common.{◌≡◌, ℕ, suc, ◌+◌, ◌-◌, ◌*◌, ◌<◌, pos, Bool, List, [], ◌∷◌, ◌++◌, refl, ap, ap₂, sym, subst, ◌∙◌, arith, zero-add, add-zero}
 use Rattle.std.specs.Prelude.{Option, Some, None, length, All, slice_get, ◌||◌, if◌then◌else◌}
 use Rattle.std.specs.List.{list_any}
-use Rattle.std.proofs.lemmas.List.Elements.{All-nil}
-use Rattle.plus_fraction.specs.Fraction.{Fraction, ◌<ℚ◌, ◌≤ℚ◌, compared, whole}
+use Rattle.plus_fraction.specs.Fraction.{Fraction, ◌-ℚ◌, ◌<ℚ◌, ◌≤ℚ◌, compared, whole}
 use Rattle.plus_fraction.proofs.FractionAtMost.{<ℚ-≤ℚ_trans}
 use Rattle.plus_model.specs.Terms.{Same, Timed, State, Problem}
 use Rattle.plus_model.specs.Value.{passes}
 use Rattle.plus_model.specs.Plan.{Line, Plan}
 use Rattle.plus_model.specs.History as history
 use Rattle.plus_model.specs.History.{Part, Enter, Act, View, view_after}
-use Rattle.plus_model.specs.Trajectory.{next_line, time_or, target, least, until, HasBegun, Next as MayFollow}
+use Rattle.plus_model.specs.Trajectory.{next_line, time_or, target, least, literals, until, HasBegun, Next as MayFollow}
 use Rattle.plus_number.specs.Frac.{IsFrac64}
 use Rattle.plus_model.proofs.Moments.{not_below, ≤ℚ_refl, ≤ℚ_trans, least_within}
 use Rattle.plus_model.proofs.Paths.{prefix_grows}
-use Rattle.plus_model.proofs.Members.{same_exactly}
-use Rattle.plus_model.specs.Running.{RunsAfter}
+use Rattle.plus_model.specs.Running.{moved}
 use Rattle.plus_state.specs.View.{Labels}
 use Rattle.plus_timeline.specs.Timeline as timeline
 use Rattle.plus_timeline.specs.Timeline.{TimelineView, begun}
-use Rattle.plus_timeline.specs.Still.{Serves, IsStill}
 use Rattle.plus_timeline.specs.Advance.{IsAhead, Advances, FiresRound, ClosesEntry, BeginsEntry, IsThere}
 use Rattle.plus_timeline.specs.Laws.{AddsPart, IsDone}
+use Rattle.plus_timeline.proofs.Serving.{advance_serves}
 use Rattle.plus_timeline.proofs.Follows.{advance_follows}
-use Rattle.plus_timeline.proofs.StillWorld.{nothing_fires, none_goes_on, no_literals}
 use Rattle.plus_timeline.specs.declared.next.Next.{Next}
 use Rattle.plus_timeline.specs.declared.next.Next.TheVariants.{Round, Run, Entry, There}
 use Rattle.plus_report.specs.Text.{entry_text, literals_text, round_text}
@@ -35,12 +32,11 @@ use Rattle.plus_timeline.specs.Asked.{advance_tests, asked}
 use Rattle.plus_validator.specs.Asking.{entries_of, asked_at, NoneFails, IsClear}
 use Rattle.plus_validator.proofs.Asking.{IsNoAct, asked_on}
 use Rattle.plus_validator.proofs.Clear.{clear_part}
-use Rattle.plus_validator.specs.Standing.{IsPlayed, CanReach, IsReached, HasRoom, pending, steps_left, next_text, IsMore, IsShown}
+use Rattle.plus_validator.specs.Standing.{IsPlayed, CanReach, IsReached, HasRoom, pending, unfired, steps_left, next_text, IsMore, MovesThenChanges, IsShown}
+use Rattle.plus_validator.proofs.Numbers.{firing_below, set_below}
+use Rattle.plus_validator.proofs.Rounds.{unfired_within, round_less, rounds_lower, parts_lower}
 
 -- ---- the timeline may go on after a step
-
-pub serves_still : (P : Problem) (old new : TimelineView) → new.atoms ≡ old.atoms → new.fluents ≡ old.fluents → Serves P old → Serves P new
-serves_still P old new a f s = record { atoms = a ∙ s.atoms; fluents = f ∙ s.fluents; still = s.still }
 
 round_goes : (P : Problem) (u : Fraction) (old new : TimelineView) → CanReach P u old → FiresRound P old new → CanReach P u new
 round_goes P u old new c r =
@@ -51,7 +47,7 @@ round_goes P u old new c r =
     let here : old.now.time ≤ℚ u = subst (λ o. IsAhead o old.now.time u) r.moment c.ahead in
     let w = c.goes.within in
     record {
-      goes = record { serves = serves_still P old new (ap (λ v. v.atoms) r.is) (ap (λ v. v.fluents) r.is) c.goes.serves; going = ap (λ v. v.ended) r.is ∙ c.goes.going; within = omega arith };
+      goes = record { serves = advance_serves (λ t. t) P u old new Round r c.goes.serves; going = ap (λ v. v.ended) r.is ∙ c.goes.going; within = omega arith };
       ahead = subst (λ o. IsAhead o new.now.time u) (sym runs) (subst (λ t. t ≤ℚ u) (sym time) here);
       room = subst (λ o. HasRoom o new.entries new.most) (sym runs) tt;
     }
@@ -66,7 +62,7 @@ run_goes P u old new c r =
     let w = c.goes.within in
     let k = r.room in
     record {
-      goes = record { serves = serves_still P old new (ap (λ v. v.atoms) r.is) (ap (λ v. v.fluents) r.is) c.goes.serves; going = ap (λ v. v.ended) r.is ∙ c.goes.going; within = omega arith };
+      goes = record { serves = advance_serves (λ t. t) P u old new Run r c.goes.serves; going = ap (λ v. v.ended) r.is ∙ c.goes.going; within = omega arith };
       ahead = subst (λ o. IsAhead o new.now.time u) (sym runs) (subst (λ t. t <ℚ u) (sym time) here);
       room = subst (λ o. HasRoom o new.entries new.most) (sym runs) (let j : new.entries < new.most = omega arith in j);
     }
@@ -83,7 +79,7 @@ entry_goes P u t old new c r =
     let here : t ≤ℚ u = ≤ℚ_trans _ _ _ r.may.within (least_within old.now.time u P.timed) in
     let k : old.entries < old.most = room_of old.now.running r.members old.entries old.most r.runs c.room in
     record {
-      goes = record { serves = serves_still P old new (ap (λ v. v.atoms) r.is) (ap (λ v. v.fluents) r.is) c.goes.serves; going = ap (λ v. v.ended) r.is ∙ c.goes.going; within = omega arith };
+      goes = record { serves = advance_serves (λ t. t) P u old new (Entry t) r c.goes.serves; going = ap (λ v. v.ended) r.is ∙ c.goes.going; within = omega arith };
       ahead = subst (λ o. IsAhead o new.now.time u) (sym runs) (subst (λ x. x ≤ℚ u) (sym time) here);
       room = subst (λ o. HasRoom o new.entries new.most) (sym runs) tt;
     }
@@ -96,7 +92,7 @@ there_goes P u old new c r =
     let m : new.most ≡ old.most = ap (λ v. v.most) r.is in
     let w = c.goes.within in
     record {
-      goes = record { serves = serves_still P old new (ap (λ v. v.atoms) r.is) (ap (λ v. v.fluents) r.is) c.goes.serves; going = ap (λ v. v.ended) r.is ∙ c.goes.going; within = omega arith };
+      goes = record { serves = advance_serves (λ t. t) P u old new There r c.goes.serves; going = ap (λ v. v.ended) r.is ∙ c.goes.going; within = omega arith };
       ahead = subst (λ o. IsAhead o new.now.time u) (sym runs) (subst (λ x. x ≤ℚ u) (sym time) (≤ℚ_refl u));
       room = subst (λ o. HasRoom o new.entries new.most) (sym runs) tt;
     }
@@ -115,19 +111,32 @@ step_most value P u old new There a = ap (λ v. v.most) a.is
 
 -- ---- fewer steps are left
 
-no_round : (P : Problem) (old new : TimelineView) → Serves P old → FiresRound P old new → ⊥
-no_round P old new s r = r.round.some (r.round.all ∙ nothing_fires P old.now.state s.still)
+-- the entries and parts that are left
+abbrev parts_left : TimelineView → ℕ
+parts_left t = 2 * (t.most - t.entries) + pending t.now.running
 
 pub step_less : {Q : Type 0} (value : Q → Fraction) (P : Problem) (u : Fraction) (old new : TimelineView) (answer : Next Q) → CanReach P u old → IsMore answer → Advances value P u old new answer → steps_left new < steps_left old
 unfolding steps_left
-step_less value P u old new Round c m a = absurd (no_round P old new c.goes.serves a)
+step_less value P u old new Round c m a =
+    let runs : pending new.now.running ≡ pending old.now.running = ap (λ v. pending v.now.running) a.is ∙ sym (ap pending a.moment) in
+    let e : new.entries ≡ old.entries = ap (λ v. v.entries) a.is in
+    let k : new.most ≡ old.most = ap (λ v. v.most) a.is in
+    let n : new.event_count ≡ old.event_count = ap (λ v. v.event_count) a.is in
+    let f : new.now.fired ≡ old.now.fired ++ a.fired = ap (λ v. v.now.fired) a.is in
+    let parts : parts_left new ≡ parts_left old = ap₂ (λ (x y : ℕ). x + y) (ap₂ (λ (x y : ℕ). 2 * (x - y)) k e) runs in
+    let events : old.event_count ≡ length P.events = c.goes.serves.events in
+    let left = subst (λ (i : ℕ). unfired i (old.now.fired ++ a.fired) < unfired i old.now.fired) (sym events) (round_less P old.now.fired old.now.state a.fired a.after a.round) in
+    rounds_lower (parts_left old * (old.event_count + 1)) (parts_left new * (new.event_count + 1)) (unfired new.event_count new.now.fired) (unfired old.event_count old.now.fired)
+    (ap₂ (λ (x y : ℕ). x * (y + 1)) parts n)
+    (subst (λ (i : ℕ). unfired i new.now.fired < unfired old.event_count old.now.fired) (sym n) (subst (λ (xs : List ℕ). unfired old.event_count xs < unfired old.event_count old.now.fired) (sym f) left))
 step_less value P u old new Run c m a =
     let runs : new.now.running ≡ Some a.members = ap (λ v. v.now.running) a.is in
     let e : new.entries ≡ old.entries = ap (λ v. v.entries) a.is in
     let k : new.most ≡ old.most = ap (λ v. v.most) a.is in
     let p : pending new.now.running ≡ 0 = ap pending runs in
     let q : pending old.now.running ≡ 1 = ap pending a.moment in
-    omega arith
+    parts_lower (parts_left old) (parts_left new) old.event_count new.event_count (unfired new.event_count new.now.fired) (unfired old.event_count old.now.fired)
+    (ap (λ v. v.event_count) a.is) (omega arith) (unfired_within new.event_count new.now.fired)
 step_less value P u old new (Entry t) c m a =
     let runs : new.now.running ≡ None = ap (λ v. v.now.running) a.is in
     let e : new.entries ≡ suc old.entries = ap (λ v. v.entries) a.is in
@@ -135,7 +144,8 @@ step_less value P u old new (Entry t) c m a =
     let p : pending new.now.running ≡ 1 = ap pending runs in
     let q : pending old.now.running ≡ 0 = ap pending a.runs in
     let room : old.entries < old.most = room_of old.now.running a.members old.entries old.most a.runs c.room in
-    omega arith
+    parts_lower (parts_left old) (parts_left new) old.event_count new.event_count (unfired new.event_count new.now.fired) (unfired old.event_count old.now.fired)
+    (ap (λ v. v.event_count) a.is) (omega arith) (unfired_within new.event_count new.now.fired)
 step_less value P u old new There c m a = elim m [ ]
 
 -- ---- the history and the report grow by one part
@@ -282,15 +292,27 @@ step_done value N P L instance h u old new report report' p t a x r =
     }
 
 -- what is to be written
+moved_atoms : (s : State) (rs : List Fraction) (x : Fraction) → (moved s rs x).atoms ≡ s.atoms
+unfolding moved
+moved_atoms s rs x = refl
+
+literal_fluents : (P : Problem) (t : Fraction) (s : State) → (literals P t s).fluents ≡ s.fluents
+unfolding literals
+literal_fluents P t s = refl
+
 pub step_shown : {Q : Type 0} (value : Q → Fraction) (P : Problem) (u : Fraction) (old new : TimelineView) (answer : Next Q) → CanReach P u old → Advances value P u old new answer → IsShown P new answer
-step_shown value P u old new Round c a = absurd (no_round P old new c.goes.serves a)
+step_shown value P u old new Round c a =
+    subst (All (λ e. e < length P.events)) (sym (ap (λ v. v.events) a.is ∙ a.round.all)) (firing_below P old.now.state)
 step_shown value P u old new Run c a =
-    let none : a.members ≡ [] = same_exactly (RunsAfter P old.now.state a.may.settled.choice.first) a.members [] a.may.settled.choice.chosen (none_goes_on P old.now.state a.may.settled.choice.first c.goes.serves.still) in
-    let e : new.running ≡ [] = ap (λ v. v.running) a.is ∙ none in
-    subst (All (λ p. p < length P.processes)) (sym e) (All-nil (λ p. p < length P.processes))
-step_shown value P u old new (Entry t) c a = λ _.
-    ap (λ v. v.arrival) a.is ∙ sym (a.may.after_is ∙ no_literals P (value t) a.arrived c.goes.serves.still) ∙ sym (ap (λ v. v.now.state) a.is)
+    subst (All (λ p. p < length P.processes)) (sym (ap (λ v. v.running) a.is)) (set_below P old.now.state a.may.rate a.members a.may.settled.confirmed)
+step_shown value P u old new (Entry t) c a = record {
+  atoms = ap (λ v. v.arrival.atoms) a.is ∙ ap (λ (s : State). s.atoms) a.may.arrival_is ∙ moved_atoms old.now.state a.may.rate (value t -ℚ old.now.time) ∙ sym (ap (λ v. v.before.atoms) a.is);
+  fluents = ap (λ v. v.now.state.fluents) a.is ∙ ap (λ (s : State). s.fluents) a.may.after_is ∙ literal_fluents P (value t) a.arrived ∙ sym (ap (λ v. v.arrival.fluents) a.is);
+}
 step_shown value P u old new There c a = tt
 
-pub begun_shown : (P : Problem) (most : ℕ) (t : TimelineView) → IsStill P → t ≡ begun P most → t.arrival ≡ t.now.state
-begun_shown P most t s e = ap (λ v. v.arrival) e ∙ sym (no_literals P (whole (pos 0)) P.initial s) ∙ sym (ap (λ v. v.now.state) e)
+pub begun_shown : (P : Problem) (most : ℕ) (t : TimelineView) → t ≡ begun P most → MovesThenChanges t
+begun_shown P most t e = record {
+  atoms = ap (λ v. v.arrival.atoms) e ∙ sym (ap (λ v. v.before.atoms) e);
+  fluents = ap (λ v. v.now.state.fluents) e ∙ literal_fluents P (whole (pos 0)) P.initial ∙ sym (ap (λ v. v.arrival.fluents) e);
+}

@@ -1,5 +1,5 @@
 -- When a plan text is accepted: its pair is inside the limits, each of its lines is a line, exactly one trajectory has its
--- actions, and the report is that trajectory's text.
+-- actions, each event fires in exactly the states where it holds, and the report is that trajectory's text.
 use Rattle.std.specs.Prelude.{◌≡◌, ℕ, ◌≤◌, true, List, ◌++◌, length, map, Ok, All, codes}
 use Rattle.plus_model.specs.History.{Part}
 use Rattle.plus_model.specs.Trajectory.{Trajectory}
@@ -14,6 +14,7 @@ use Rattle.plus_expansion.specs.Counting.{IsGroundable}
 use Rattle.plus_report.specs.Report.{report_of}
 use Rattle.plus_validator.specs.Plans.{pair, plan_of, HasValue}
 use Rattle.plus_validator.specs.Asking.{entries_of, instances_of, NoneFails, IsClear}
+use Rattle.plus_validator.specs.Fires.{FiresExactly}
 use Rattle.plus_validator.specs.Limits.{text_limit}
 
 pub record IsAccepted (d : Domain) (p : Problem) (most : ℕ) (text bytes : List ℕ) : Type 0 where
@@ -24,6 +25,8 @@ pub record IsAccepted (d : Domain) (p : Problem) (most : ℕ) (text bytes : List
   pub history : List Part
   pub happens : Trajectory (expanded d p) (plan_of (pair d p) lines true) history
   pub only : (other : List Part) → Trajectory (expanded d p) (plan_of (pair d p) lines true) other → other ≡ history
+  -- in each of its states exactly the events fire that hold there
+  pub fires : FiresExactly (expanded d p) history
   pub few : entries_of history ≤ most
   -- no limit stands: the time of each line is a value, and all that is asked passes, at each shorter history and at the end
   pub times : All HasValue lines

@@ -18,6 +18,7 @@ use Rattle.plus_report.specs.Verdicts.{BreachFits, LimitFits}
 use Rattle.plus_validator.specs.declared.halt.Halt.{Halt}
 use Rattle.plus_validator.specs.declared.halt.Halt.TheVariants.{Refused, Memory}
 
+-- by a refusal of its timeline; one that has ended is not called again
 abbrev pub stop_halt : Stop Frac64 → Halt
 stop_halt (stops.Breach b) = Refused (Invalid b)
 stop_halt (stops.Limit l) = Refused (Beyond l)

@@ -1,10 +1,20 @@
 -- What a reader of an answer may rely on, over the definitions alone.
-use Rattle.std.specs.Prelude.{◌≡◌, ℕ, Bool, List}
+use Rattle.std.specs.Prelude.{◌≡◌, ℕ, ◌≤◌, Bool, true, false, List, length, map, All, Ok}
+use Rattle.plus_model.specs.Terms as terms
+use Rattle.plus_model.specs.Plan.{IsInOrder}
 use Rattle.plus_tree.specs.declared.trees.Domain.{Domain}
 use Rattle.plus_tree.specs.declared.trees.Problem.{Problem}
+use Rattle.plus_plan.specs.declared.forms.Line.{Line}
+use Rattle.plus_plan.specs.declared.forms.PlanForm.TheVariants.{Timed}
+use Rattle.plus_plan.specs.Lines.{plan_lines}
 use Rattle.plus_validator.specs.declared.judge.Outcome.{Outcome}
+use Rattle.plus_validator.specs.declared.judge.Outcome.TheVariants.{Valid, Invalid}
 use Rattle.plus_validator.specs.Accepted.{IsAccepted}
+use Rattle.plus_validator.specs.Asking.{instances_of}
+use Rattle.plus_validator.specs.Limits.{text_limit}
+use Rattle.plus_validator.specs.Plans.{Pair, lines_meant, plan_of, HasValue}
 use Rattle.plus_validator.specs.Refused.{IsRefused}
+use Rattle.plus_validator.specs.Tame.{StaysInside, IsTame, IsTameText, HasTrajectory}
 use Rattle.plus_validator.specs.Validates.{IsUngrounded, IsWhole}
 
 -- a plan for the pair, accepted or refused
@@ -27,3 +37,47 @@ OneAnswer =
 -- a pair that is not grounded is refused with one line
 abbrev pub OneLine : Type 0
 OneLine = (d : Domain) (p : Problem) (line other : List ℕ) → IsUngrounded d p line → IsUngrounded d p other → line ≡ other
+
+-- ---- a plan that stays inside the limits
+
+-- it is not refused but by a breach, or by a line out of its place
+abbrev pub TameDecides : Type 0
+TameDecides =
+    (d : Domain) (p : Problem) (most : ℕ) (text : List ℕ) (outcome : Outcome) (bytes : List ℕ)
+    → IsTameText d p most text → IsRefused d p most text false outcome bytes → outcome ≡ Invalid
+
+-- a plan that is refused as invalid has no trajectory, tame or not
+abbrev pub InvalidIsNone : Type 0
+InvalidIsNone =
+    (d : Domain) (p : Problem) (most : ℕ) (text bytes : List ℕ)
+    → IsRefused d p most text false Invalid bytes → HasTrajectory d p text → ⊥
+
+-- the answer is that the plan is valid, and it has a trajectory; or that it is invalid, and it has none
+pub data IsDecided (d : Domain) (p : Problem) (text : List ℕ) (outcome : Outcome) : Type 0 where
+  is_valid : outcome ≡ Valid → HasTrajectory d p text → IsDecided d p text outcome
+  is_invalid : outcome ≡ Invalid → (HasTrajectory d p text → ⊥) → IsDecided d p text outcome
+
+-- whatever the answer, it is decided
+abbrev pub Decides : Type 0
+Decides =
+    (d : Domain) (p : Problem) (most : ℕ) (text : List ℕ) (outcome : Outcome) (bytes : List ℕ)
+    → IsTameText d p most text → IsWhole d p most text outcome bytes → IsDecided d p text outcome
+
+-- an accepted plan is tame
+abbrev pub ValidIsTame : Type 0
+ValidIsTame =
+    (d : Domain) (p : Problem) (most : ℕ) (text bytes : List ℕ) → IsAccepted d p most text bytes → IsTameText d p most text
+
+-- of lines in order whose times are values only the text's end is to be asked for
+abbrev pub InOrderIsTame : Type 0
+InOrderIsTame =
+    (d : Pair) (P : terms.Problem) (most : ℕ) (lines : List Line)
+    → IsInOrder (lines_meant d lines) → All HasValue lines → StaysInside P (plan_of d lines true) most (instances_of d lines)
+    → IsTame d P most lines
+
+-- Where the times are values, a plan that is refused as invalid is tame: so the tame are those whose answer is no limit.
+abbrev pub InvalidIsTame : Type 0
+InvalidIsTame =
+    (d : Domain) (p : Problem) (most : ℕ) (text bytes : List ℕ) (lines : List Line)
+    → length text ≤ text_limit → plan_lines Timed text ≡ map Ok lines → All HasValue lines
+    → IsRefused d p most text false Invalid bytes → IsTameText d p most text

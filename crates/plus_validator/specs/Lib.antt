@@ -1,6 +1,7 @@
 pub mod Plans
 pub mod Limits
 pub mod Asking
+pub mod Fires
 pub mod Accepted
 pub mod Standing
 pub mod Running
@@ -12,4 +13,5 @@ pub mod Stopped
 pub mod Judged
 pub mod Validates
 pub mod Made
+pub mod Tame
 pub mod Laws

@@ -1,14 +1,15 @@
 -- How a run of a plan stands: its timeline and its report are those of one history of the lines read.
-use Rattle.std.specs.Prelude.{◌≡◌, ◌⊎◌, ℕ, ◌+◌, ◌-◌, ◌*◌, ◌<◌, ◌≤◌, Bool, true, false, List, [], ◌∷◌, ◌++◌, length, Option, Some, None, pos, All, if◌then◌else◌}
+use Rattle.std.specs.Prelude.{◌≡◌, ◌⊎◌, ℕ, zero, suc, ◌+◌, ◌-◌, ◌*◌, ◌<◌, ◌≤◌, Bool, true, false, List, [], ◌∷◌, ◌++◌, length, Option, Some, None, pos, All, if◌then◌else◌}
 use Rattle.plus_fraction.specs.Fraction.{Fraction, whole}
 use Rattle.plus_model.specs.Terms.{Problem}
+use Rattle.plus_model.specs.Firing.{is_in}
 use Rattle.plus_model.specs.Plan.{Called, Line, ActLine, EndLine, Plan}
 use Rattle.plus_model.specs.History.{Part}
 use Rattle.plus_model.specs.Trajectory.{until, IsWorked, Prefix, view_of}
 use Rattle.plus_model.specs.Breach.{IsPresent}
 use Rattle.plus_state.specs.View.{Labels}
 use Rattle.plus_timeline.specs.Timeline.{TimelineView}
-use Rattle.plus_timeline.specs.Still.{Serves}
+use Rattle.plus_timeline.specs.Serving.{Serves}
 use Rattle.plus_timeline.specs.Stops.{IsGoing}
 use Rattle.plus_timeline.specs.Advance.{IsAhead}
 use Rattle.plus_report.specs.Text.{entry_text, literals_text, round_text, run_text}
@@ -45,13 +46,19 @@ pub record CanReach (P : Problem) (until : Fraction) (t : TimelineView) : Type 0
   pub ahead : IsAhead t.now.running t.now.time until
   pub room : HasRoom t.now.running t.entries t.most
 
--- how many steps are left at most
+-- the parts that an entry has left: one that closes it, and none where a set runs
 abbrev pub pending : Option (List ℕ) → ℕ
 pending None = 1
 pending (Some running) = 0
 
+-- how many of the events below this number are not among those that fired
+abbrev pub unfired : ℕ → List ℕ → ℕ
+unfired zero fired = 0
+unfired (suc n) fired = (if is_in fired n then 0 else 1) + unfired n fired
+
+-- how many steps are left at most: behind each that closes or begins an entry, a round for each event
 unfoldable pub steps_left : TimelineView → ℕ
-steps_left t = 2 * (t.most - t.entries) + pending t.now.running
+steps_left t = (2 * (t.most - t.entries) + pending t.now.running) * (t.event_count + 1) + unfired t.event_count t.now.fired
 
 -- what a step adds to the report
 abbrev pub next_text : {Q : Type 0} → (Q → Fraction) → Labels → Problem → TimelineView → Next Q → List ℕ
@@ -113,10 +120,14 @@ pub record CanShow (P : Problem) (t : TimelineView) : Type 0 where
   pub atoms : t.atoms ≡ P.atoms
   pub fluents : t.fluents ≡ P.fluents
 
--- what is to be written of the step are events or processes of the problem; an entry without literals leaves the state
--- on arrival
+-- along the stretch before an entry fluents alone move, and its literals change atoms alone
+pub record MovesThenChanges (t : TimelineView) : Type 0 where
+  pub atoms : t.arrival.atoms ≡ t.before.atoms
+  pub fluents : t.now.state.fluents ≡ t.arrival.fluents
+
+-- what is to be written of the step are events or processes of the problem, or the two halves of an entry
 abbrev pub IsShown : {Q : Type 0} → Problem → TimelineView → Next Q → Type 0
 IsShown P t Round = All (λ e. e < length P.events) t.events
 IsShown P t Run = All (λ p. p < length P.processes) t.running
-IsShown P t (Entry time) = t.literal ≡ false → t.arrival ≡ t.now.state
+IsShown P t (Entry time) = MovesThenChanges t
 IsShown P t There = Unit {0}

@@ -1,7 +1,8 @@
 //! From the bytes of a plan to its report and its verdict.
-ghost use Rattle.std.specs.Prelude.{◌≡◌, ◌⊎◌, ◌≤◌, [], ◌∷◌, length, IfSome, IfOk, IfErr};
+ghost use Rattle.std.specs.Prelude.{◌≡◌, ◌⊎◌, ◌≤◌, ◌+◌, [], ◌∷◌, length, IfSome, IfOk, IfErr};
 ghost use Rattle.plus_io.specs.Files.{KeepsFiles};
 ghost use Rattle.plus_io.specs.Picks.{ReadsOnce, ReadsInOrder};
+ghost use Rattle.plus_validator.specs.Limits.{text_limit, most_happenings};
 ghost use Rattle.plus_validator.specs.Validates.{Accepts, Refuses, BreaksOff, RefusesPair, RefusesPairInPart, IsRefusal, IsRead, ReadsNot, EndsUngrounded, kind_meant, file_meant};
 ghost use Rattle.plus_ground.specs.Refusals.{RefusesGround};
 ghost use Rattle.plus_tree.specs.declared.trees.Domain.{Domain};
@@ -12,6 +13,7 @@ ghost use Rattle.plus_numbering.specs.Counts.{name_counts, RefusesCount};
 ghost use Rattle.plus_io.specs.Faults.{Rose};
 
 use crate::judge::{Outcome, PlanText, judge};
+use crate::limits::TEXT_LIMIT;
 use plus_ground::{GroundFault, ground};
 use plus_io::{ReadStop, Shelf, Sink, read_all, write_all};
 use plus_number::frac::Frac64;
@@ -19,9 +21,6 @@ use plus_numbering::{Count, CountFault, Numbering};
 use plus_report::{Early, Kinds, Text, write_early};
 use plus_types::{File, Typed};
 use std::alloc::Global;
-
-/// The most bytes of a plan text.
-const TEXT_LIMIT: usize = 1048576;
 
 fn kind_of(count: Count) -> Kinds
     ensures { result ≡ kind_meant count }
@@ -85,7 +84,7 @@ fn read_text<S: Shelf>(alloc: Global, shelf: &mut S, plan: &str) -> Result<PlanT
     ensures read { IfOk result (λ t. IfSome (S.bytes shelf.old plan.now) (λ bytes. IsRead bytes t.bytes.items t.goes_on)) }
     // The shelf failed, or memory is wanting.
     ensures refused { IfErr result (ReadsNot (S.faults shelf.old) (S.faults shelf.new)) }
-    ensures reads { ReadsOnce S.bytes S.picked S.rest S.picks 1048577 plan.now shelf.old shelf.new }
+    ensures reads { ReadsOnce S.bytes S.picked S.rest S.picks (text_limit + 1) plan.now shelf.old shelf.new }
     ensures keeps { KeepsFiles S.names S.bytes S.faults shelf.old shelf.new }
 {
     let mut bytes = Vec::new(alloc);
@@ -113,7 +112,7 @@ fn validate_numbered<S: Shelf, O: Sink>(
     happenings: u64,
 ) -> Outcome
     requires some { 1 ≤ happenings }
-    requires few { happenings ≤ 1000000 }
+    requires few { happenings ≤ most_happenings }
     ensures valid { result ≡ Outcome.Valid → IfSome (S.bytes shelf.old plan.now) (λ text.
         Accepts numbering.now.typed.now.domain numbering.now.typed.now.problem happenings text (O.taken out.old) (O.taken out.new)) }
     // The pair is not grounded, or the plan is refused.
@@ -133,7 +132,7 @@ fn validate_numbered<S: Shelf, O: Sink>(
     ensures no_memory { result ≡ Outcome.NoMemory → O.taken out.new ≡ O.taken out.old }
 
     // Of the plan's file at most one byte past its limit is read, and of no other file any.
-    ensures reads { ReadsInOrder S.bytes S.picked S.rest S.picks 1048577 (plan.now ∷ []) shelf.old shelf.new }
+    ensures reads { ReadsInOrder S.bytes S.picked S.rest S.picks (text_limit + 1) (plan.now ∷ []) shelf.old shelf.new }
     ensures keeps { KeepsFiles S.names S.bytes S.faults shelf.old shelf.new }
     ensures no_fall { O.faults out.old ≤ O.faults out.new }
 {
@@ -165,7 +164,7 @@ pub fn validate<S: Shelf, O: Sink>(
     happenings: u64,
 ) -> Outcome
     requires some { 1 ≤ happenings }
-    requires few { happenings ≤ 1000000 }
+    requires few { happenings ≤ most_happenings }
     ensures valid { result ≡ Outcome.Valid → IfSome (S.bytes shelf.old plan.now) (λ text.
         Accepts typed.now.domain typed.now.problem happenings text (O.taken out.old) (O.taken out.new)) }
     // The pair is not grounded, or the plan is refused.
@@ -185,7 +184,7 @@ pub fn validate<S: Shelf, O: Sink>(
     ensures no_memory { result ≡ Outcome.NoMemory → O.taken out.new ≡ O.taken out.old }
 
     // Of the plan's file at most one byte past its limit is read, and of no other file any.
-    ensures reads { ReadsInOrder S.bytes S.picked S.rest S.picks 1048577 (plan.now ∷ []) shelf.old shelf.new }
+    ensures reads { ReadsInOrder S.bytes S.picked S.rest S.picks (text_limit + 1) (plan.now ∷ []) shelf.old shelf.new }
     ensures keeps { KeepsFiles S.names S.bytes S.faults shelf.old shelf.new }
     ensures no_fall { O.faults out.old ≤ O.faults out.new }
 {

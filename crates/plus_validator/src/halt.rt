@@ -1,5 +1,5 @@
 //! Why a run halts before the end of its plan.
-ghost use Rattle.std.specs.Prelude.{◌≡◌};
+ghost use Rattle.std.specs.Prelude.{◌≡◌, ◌≢◌};
 ghost use Rattle.plus_validator.specs.declared.halt.Halt.TheVariants as halts;
 ghost use Rattle.plus_validator.specs.Halts.{stop_halt, line_halt};
 
@@ -35,17 +35,16 @@ impl From<AllocError> for Halt {
     }
 }
 
-// A run stops at the first refusal, so that no call answers `Ended`.
-impl From<Stop<Frac64>> for Halt {
-    ghost from_gives = { λ stop halt. halt ≡ stop_halt stop };
-
-    fn from(stop: Stop<Frac64>) -> Halt {
-        match stop {
-            Stop::Breach(breach) => Halt::Refused(Verdict::Invalid(breach)),
-            Stop::Limit(limit) => Halt::Refused(Verdict::Beyond(limit)),
-            Stop::Ended => Halt::Memory,
-            Stop::Memory => Halt::Memory,
-        }
+/// Why a run halts where a call of its timeline, which was going, is refused.
+pub fn halted(stop: Stop<Frac64>) -> Halt
+    requires { stop ≢ Stop.Ended }
+    ensures { result ≡ stop_halt stop }
+{
+    match stop {
+        Stop::Breach(breach) => Halt::Refused(Verdict::Invalid(breach)),
+        Stop::Limit(limit) => Halt::Refused(Verdict::Beyond(limit)),
+        Stop::Ended => unreachable!(),
+        Stop::Memory => Halt::Memory,
     }
 }
 

@@ -70,7 +70,7 @@ fn play(
     requires expands { IsGroundOf numbering.now.typed.now.domain numbering.now.typed.now.problem ground.now }
     requires can { CanGoOn (problem_of fraction_of ground.now) run.old.timeline }
     requires moment { run.old.timeline.now.running ≡ None }
-    requires few { length text.now ≤ 1048576 }
+    requires few { length text.now ≤ text_limit }
     ensures plays { OnOk result (PlaysAll (pair_in numbering.now.typed.now) (labels_of ground.now)
         (problem_of fraction_of ground.now) text.now run.old run.new) }
     ensures stops { IfErr result (HaltsInText (pair_in numbering.now.typed.now) (labels_of ground.now)
@@ -119,7 +119,7 @@ fn play_cut(
     requires expands { IsGroundOf numbering.now.typed.now.domain numbering.now.typed.now.problem ground.now }
     requires can { CanGoOn (problem_of fraction_of ground.now) run.old.timeline }
     requires moment { run.old.timeline.now.running ≡ None }
-    requires few { length text.now ≤ 1048576 }
+    requires few { length text.now ≤ text_limit }
     ensures stops { HaltsInPlan (pair_in numbering.now.typed.now) (labels_of ground.now)
         (problem_of fraction_of ground.now) text.now true run.old run.new result }
     ensures fits { HaltFits (problem_of fraction_of ground.now) result }

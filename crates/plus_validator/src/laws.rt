@@ -1,5 +1,5 @@
 //! What a reader of an answer may rely on, over the definitions alone.
-ghost use Rattle.plus_validator.specs.Laws.{PairOrPlan, OneLine, OneAnswer};
+ghost use Rattle.plus_validator.specs.Laws.{PairOrPlan, OneLine, OneAnswer, TameDecides, InvalidIsNone, Decides, ValidIsTame, InOrderIsTame, InvalidIsTame};
 
 /// Where the pair is refused, no plan for it is accepted or refused.
 pub fn pair_or_plan()
@@ -14,4 +14,34 @@ pub fn one_line()
 /// The bytes of a plan text have one answer: one outcome, and one report with its verdict line.
 pub fn one_answer()
     ensures { OneAnswer }
+{}
+
+/// A plan that stays inside the limits is refused only by a breach, or by a line out of its place.
+pub fn tame_decides()
+    ensures { TameDecides }
+{}
+
+/// A plan that is refused as invalid has no trajectory.
+pub fn invalid_is_none()
+    ensures { InvalidIsNone }
+{}
+
+/// A plan that stays inside the limits is valid and has a trajectory, or is invalid and has none.
+pub fn decides()
+    ensures { Decides }
+{}
+
+/// An accepted plan stays inside the limits.
+pub fn valid_is_tame()
+    ensures { ValidIsTame }
+{}
+
+/// Lines in order with times that are values stay inside the limits where they do at the text's end.
+pub fn in_order_is_tame()
+    ensures { InOrderIsTame }
+{}
+
+/// A plan that is refused as invalid, with times that are values, stays inside the limits.
+pub fn invalid_is_tame()
+    ensures { InvalidIsTame }
 {}

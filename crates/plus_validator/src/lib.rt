@@ -6,6 +6,7 @@ mod halt;
 mod instances;
 mod judge;
 pub mod laws;
+pub mod limits;
 mod memory;
 mod play;
 mod run;

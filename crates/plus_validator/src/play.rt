@@ -6,6 +6,7 @@ ghost use Rattle.plus_model.specs.Trajectory.{is_below};
 ghost use Rattle.plus_plan.specs.Answers.{HasBottom};
 ghost use Rattle.plus_state.specs.View.{problem_of, labels_of};
 ghost use Rattle.plus_timeline.specs.Finish.{IsPaused};
+ghost use Rattle.plus_validator.specs.Limits.{text_limit};
 ghost use Rattle.plus_validator.specs.Plans.{pair_in};
 ghost use Rattle.plus_validator.specs.Made.{AreMade, StayMade};
 ghost use Rattle.plus_validator.specs.Halts.{CallHalts, HaltFits};
@@ -13,7 +14,7 @@ ghost use Rattle.plus_validator.specs.Standing.{CanGoOn};
 ghost use Rattle.plus_validator.specs.Stopped.{HaltsAtMoment, HaltsInAct, HaltsInLine, HaltsInLines, HaltsAtEnd};
 ghost use Rattle.plus_validator.specs.Playing.{IsGroundOf, IsInTime, ActsOnce, PlaysLine, Closes, ReadsAll};
 
-use crate::halt::Halt;
+use crate::halt::{Halt, halted};
 use crate::instances::Instances;
 use crate::run::Run;
 use plus_ground::InstanceFault;
@@ -135,7 +136,9 @@ impl Run {
             Err(fault) => return Err(refused_call(alloc, fault, line, call)),
         };
         let action = instances.at(place);
-        self.timeline.act(ground, action, line)?;
+        if let Err(stop) = self.timeline.act(ground, action, line) {
+            return Err(halted(stop));
+        }
         write_act_changes(
             &mut self.report,
             ground,
@@ -196,8 +199,10 @@ impl Run {
     {
         let now = self.timeline.time();
         self.reach(ground, now)?;
-        self.timeline.finish(ground)?;
-        Ok(())
+        match self.timeline.finish(ground) {
+            Ok(()) => Ok(()),
+            Err(stop) => Err(halted(stop)),
+        }
     }
 
     /// Plays the lines of a text, and answers which number the next line would have.
@@ -211,7 +216,7 @@ impl Run {
         requires expands { IsGroundOf numbering.now.typed.now.domain numbering.now.typed.now.problem ground.now }
         requires can { CanGoOn (problem_of fraction_of ground.now) self.old.timeline }
         requires moment { self.old.timeline.now.running ≡ None }
-        requires few { length text.now ≤ 1048576 }
+        requires few { length text.now ≤ text_limit }
         ensures reads { IfOk result (ReadsAll (pair_in numbering.now.typed.now) (labels_of ground.now)
             (problem_of fraction_of ground.now) text.now self.old self.new) }
         ensures stops { IfErr result (HaltsInLines (pair_in numbering.now.typed.now) (labels_of ground.now)

@@ -2,18 +2,17 @@
 ghost use Rattle.std.specs.Prelude.{◌≡◌, ◌≤◌, ◌++◌, OnOk, IfOk, IfErr};
 ghost use Rattle.plus_number.specs.Frac.{fraction_of};
 ghost use Rattle.plus_state.specs.View.{problem_of, labels_of};
-ghost use Rattle.plus_timeline.specs.Still.{IsStill};
 ghost use Rattle.plus_validator.specs.Running.{Steps, Reaches};
 ghost use Rattle.plus_validator.specs.Halts.{HaltFits};
 ghost use Rattle.plus_validator.specs.Stopped.{HaltsOnWay};
 ghost use Rattle.plus_validator.specs.Playing.{Begins};
-ghost use Rattle.plus_validator.specs.Standing.{CanReach, IsShown, next_text, is_there, CanShow};
+ghost use Rattle.plus_validator.specs.Standing.{CanReach, MovesThenChanges, IsShown, next_text, is_there, CanShow};
 
-use crate::halt::Halt;
+use crate::halt::{Halt, halted};
 use crate::memory::Report;
 use plus_io::Failed;
 use plus_number::frac::Frac64;
-use plus_report::{write_entry, write_entry_changes, write_literals, write_round, write_run};
+use plus_report::{write_entry_changes, write_literals_changes, write_round_changes, write_run};
 use plus_state::problem::Ground;
 use plus_timeline::{Next, Timeline};
 use std::alloc::Global;
@@ -33,6 +32,25 @@ fn is_there(next: Next<Frac64>) -> bool
     matches!(next, Next::There)
 }
 
+// Writes a moment: the fluents that moved, and where it has literals what they change.
+fn write_moment(
+    report: &mut Report,
+    ground: &Ground<Frac64>,
+    timeline: &Timeline<Frac64>,
+    time: Frac64,
+) -> Result<(), Failed>
+    requires can { CanShow (problem_of fraction_of ground.now) timeline.now }
+    requires shown { MovesThenChanges timeline.now }
+    ensures { OnOk result (report.new.bytes.items ≡ report.old.bytes.items
+        ++ next_text fraction_of (labels_of ground.now) (problem_of fraction_of ground.now) timeline.now (Next.Entry time)) }
+{
+    write_entry_changes(report, ground, time, timeline.before(), timeline.changes())?;
+    if timeline.has_literals() {
+        return write_literals_changes(report, ground, timeline.arrival(), timeline.changes());
+    }
+    Ok(())
+}
+
 // Writes what the timeline did.
 fn write_next(
     report: &mut Report,
@@ -46,21 +64,15 @@ fn write_next(
         ++ next_text fraction_of (labels_of ground.now) (problem_of fraction_of ground.now) timeline.now next) }
 {
     match next {
-        Next::Round => write_round(
+        Next::Round => write_round_changes(
             report,
             ground,
             timeline.events(),
             timeline.before(),
-            timeline.state(),
+            timeline.changes(),
         ),
         Next::Run => write_run(report, ground, timeline.running()),
-        Next::Entry { time } => {
-            if timeline.has_literals() {
-                write_entry(report, ground, time, timeline.before(), timeline.arrival())?;
-                return write_literals(report, ground, timeline.arrival(), timeline.state());
-            }
-            write_entry_changes(report, ground, time, timeline.before(), timeline.changes())
-        }
+        Next::Entry { time } => write_moment(report, ground, timeline, time),
         Next::There => Ok(()),
     }
 }
@@ -69,7 +81,6 @@ impl Run {
     /// Begins a run: the first entry, at time 0.
     pub fn begin(alloc: Global, ground: &Ground<Frac64>, happenings: u64) -> Result<Run, Halt>
         requires some { 1 ≤ happenings }
-        requires still { IsStill (problem_of fraction_of ground.now) }
         ensures begins { IfOk result (Begins (labels_of ground.now) (problem_of fraction_of ground.now) happenings) }
         ensures memory { IfErr result (λ halt. halt ≡ Halt.Memory) }
     {
@@ -95,7 +106,10 @@ impl Run {
             (fraction_of until) self.old self.new) }
         ensures fits { IfErr result (HaltFits (problem_of fraction_of ground.now)) }
     {
-        let next = self.timeline.advance(ground, until)?;
+        let next = match self.timeline.advance(ground, until) {
+            Ok(next) => next,
+            Err(stop) => return Err(halted(stop)),
+        };
         write_next(&mut self.report, ground, &self.timeline, next)?;
         Ok(is_there(next))
     }

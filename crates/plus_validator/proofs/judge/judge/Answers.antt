@@ -1,4 +1,5 @@
-use Rattle.plus_validator.proofs.Grounded.{ground_still}
+use Rattle.std.proofs.Common.{◌≡◌, refl}
+use Rattle.std.proofs.lemmas.Result.{err_from_is_err_and}
 use Rattle.plus_number.specs.Frac.{fraction_of}
 use Rattle.plus_state.specs.View.{problem_of, labels_of}
 use Rattle.plus_report.specs.Verdicts.{verdict_text}
@@ -23,6 +24,7 @@ returns-clause-judged c =
     (took_all c.play_text.new.run.report.bytes.items c.write_verdict.new.out.bytes.items (verdict_text fraction_of N P c.in_ok-verdict.verdict)
     c.in_ok-write_verdict.ensures.outcome)
 
-pub begin-requires-clause-still : goal.begin-requires-clause-still
-begin-requires-clause-still c =
-    ground_still c.args.numbering.now.typed.now.domain c.args.numbering.now.typed.now.problem c.args.ground.now c.args.numbering.now.typed.now.well_typed c.requires.expands
+pub returns-in_err-write_verdict-clause-memory : goal.returns-in_err-write_verdict-clause-memory
+returns-in_err-write_verdict-clause-memory c =
+    let p = err_from_is_err_and c.from_residual-in_err-write_verdict.result c.from_residual-in_err-write_verdict.ensures.1 in
+    rw (p.1, p.2) refl

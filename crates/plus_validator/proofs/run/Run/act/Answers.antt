@@ -10,7 +10,7 @@ use Rattle.plus_validator.proofs.Grounded.{instance_fits}
 use Rattle.plus_validator.specs.Plans.{pair_in}
 use Rattle.plus_validator.specs.declared.halt.Halt.{Halt}
 use Rattle.plus_validator.specs.Halts.{stop_halt, HaltFits}
-use Rattle.plus_validator.proofs.Halting.{from_err, act_halts}
+use Rattle.plus_validator.proofs.Halting.{act_goes_on, act_halts}
 use Rattle.plus_validator.specs.Stopped.{HaltsInAct}
 use Rattle.plus_validator.proofs.Stopping.{call_halts_in, act_halts_in}
 use Rattle.plus_validator.proofs.Making.{made_here}
@@ -25,34 +25,35 @@ returns-clause-acts c =
     let P = problem_of fraction_of c.args.ground.now in
     let new : Run = record { timeline = c.act.new.self; report = c.write_act_changes.new.out; ended = c.args.self.now.ended } in
     acts_once (pair_in c.args.instances.now.numbering.now.typed.now) N P c.args.call.now (action_of fraction_of c.at-action.result.now)
-    c.args.self.now new c.requires.can (made_here _ _ _ _ _ _ c.in-Ok.ensures.made c.at-action.ensures).called c.in_ok-act.ensures.told.pass c.in_ok-act.ensures.told.does refl
+    c.args.self.now new c.requires.can (made_here _ _ _ _ _ _ c.in-Ok.ensures.made c.at-action.ensures).called c.in_default.ensures.told.pass c.in_default.ensures.told.does refl
     (act_reported c.args.self.now.report.bytes.items c.write_act_changes.new.out.bytes.items N c.at-action.result.now.label c.before-2.result.now (patched c.before-2.result.now c.changes.result.now)
     c.act.new.self.before c.act.new.self.now.state c.in_ok-write_act_changes.ensures.outcome c.before-2.ensures.state (ap (λ (s : State). patched s c.changes.result.now) c.before-2.ensures.state ∙ sym c.changes.ensures.is))
 
 pub returns-in-Err-clause-fits : goal.returns-in-Err-clause-fits
 returns-in-Err-clause-fits c = c.refused_call.ensures.fits (problem_of fraction_of c.args.ground.now)
 
-pub returns-in_err-act-clause-fits : goal.returns-in_err-act-clause-fits
-returns-in_err-act-clause-fits c =
+pub halted-requires : goal.halted-requires
+halted-requires c =
+    act_goes_on (problem_of fraction_of c.args.ground.now) (action_of fraction_of c.at-action.result.now) c.args.line c.args.self.now.timeline c.act.new.self c.in-Err-act.stop
+    c.requires.can.going c.in-Err-act.ensures.told
+
+pub returns-in-Err-act-clause-fits : goal.returns-in-Err-act-clause-fits
+returns-in-Err-act-clause-fits c =
     let P = problem_of fraction_of c.args.ground.now in
-    let stop = c.in_err-act.field-0.0 in
-    from_err c.from_residual.result (λ (h : Halt). h ≡ stop_halt stop) (HaltFits P) c.from_residual.ensures.1
-    (λ h e. act_halts P (action_of fraction_of c.at-action.result.now) c.args.line c.args.self.now.timeline c.act.new.self stop h P.atoms
+    act_halts P (action_of fraction_of c.at-action.result.now) c.args.line c.args.self.now.timeline c.act.new.self c.in-Err-act.stop c.halted.result P.atoms
     (instance_fits c.args.instances.now.numbering.now.typed.now.domain c.args.instances.now.numbering.now.typed.now.problem c.args.ground.now (action_of fraction_of c.at-action.result.now) c.requires.expands (made_here _ _ _ _ _ _ c.in-Ok.ensures.made c.at-action.ensures).fits).1
-    e c.in_err-act.ensures.told)
+    c.halted.ensures c.in-Err-act.ensures.told
 
 pub returns-in-Err-clause-stops : goal.returns-in-Err-clause-stops
 returns-in-Err-clause-stops c =
     call_halts_in (pair_in c.args.instances.now.numbering.now.typed.now) (labels_of c.args.ground.now) (problem_of fraction_of c.args.ground.now) c.args.line
     c.args.call.now c.in-Err.fault c.args.self.now c.refused_call.result c.requires.can c.in-Err.ensures.refused c.refused_call.ensures.says
 
-pub returns-in_err-act-clause-stops : goal.returns-in_err-act-clause-stops
-returns-in_err-act-clause-stops c =
+pub returns-in-Err-act-clause-stops : goal.returns-in-Err-act-clause-stops
+returns-in-Err-act-clause-stops c =
     let d = pair_in c.args.instances.now.numbering.now.typed.now in
     let N = labels_of c.args.ground.now in
     let P = problem_of fraction_of c.args.ground.now in
     let new : Run = record { timeline = c.act.new.self; report = c.args.self.now.report; ended = c.args.self.now.ended } in
-    let stop = c.in_err-act.field-0.0 in
-    from_err c.from_residual.result (λ (h : Halt). h ≡ stop_halt stop) (HaltsInAct d N P c.args.line c.args.call.now c.args.self.now new) c.from_residual.ensures.1
-    (λ h e. act_halts_in d N P c.args.line c.args.call.now (action_of fraction_of c.at-action.result.now) c.args.self.now new stop h c.requires.can (made_here _ _ _ _ _ _ c.in-Ok.ensures.made c.at-action.ensures).called e
-    c.in_err-act.ensures.told refl)
+    act_halts_in d N P c.args.line c.args.call.now (action_of fraction_of c.at-action.result.now) c.args.self.now new c.in-Err-act.stop c.halted.result c.requires.can (made_here _ _ _ _ _ _ c.in-Ok.ensures.made c.at-action.ensures).called
+    c.halted.ensures c.in-Err-act.ensures.told refl

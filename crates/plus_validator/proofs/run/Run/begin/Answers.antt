@@ -13,9 +13,9 @@ returns-clause-begins c =
     let N = labels_of c.args.ground.now in
     let P = problem_of fraction_of c.args.ground.now in
     let new : Run = record { timeline = c.in_ok-timeline.timeline; report = c.write_next.new.report; ended = false } in
-    begins N P c.args.happenings c.time.result new c.requires.still c.requires.some c.in_ok-timeline.ensures refl
+    begins N P c.args.happenings c.time.result new c.requires.some c.in_ok-timeline.ensures refl
     c.time.ensures
     (c.in_ok-write_next.ensures ∙ ap (λ x. x ++ next_text fraction_of N P c.in_ok-timeline.timeline (Entry c.time.result)) c.new-report.ensures)
 
 pub write_next-requires-clause-shown : goal.write_next-requires-clause-shown
-write_next-requires-clause-shown c = λ _. begun_shown (problem_of fraction_of c.args.ground.now) c.args.happenings c.in_ok-timeline.timeline c.requires.still c.in_ok-timeline.ensures
+write_next-requires-clause-shown c = begun_shown (problem_of fraction_of c.args.ground.now) c.args.happenings c.in_ok-timeline.timeline c.in_ok-timeline.ensures

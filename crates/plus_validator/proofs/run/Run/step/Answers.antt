@@ -5,17 +5,14 @@ use Rattle.plus_validator.specs.declared.run.Run.{Run}
 use Rattle.plus_validator.specs.Running.{Steps}
 use Rattle.plus_validator.proofs.Steps.{step_shown}
 use Rattle.plus_validator.proofs.Runs.{step_says}
-use Rattle.plus_validator.specs.declared.halt.Halt.{Halt}
-use Rattle.plus_validator.specs.Halts.{stop_halt, HaltFits}
-use Rattle.plus_validator.proofs.Halting.{from_err, advance_halts}
-use Rattle.plus_validator.specs.Stopped.{HaltsOnWay}
+use Rattle.plus_validator.proofs.Halting.{advance_goes_on, advance_halts}
 use Rattle.plus_validator.proofs.Stopping.{advance_halts_on}
 use Rattle.plus_validator.proofs.run.Run.step.Goals as goal
 
 pub write_next-requires-clause-shown : goal.write_next-requires-clause-shown
 write_next-requires-clause-shown c =
-    step_shown fraction_of (problem_of fraction_of c.args.ground.now) (fraction_of c.args.until) c.args.self.now.timeline c.advance.new.self c.in_ok-next.next
-    c.requires.can c.in_ok-next.ensures.told.does
+    step_shown fraction_of (problem_of fraction_of c.args.ground.now) (fraction_of c.args.until) c.args.self.now.timeline c.advance.new.self c.in-Ok.next
+    c.requires.can c.in-Ok.ensures.told.does
 
 pub returns-clause-steps : goal.returns-clause-steps
 returns-clause-steps c =
@@ -23,21 +20,21 @@ returns-clause-steps c =
     let P = problem_of fraction_of c.args.ground.now in
     let new : Run = record { timeline = c.advance.new.self; report = c.write_next.new.report; ended = c.args.self.now.ended } in
     subst (Steps N P (fraction_of c.args.until) c.args.self.now new) (sym c.is_there.ensures)
-    (step_says N P (fraction_of c.args.until) c.args.self.now new c.in_ok-next.next c.requires.can c.in_ok-next.ensures.told.does c.in_ok-next.ensures.told.pass refl c.in_ok-write_next.ensures)
+    (step_says N P (fraction_of c.args.until) c.args.self.now new c.in-Ok.next c.requires.can c.in-Ok.ensures.told.does c.in-Ok.ensures.told.pass refl c.in_ok-write_next.ensures)
 
-pub returns-in_err-next-clause-fits : goal.returns-in_err-next-clause-fits
-returns-in_err-next-clause-fits c =
-    let P = problem_of fraction_of c.args.ground.now in
-    let stop = c.in_err-next.field-0.0 in
-    from_err c.from_residual.result (λ (h : Halt). h ≡ stop_halt stop) (HaltFits P) c.from_residual.ensures.1
-    (λ h e. advance_halts P (fraction_of c.args.until) c.args.self.now.timeline c.advance.new.self stop h c.requires.can.goes.serves.still e c.in_err-next.ensures.told)
+pub halted-requires : goal.halted-requires
+halted-requires c =
+    advance_goes_on (problem_of fraction_of c.args.ground.now) (fraction_of c.args.until) c.args.self.now.timeline c.advance.new.self c.in-Err.stop
+    c.requires.can.goes.going c.in-Err.ensures.told
 
-pub returns-in_err-next-clause-stops : goal.returns-in_err-next-clause-stops
-returns-in_err-next-clause-stops c =
+pub returns-in-Err-clause-fits : goal.returns-in-Err-clause-fits
+returns-in-Err-clause-fits c =
+    advance_halts (problem_of fraction_of c.args.ground.now) (fraction_of c.args.until) c.args.self.now.timeline c.advance.new.self c.in-Err.stop c.halted.result
+    c.args.ground.now.fits c.halted.ensures c.in-Err.ensures.told
+
+pub returns-in-Err-clause-stops : goal.returns-in-Err-clause-stops
+returns-in-Err-clause-stops c =
     let N = labels_of c.args.ground.now in
     let P = problem_of fraction_of c.args.ground.now in
-    let u = fraction_of c.args.until in
     let new : Run = record { timeline = c.advance.new.self; report = c.args.self.now.report; ended = c.args.self.now.ended } in
-    let stop = c.in_err-next.field-0.0 in
-    from_err c.from_residual.result (λ (h : Halt). h ≡ stop_halt stop) (HaltsOnWay N P u c.args.self.now new) c.from_residual.ensures.1
-    (λ h e. advance_halts_on N P u c.args.self.now new stop h c.requires.can e c.in_err-next.ensures.told refl)
+    advance_halts_on N P (fraction_of c.args.until) c.args.self.now new c.in-Err.stop c.halted.result c.requires.can c.halted.ensures c.in-Err.ensures.told refl

@@ -1,0 +1,5 @@
+use Rattle.plus_validator.proofs.Deciding as deciding
+use Rattle.plus_validator.proofs.laws.tame_decides.Goals as goal
+
+pub returns : goal.returns
+returns c = deciding.tame_decides
