@@ -1,22 +1,19 @@
 -- A command over the same files has one answer.
-use Rattle.std.proofs.Common.{◌≡◌, ◌⊎◌, ℕ, ◌≤◌, ◌<◌, List, [], ◌∷◌, ◌++◌, length, Option, Some, None, subst, sym, ◌∙◌, ap, refl, arith, inl, inr}
-use Rattle.std.specs.Prelude.{IfSome, IsSome, All}
+use Rattle.std.proofs.Common.{◌≡◌, ℕ, ◌≤◌, ◌<◌, List, [], ◌++◌, length, Option, Some, None, subst, sym, ◌∙◌, ap, refl, arith, inl, inr}
+use Rattle.std.specs.Prelude.{IfSome, IsSome}
 use Rattle.std.specs.Io.KnownBytes.{append_known}
 use Rattle.plus_io.specs.Taken.{Took}
-use Rattle.plus_tree.specs.declared.faults.TextFault.{TextFault}
 use Rattle.plus_tree.specs.declared.trees.Domain.{Domain}
 use Rattle.plus_tree.specs.declared.trees.Problem.{Problem}
-use Rattle.plus_parser.specs.SpellsDomain.{Spells, SpellsWithin, DomainTokens}
-use Rattle.plus_parser.specs.SpellsProblem.{SpellsProblem, SpellsProblemWithin, ProblemTokens}
+use Rattle.plus_parser.specs.SpellsDomain.{Spells, SpellsWithin}
+use Rattle.plus_parser.specs.SpellsProblem.{SpellsProblemWithin}
 use Rattle.plus_parser.proofs.Wholes.{one_domain_only, one_problem_only}
-use Rattle.plus_places.specs.Place.{IsPlace}
 use Rattle.plus_places.proofs.Domains as domains
 use Rattle.plus_places.proofs.Problems as problems
 use Rattle.plus_printer.specs.Canon.{domain_text, problem_text}
 use Rattle.plus_types.specs.declared.faults.TypeFault.{TypeFault}
 use Rattle.plus_types.specs.declared.faults.TypeFault.TheVariants as types
-use Rattle.plus_types.specs.Unbuilt.{unbuilt_faults}
-use Rattle.plus_types.specs.Faults.{faults_of, IsFirstFault}
+use Rattle.plus_types.specs.Faults.{type_faults, IsFirstFault}
 use Rattle.plus_report.specs.declared.refusals.Early.{Early}
 use Rattle.plus_report.specs.declared.refusals.Text.TheVariants as texts
 use Rattle.plus_report.specs.Refusals.{early_text}
@@ -29,14 +26,13 @@ use Rattle.plus_validator.proofs.OneLine.{one_line}
 use Rattle.plus_validator.proofs.OneText as plans
 use Rattle.planplus.specs.declared.run.Status.{Status}
 use Rattle.planplus.specs.declared.run.Status.TheVariants as s
-use Rattle.planplus.specs.declared.pair.Refusal.{Refusal}
 use Rattle.planplus.specs.declared.pair.Refusal.TheVariants as refusals
-use Rattle.planplus.specs.Command.{Command, Check, ShowDomain, ShowProblem, files_of}
+use Rattle.planplus.specs.Command.{Command, Check, ShowDomain, ShowProblem}
 use Rattle.planplus.specs.Pair.{text_limit, depth_limit, text_refusal, type_refusal, DomainRefused, long_domain, no_domain, ProblemRefused, long_problem, no_problem, SpellsPair, PairRefused, by_domain, by_problem, by_types}
 use Rattle.planplus.specs.Shown.{IsSpelled, IsShown, IsNotShown}
-use Rattle.planplus.specs.Headline.{SpellsWellTyped, IsValidRun, IsRefusedRun, for_pair, for_ground, for_plan, OnRefusal, RunsValid, RunsRefused, usage_line, status_of, IsAnswer}
+use Rattle.planplus.specs.Headline.{SpellsWellTyped, IsValidRun, IsRefusedRun, for_pair, for_ground, for_plan, OnRefusal, usage_line, status_of}
 use Rattle.planplus.specs.Statuses.{early_status, Writes}
-use Rattle.planplus.specs.Laws.{IsSettled, AreTold, OneAnswer}
+use Rattle.planplus.specs.Laws.{IsSettled, OneAnswer}
 
 over : (n : ℕ) → text_limit < n → n ≤ text_limit → ⊥
 over n a b = absurd (omega arith)
@@ -80,7 +76,7 @@ problem_or_not text e p (no_problem fault v n place i) w sp = n p sp
 
 -- ---- one pair
 
-pair_once : (ds ps : List ℕ) (d d' : Domain) (p p' : Problem) → SpellsPair ds ps d p → SpellsPair ds ps d' p' → (d ≡ d') × (p ≡ p')
+pub pair_once : (ds ps : List ℕ) (d d' : Domain) (p p' : Problem) → SpellsPair ds ps d p → SpellsPair ds ps d' p' → (d ≡ d') × (p ≡ p')
 pair_once ds ps d d' p p' a b =
     (domain_spelled_once ds d d' a.domain_spelled b.domain_spelled, problem_spelled_once ps p p' a.problem_spelled b.problem_spelled)
 
@@ -103,64 +99,64 @@ pair_refused_once ds ps e f (by_types d p fault sp a i) (by_domain b) = absurd (
 pair_refused_once ds ps e f (by_types d p fault sp a i) (by_problem d' w' sp' b) = absurd (problem_or_not ps f p b sp.problem_within sp.problem_spelled)
 pair_refused_once ds ps e f (by_types d p fault sp a i) (by_types d' p' fault' sp' b j) =
     let same = pair_once ds ps d d' p p' sp sp' in
-    let faults : faults_of d' p' ≡ faults_of d p = ap (λ x. faults_of x p') (sym same.0) ∙ ap (λ x. faults_of d x) (sym same.1) in
-    first_fault_once (faults_of d p) fault fault' e f a (subst (λ xs. IsFirstFault xs fault') faults b) i j
+    let faults : type_faults d' p' ≡ type_faults d p = ap (λ x. type_faults x p') (sym same.0) ∙ ap (λ x. type_faults d x) (sym same.1) in
+    first_fault_once (type_faults d p) fault fault' e f a (subst (λ xs. IsFirstFault xs fault') faults b) i j
 
 no_first : (fault : TypeFault) (e : Early) → IsFirstFault [] fault → type_refusal fault ≡ refusals.Early e → ⊥
 no_first types.Memory e h i = cc i
 no_first (types.At wrong file span) e h i = cc h
 
 -- no pair is refused and well typed
-pair_or_not : (ds ps : List ℕ) (e : Early) (d : Domain) (p : Problem) → PairRefused ds ps e → SpellsWellTyped ds ps d p → ⊥
+pub pair_or_not : (ds ps : List ℕ) (e : Early) (d : Domain) (p : Problem) → PairRefused ds ps e → SpellsWellTyped ds ps d p → ⊥
 pair_or_not ds ps e d p (by_domain a) t = domain_or_not ds e d a t.spelled.domain_within t.spelled.domain_spelled
 pair_or_not ds ps e d p (by_problem d' w sp a) t = problem_or_not ps e p a t.spelled.problem_within t.spelled.problem_spelled
 pair_or_not ds ps e d p (by_types d' p' fault sp a i) t =
     let same = pair_once ds ps d' d p' p sp t.spelled in
-    let none : faults_of d' p' ≡ [] = ap (λ x. faults_of x p') same.0 ∙ ap (λ x. faults_of d x) same.1 ∙ ap (λ xs. xs ++ unbuilt_faults d p) t.well_typed ∙ t.handled in
+    let none : type_faults d' p' ≡ [] = ap (λ x. type_faults x p') same.0 ∙ ap (λ x. type_faults d x) same.1 ∙ t.well_typed in
     no_first fault e (subst (λ xs. IsFirstFault xs fault) none a) i
 
 -- ---- the answer of a check
 
 -- what a check wrote, with its status
-data Checked (ds ps ls : List ℕ) (status : Status) (written : List ℕ) : Type 0 where
-  by_pair : (e : Early) → PairRefused ds ps e → status ≡ early_status e → written ≡ early_text e → Checked ds ps ls status written
-  by_ground : (d : Domain) (p : Problem) → SpellsWellTyped ds ps d p → status ≡ s.Beyond → IsUngrounded d p written → Checked ds ps ls status written
+pub data Checked (n : ℕ) (ds ps ls : List ℕ) (status : Status) (written : List ℕ) : Type 0 where
+  by_pair : (e : Early) → PairRefused ds ps e → status ≡ early_status e → written ≡ early_text e → Checked n ds ps ls status written
+  by_ground : (d : Domain) (p : Problem) → SpellsWellTyped ds ps d p → status ≡ s.Beyond → IsUngrounded d p written → Checked n ds ps ls status written
   by_plan :
-      (d : Domain) (p : Problem) (outcome : Outcome) → SpellsWellTyped ds ps d p → status ≡ status_of outcome → IsWhole d p 10000 ls outcome written
-      → Checked ds ps ls status written
+      (d : Domain) (p : Problem) (outcome : Outcome) → SpellsWellTyped ds ps d p → status ≡ status_of outcome → IsWhole d p n ls outcome written
+      → Checked n ds ps ls status written
 
 -- an answer to a plan is one for its pair
-judged : (d : Domain) (p : Problem) (ls : List ℕ) (outcome : Outcome) (written : List ℕ) → IsWhole d p 10000 ls outcome written → IsJudgedFor d p
-judged d p ls outcomes.Valid w h = accepted 10000 ls w h
-judged d p ls outcomes.Invalid w h = refused 10000 h.text h.goes_on outcomes.Invalid w h.refused
-judged d p ls outcomes.Beyond w h = refused 10000 h.text h.goes_on outcomes.Beyond w h.refused
-judged d p ls outcomes.BadText w h = refused 10000 h.text h.goes_on outcomes.BadText w h.refused
-judged d p ls outcomes.ReadFault w h = absurd h
-judged d p ls outcomes.WriteFault w h = absurd h
-judged d p ls outcomes.NoMemory w h = absurd h
+judged : (n : ℕ) (d : Domain) (p : Problem) (ls : List ℕ) (outcome : Outcome) (written : List ℕ) → IsWhole d p n ls outcome written → IsJudgedFor d p
+judged n d p ls outcomes.Valid w h = accepted n ls w h
+judged n d p ls outcomes.Invalid w h = refused n h.text h.goes_on outcomes.Invalid w h.refused
+judged n d p ls outcomes.Beyond w h = refused n h.text h.goes_on outcomes.Beyond w h.refused
+judged n d p ls outcomes.BadText w h = refused n h.text h.goes_on outcomes.BadText w h.refused
+judged n d p ls outcomes.ReadFault w h = absurd h
+judged n d p ls outcomes.WriteFault w h = absurd h
+judged n d p ls outcomes.NoMemory w h = absurd h
 
 abbrev Same : Status → Status → List ℕ → List ℕ → Type 0
 Same x y w v = (x ≡ y) × (w ≡ v)
 
-module _ (ds ps ls : List ℕ) (x y : Status) (w v : List ℕ) where
+module _ (n : ℕ) (ds ps ls : List ℕ) (x y : Status) (w v : List ℕ) where
   grounds : (d d' : Domain) (p p' : Problem) → SpellsWellTyped ds ps d p → SpellsWellTyped ds ps d' p' → x ≡ s.Beyond → y ≡ s.Beyond → IsUngrounded d p w → IsUngrounded d' p' v → Same x y w v
   grounds d d' p p' a b i j g h =
       let one = pair_once ds ps d' d p' p b.spelled a.spelled in
       (i ∙ sym j, one_line d p w v g (subst (λ q. IsUngrounded d q v) one.1 (subst (λ e. IsUngrounded e p' v) one.0 h)))
 
-  ground_or_plan : (d d' : Domain) (p p' : Problem) (o : Outcome) (line text : List ℕ) → SpellsWellTyped ds ps d p → SpellsWellTyped ds ps d' p' → IsUngrounded d p line → IsWhole d' p' 10000 ls o text → ⊥
+  ground_or_plan : (d d' : Domain) (p p' : Problem) (o : Outcome) (line text : List ℕ) → SpellsWellTyped ds ps d p → SpellsWellTyped ds ps d' p' → IsUngrounded d p line → IsWhole d' p' n ls o text → ⊥
   ground_or_plan d d' p p' o line text a b g h =
       let one = pair_once ds ps d' d p' p b.spelled a.spelled in
-      pair_or_plan d p line g (judged d p ls o text (subst (λ q. IsWhole d q 10000 ls o text) one.1 (subst (λ e. IsWhole e p' 10000 ls o text) one.0 h)))
+      pair_or_plan d p line g (judged n d p ls o text (subst (λ q. IsWhole d q n ls o text) one.1 (subst (λ e. IsWhole e p' n ls o text) one.0 h)))
 
-  plans_once : (d d' : Domain) (p p' : Problem) (o o' : Outcome) → SpellsWellTyped ds ps d p → SpellsWellTyped ds ps d' p' → x ≡ status_of o → y ≡ status_of o' → IsWhole d p 10000 ls o w → IsWhole d' p' 10000 ls o' v → Same x y w v
+  plans_once : (d d' : Domain) (p p' : Problem) (o o' : Outcome) → SpellsWellTyped ds ps d p → SpellsWellTyped ds ps d' p' → x ≡ status_of o → y ≡ status_of o' → IsWhole d p n ls o w → IsWhole d' p' n ls o' v → Same x y w v
   plans_once d d' p p' o o' a b i j g h =
       let one = pair_once ds ps d' d p' p b.spelled a.spelled in
-      let again = subst (λ q. IsWhole d q 10000 ls o' v) one.1 (subst (λ e. IsWhole e p' 10000 ls o' v) one.0 h) in
-      let same = plans.one_answer d p 10000 ls o o' w v g again in
+      let again = subst (λ q. IsWhole d q n ls o' v) one.1 (subst (λ e. IsWhole e p' n ls o' v) one.0 h) in
+      let same = plans.one_answer d p n ls o o' w v g again in
       (i ∙ ap status_of same.0 ∙ sym j, same.1)
 
-  checked_once : Checked ds ps ls x w → Checked ds ps ls y v → Same x y w v
+  checked_once : Checked n ds ps ls x w → Checked n ds ps ls y v → Same x y w v
   checked_once (by_pair e h i k) (by_pair f g j l) =
       let one = pair_refused_once ds ps e f h g in
       (i ∙ ap early_status one ∙ sym j, k ∙ ap early_text one ∙ sym l)
@@ -196,10 +192,10 @@ showed_once Spells canon Refused text x y w v trees lines apart (a_line e h i k)
 -- ---- from an answer to what was written
 
 -- what the output took, and what it says with this status
-record Wrote (Says : Status → List ℕ → Type 0) (old new : Option (List ℕ)) (status : Status) : Type 0 where
-  written : List ℕ
-  took : Took old new written
-  says : Says status written
+pub record Wrote (Says : Status → List ℕ → Type 0) (old new : Option (List ℕ)) (status : Status) : Type 0 where
+  pub written : List ℕ
+  pub took : Took old new written
+  pub says : Says status written
 
 wrote_once :
     (Says : Status → List ℕ → Type 0) (old new new' : Option (List ℕ)) (x y : Status) → ((w v : List ℕ) → Says x w → Says y v → Same x y w v)
@@ -214,24 +210,24 @@ IsLess s.Beyond = Unit {0}
 IsLess s.BadText = Unit {0}
 IsLess _ = ⊥
 
-whole_of : (d : Domain) (p : Problem) (ls : List ℕ) (o : Outcome) (status : Status) (w : List ℕ) → status ≡ status_of o → IsLess status → IsRefusedIn d p 10000 ls o w → IsWhole d p 10000 ls o w
-whole_of d p ls outcomes.Invalid status w i l h = h
-whole_of d p ls outcomes.Beyond status w i l h = h
-whole_of d p ls outcomes.BadText status w i l h = h
-whole_of d p ls outcomes.Valid status w i l h = absurd (subst IsLess i l)
-whole_of d p ls outcomes.ReadFault status w i l h = absurd (subst IsLess i l)
-whole_of d p ls outcomes.WriteFault status w i l h = absurd (subst IsLess i l)
-whole_of d p ls outcomes.NoMemory status w i l h = absurd (subst IsLess i l)
+whole_of : (n : ℕ) (d : Domain) (p : Problem) (ls : List ℕ) (o : Outcome) (status : Status) (w : List ℕ) → status ≡ status_of o → IsLess status → IsRefusedIn d p n ls o w → IsWhole d p n ls o w
+whole_of n d p ls outcomes.Invalid status w i l h = h
+whole_of n d p ls outcomes.Beyond status w i l h = h
+whole_of n d p ls outcomes.BadText status w i l h = h
+whole_of n d p ls outcomes.Valid status w i l h = absurd (subst IsLess i l)
+whole_of n d p ls outcomes.ReadFault status w i l h = absurd (subst IsLess i l)
+whole_of n d p ls outcomes.WriteFault status w i l h = absurd (subst IsLess i l)
+whole_of n d p ls outcomes.NoMemory status w i l h = absurd (subst IsLess i l)
 
 -- a check
-module _ (ds ps ls : List ℕ) (old new : Option (List ℕ)) where
-  refused_wrote : (status : Status) → IsLess status → IsRefusedRun ds ps (Some ls) old new status → Wrote (Checked ds ps ls) old new status
+module _ (n : ℕ) (ds ps ls : List ℕ) (old new : Option (List ℕ)) where
+  refused_wrote : (status : Status) → IsLess status → IsRefusedRun n ds ps (Some ls) old new status → Wrote (Checked n ds ps ls) old new status
   refused_wrote status l (for_pair e h i t) = record { written = early_text e; took = t; says = by_pair e h i refl }
   refused_wrote status l (for_ground d p t i g) = record { written = g.line; took = g.took; says = by_ground d p t i g.ungrounded }
   refused_wrote status l (for_plan d p o t i h) =
-      record { written = h.bytes; took = h.took; says = by_plan d p o t i (whole_of d p ls o status h.bytes i l h.refused) }
+      record { written = h.bytes; took = h.took; says = by_plan d p o t i (whole_of n d p ls o status h.bytes i l h.refused) }
 
-  check_wrote : (status : Status) → IsSettled status → (status ≡ s.Valid → IsValidRun ds ps ls old new) → OnRefusal status (IsRefusedRun ds ps (Some ls) old new status) → (status ≡ s.Usage → ⊥) → Wrote (Checked ds ps ls) old new status
+  pub check_wrote : (status : Status) → IsSettled status → (status ≡ s.Valid → IsValidRun n ds ps ls old new) → OnRefusal status (IsRefusedRun n ds ps (Some ls) old new status) → (status ≡ s.Usage → ⊥) → Wrote (Checked n ds ps ls) old new status
   check_wrote s.Valid g v r u =
       let a = v refl in
       record { written = a.accepted.bytes; took = a.accepted.took; says = by_plan a.d a.p outcomes.Valid a.pair refl a.accepted.accepted }
@@ -264,18 +260,18 @@ module _ {T : Type 0} (Spells : List ℕ → T → Type 0) (canon : T → List �
 
 -- of a check, where the shelf tells its files
 both_checks :
-    (d p l : Option (List ℕ)) (old new new' : Option (List ℕ)) (x y : Status) → IsSome d → IsSome p → IsSome l → IsSettled x → IsSettled y
-    → (x ≡ s.Valid → IfSome d (λ ds. IfSome p (λ ps. IfSome l (λ ls. IsValidRun ds ps ls old new))))
-    → OnRefusal x (IfSome d (λ ds. IfSome p (λ ps. IsRefusedRun ds ps l old new x))) → (x ≡ s.Usage → ⊥)
-    → (y ≡ s.Valid → IfSome d (λ ds. IfSome p (λ ps. IfSome l (λ ls. IsValidRun ds ps ls old new'))))
-    → OnRefusal y (IfSome d (λ ds. IfSome p (λ ps. IsRefusedRun ds ps l old new' y))) → (y ≡ s.Usage → ⊥)
+    (n : ℕ) (d p l : Option (List ℕ)) (old new new' : Option (List ℕ)) (x y : Status) → IsSome d → IsSome p → IsSome l → IsSettled x → IsSettled y
+    → (x ≡ s.Valid → IfSome d (λ ds. IfSome p (λ ps. IfSome l (λ ls. IsValidRun n ds ps ls old new))))
+    → OnRefusal x (IfSome d (λ ds. IfSome p (λ ps. IsRefusedRun n ds ps l old new x))) → (x ≡ s.Usage → ⊥)
+    → (y ≡ s.Valid → IfSome d (λ ds. IfSome p (λ ps. IfSome l (λ ls. IsValidRun n ds ps ls old new'))))
+    → OnRefusal y (IfSome d (λ ds. IfSome p (λ ps. IsRefusedRun n ds ps l old new' y))) → (y ≡ s.Usage → ⊥)
     → (x ≡ y) × (new ≡ new')
-both_checks None p l old new new' x y i j k g h v r u w q t = cc i
-both_checks (Some ds) None l old new new' x y i j k g h v r u w q t = cc j
-both_checks (Some ds) (Some ps) None old new new' x y i j k g h v r u w q t = cc k
-both_checks (Some ds) (Some ps) (Some ls) old new new' x y i j k g h v r u w q t =
-    wrote_once (Checked ds ps ls) old new new' x y (λ a b. checked_once ds ps ls x y a b)
-    (check_wrote ds ps ls old new x g v r u) (check_wrote ds ps ls old new' y h w q t)
+both_checks n None p l old new new' x y i j k g h v r u w q t = cc i
+both_checks n (Some ds) None l old new new' x y i j k g h v r u w q t = cc j
+both_checks n (Some ds) (Some ps) None old new new' x y i j k g h v r u w q t = cc k
+both_checks n (Some ds) (Some ps) (Some ls) old new new' x y i j k g h v r u w q t =
+    wrote_once (Checked n ds ps ls) old new new' x y (λ a b. checked_once n ds ps ls x y a b)
+    (check_wrote n ds ps ls old new x g v r u) (check_wrote n ds ps ls old new' y h w q t)
 
 -- of `show`, where the shelf tells its file
 module _ {T : Type 0} (Spells : List ℕ → T → Type 0) (canon : T → List ℕ) (Refused : List ℕ → Early → Type 0) where
@@ -299,15 +295,15 @@ usage_once old new new' c d c' d' x y g h (inl a) (inl b) = (a.0 ∙ sym b.0, a.
 usage_once old new new' c d c' d' x y g h (inl a) (inr b) = absurd (subst IsSettled b.0 h)
 usage_once old new new' c d c' d' x y g h (inr a) b = absurd (subst IsSettled a.0 g)
 
-no_usage : (c : Command) (x : Status) → (x ≡ s.Usage → Some c ≡ None) → x ≡ s.Usage → ⊥
+pub no_usage : (c : Command) (x : Status) → (x ≡ s.Usage → Some c ≡ None) → x ≡ s.Usage → ⊥
 no_usage c x f e = let k : Some c ≡ None = f e in cc k
 
 pub one_answer : OneAnswer
 one_answer None bytes old new new' a b c d a' b' c' d' x y t h k g i =
     usage_once old new new' c d c' d' x y g i (h.no_command refl) (k.no_command refl)
-one_answer (Some (Check dn pn ln)) bytes old new new' a b c d a' b' c' d' x y t h k g i =
-    both_checks (bytes dn) (bytes pn) (bytes ln) old new new' x y t.0 t.1.0 t.1.1.0 g i
-    h.valid h.refused (no_usage (Check dn pn ln) x h.usage) k.valid k.refused (no_usage (Check dn pn ln) y k.usage)
+one_answer (Some (Check dn pn ln n)) bytes old new new' a b c d a' b' c' d' x y t h k g i =
+    both_checks n (bytes dn) (bytes pn) (bytes ln) old new new' x y t.0 t.1.0 t.1.1.0 g i
+    h.valid h.refused (no_usage (Check dn pn ln n) x h.usage) k.valid k.refused (no_usage (Check dn pn ln n) y k.usage)
 one_answer (Some (ShowDomain f)) bytes old new new' a b c d a' b' c' d' x y t h k g i =
     both_shows (SpellsWithin depth_limit) domain_text DomainRefused (bytes f) old new new' x y t.0
     domain_spelled_once domain_refused_once domain_or_not g i

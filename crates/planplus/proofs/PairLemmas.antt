@@ -13,7 +13,7 @@ use Rattle.plus_places.proofs.Domains as domains
 use Rattle.plus_places.proofs.Problems as problems
 use Rattle.plus_types.specs.declared.faults.TypeFault.{TypeFault}
 use Rattle.plus_types.specs.declared.faults.TypeFault.TheVariants as types
-use Rattle.plus_types.specs.Faults.{faults_of, IsFirstFault}
+use Rattle.plus_types.specs.Faults.{type_faults, IsFirstFault}
 use Rattle.plus_report.specs.declared.refusals.Text.TheVariants as texts
 use Rattle.plus_report.specs.declared.refusals.Early as early
 use Rattle.planplus.specs.declared.pair.Refusal.{Refusal}
@@ -102,7 +102,7 @@ pair_by_problem domain problem later d b m n NoMemory q k rd h = tt
 
 types_then :
     (domain problem : Option (List ℕ)) (d : Domain) (p : Problem) (fault : TypeFault) (e : early.Early) → ReadsDomain domain d
-    → ReadsProblem problem p → IsFirstFault (faults_of d p) fault → type_refusal fault ≡ Early e
+    → ReadsProblem problem p → IsFirstFault (type_faults d p) fault → type_refusal fault ≡ Early e
     → IfSome domain (λ ds. IfSome problem (λ ps. PairRefused ds ps e))
 types_then None problem d p fault e rd rp f q = tt
 types_then (Some ds) None d p fault e rd rp f q = tt
@@ -111,13 +111,13 @@ types_then (Some ds) (Some ps) d p fault e rd rp f q =
 
 types_by :
     (domain problem : Option (List ℕ)) (d : Domain) (p : Problem) (b n : ℕ) (fault : TypeFault) → ReadsDomain domain d
-    → ReadsProblem problem p → IsFirstFault (faults_of d p) fault → NoPair domain problem b n (type_refusal fault)
+    → ReadsProblem problem p → IsFirstFault (type_faults d p) fault → NoPair domain problem b n (type_refusal fault)
 types_by domain problem d p b n types.Memory rd rp f = tt
 types_by domain problem d p b n (types.At wrong file span) rd rp f = types_then domain problem d p (types.At wrong file span) _ rd rp f refl
 
 pub pair_by_types :
     (domain problem later : Option (List ℕ)) (d : Domain) (p : Problem) (b n : ℕ) (fault : TypeFault) (r : Refusal) → later ≡ problem
-    → ReadsDomain domain d → ReadsProblem later p → IsFirstFault (faults_of d p) fault → r ≡ type_refusal fault
+    → ReadsDomain domain d → ReadsProblem later p → IsFirstFault (type_faults d p) fault → r ≡ type_refusal fault
     → NoPair domain problem b n r
 pair_by_types domain problem later d p b n fault r q rd rp f e =
     subst (NoPair domain problem b n) (sym e) (types_by domain problem d p b n fault rd (subst (λ o. ReadsProblem o p) q rp) f)

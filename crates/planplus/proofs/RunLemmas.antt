@@ -1,11 +1,10 @@
 -- What the top call shows, put together from what its calls answer.
-use Rattle.std.proofs.Common.{◌≡◌, ◌⊎◌, ℕ, List, [], ◌∷◌, ◌++◌, Option, Some, None, subst, sym, ◌∙◌, ap, refl, rules, IsTrue, inl, inr, ◌≤◌, arith}
+use Rattle.std.proofs.Common.{◌≡◌, ◌⊎◌, ℕ, List, [], ◌∷◌, Option, Some, None, subst, sym, ◌∙◌, ap, refl, rules, IsTrue, inl, inr, ◌≤◌, arith}
 use Rattle.std.specs.Prelude.{IfSome}
 use Rattle.plus_io.specs.Faults.{Rose}
 use Rattle.plus_tree.specs.declared.trees.Domain.{Domain}
 use Rattle.plus_tree.specs.declared.trees.Problem.{Problem}
-use Rattle.plus_types.specs.Unbuilt.{is_empty, unbuilt_faults}
-use Rattle.plus_types.specs.Faults.{type_faults, faults_of, is_well_typed}
+use Rattle.plus_types.specs.Faults.{type_faults, is_empty, is_well_typed}
 use Rattle.plus_report.specs.declared.refusals.Early.{Early}
 use Rattle.plus_report.specs.declared.refusals.Early.TheVariants as es
 use Rattle.plus_report.specs.Refusals.{early_text}
@@ -23,10 +22,6 @@ use Rattle.planplus.specs.Statuses.{early_status, Writes}
 none_at_all : {A : Type 0} (xs : List A) → IsTrue (is_empty xs) → xs ≡ []
 none_at_all [] w = refl
 none_at_all (x ∷ xs) w = absurd (search rules)
-
-both_none : {A : Type 0} (xs ys : List A) → xs ++ ys ≡ [] → (xs ≡ []) × (ys ≡ [])
-both_none [] ys e = (refl, e)
-both_none (x ∷ xs) ys e = cc e
 
 -- ---- a status comes of the outcome alone
 only_valid : (o : Outcome) → status_of o ≡ s.Valid → o ≡ outcomes.Valid
@@ -105,8 +100,7 @@ on_pair :
 on_pair None problem d p P r w f = tt
 on_pair (Some ds) None d p P r w f = tt
 on_pair (Some ds) (Some ps) d p P r w f =
-    let none = both_none (type_faults d p) (unbuilt_faults d p) (none_at_all (faults_of d p) w) in
-    f ds ps (record { spelled = r; well_typed = none.0; handled = none.1 })
+    f ds ps (record { spelled = r; well_typed = none_at_all (type_faults d p) w })
 
 on_plan : (plan : Option (List ℕ)) (P Q : List ℕ → Type 0) → IfSome plan P → ((ls : List ℕ) → P ls → Q ls) → IfSome plan Q
 on_plan None P Q h f = tt
@@ -116,53 +110,53 @@ on_plan (Some ls) P Q h f = f ls h
 
 -- a plan that is valid
 pub valid_run :
-    (domain problem plan later : Option (List ℕ)) (d : Domain) (p : Problem) (old new : Option (List ℕ)) (o : Outcome) (r : Status)
+    (n : ℕ) (domain problem plan later : Option (List ℕ)) (d : Domain) (p : Problem) (old new : Option (List ℕ)) (o : Outcome) (r : Status)
     → later ≡ plan → ReadsPair domain problem d p → IsTrue (is_well_typed d p)
-    → (o ≡ outcomes.Valid → IfSome later (λ text. Accepts d p 10000 text old new)) → r ≡ status_of o → r ≡ s.Valid
-    → IfSome domain (λ ds. IfSome problem (λ ps. IfSome plan (λ ls. IsValidRun ds ps ls old new)))
-valid_run domain problem plan later d p old new o r q rd w a e v =
-    on_pair domain problem d p (λ ds ps. IfSome plan (λ ls. IsValidRun ds ps ls old new)) rd w (λ ds ps t.
-    on_plan plan (λ text. Accepts d p 10000 text old new) (λ ls. IsValidRun ds ps ls old new)
-    (subst (λ b. IfSome b (λ text. Accepts d p 10000 text old new)) q (a (only_valid o (sym e ∙ v))))
+    → (o ≡ outcomes.Valid → IfSome later (λ text. Accepts d p n text old new)) → r ≡ status_of o → r ≡ s.Valid
+    → IfSome domain (λ ds. IfSome problem (λ ps. IfSome plan (λ ls. IsValidRun n ds ps ls old new)))
+valid_run n domain problem plan later d p old new o r q rd w a e v =
+    on_pair domain problem d p (λ ds ps. IfSome plan (λ ls. IsValidRun n ds ps ls old new)) rd w (λ ds ps t.
+    on_plan plan (λ text. Accepts d p n text old new) (λ ls. IsValidRun n ds ps ls old new)
+    (subst (λ b. IfSome b (λ text. Accepts d p n text old new)) q (a (only_valid o (sym e ∙ v))))
     (λ ls x. record { d = d; p = p; pair = t; accepted = x }))
 
 -- a plan that is refused, or a pair that is not grounded
 refused_run :
-    (ds ps : List ℕ) (plan later : Option (List ℕ)) (d : Domain) (p : Problem) (old new : Option (List ℕ)) (o : Outcome) → later ≡ plan
+    (n : ℕ) (ds ps : List ℕ) (plan later : Option (List ℕ)) (d : Domain) (p : Problem) (old new : Option (List ℕ)) (o : Outcome) → later ≡ plan
     → SpellsWellTyped ds ps d p
-    → ((o ≡ outcomes.Beyond) × RefusesPair d p old new) ⊎ IfSome later (λ text. Refuses d p 10000 text o old new)
-    → IsRefusedRun ds ps plan old new (status_of o)
-refused_run ds ps plan later d p old new o q t (inl g) = for_ground d p t (subst (λ x. status_of x ≡ s.Beyond) (sym g.0) refl) g.1
-refused_run ds ps plan later d p old new o q t (inr h) =
-    for_plan d p o t refl (subst (λ b. IfSome b (λ text. Refuses d p 10000 text o old new)) q h)
+    → ((o ≡ outcomes.Beyond) × RefusesPair d p old new) ⊎ IfSome later (λ text. Refuses d p n text o old new)
+    → IsRefusedRun n ds ps plan old new (status_of o)
+refused_run n ds ps plan later d p old new o q t (inl g) = for_ground d p t (subst (λ x. status_of x ≡ s.Beyond) (sym g.0) refl) g.1
+refused_run n ds ps plan later d p old new o q t (inr h) =
+    for_plan d p o t refl (subst (λ b. IfSome b (λ text. Refuses d p n text o old new)) q h)
 
 pub plan_refused :
-    (domain problem plan later : Option (List ℕ)) (d : Domain) (p : Problem) (old new : Option (List ℕ)) (o : Outcome) (r : Status)
+    (n : ℕ) (domain problem plan later : Option (List ℕ)) (d : Domain) (p : Problem) (old new : Option (List ℕ)) (o : Outcome) (r : Status)
     → later ≡ plan → ReadsPair domain problem d p → IsTrue (is_well_typed d p)
-    → (IsRefusal o → ((o ≡ outcomes.Beyond) × RefusesPair d p old new) ⊎ IfSome later (λ text. Refuses d p 10000 text o old new))
-    → r ≡ status_of o → OnRefusal r (IfSome domain (λ ds. IfSome problem (λ ps. IsRefusedRun ds ps plan old new r)))
-plan_refused domain problem plan later d p old new o r q rd w h e =
-    subst (λ x. OnRefusal x (IfSome domain (λ ds. IfSome problem (λ ps. IsRefusedRun ds ps plan old new x)))) (sym e)
-    (on_outcome o (IfSome domain (λ ds. IfSome problem (λ ps. IsRefusedRun ds ps plan old new (status_of o)))) (λ i.
-    on_pair domain problem d p (λ ds ps. IsRefusedRun ds ps plan old new (status_of o)) rd w (λ ds ps t.
-    refused_run ds ps plan later d p old new o q t (h i))))
+    → (IsRefusal o → ((o ≡ outcomes.Beyond) × RefusesPair d p old new) ⊎ IfSome later (λ text. Refuses d p n text o old new))
+    → r ≡ status_of o → OnRefusal r (IfSome domain (λ ds. IfSome problem (λ ps. IsRefusedRun n ds ps plan old new r)))
+plan_refused n domain problem plan later d p old new o r q rd w h e =
+    subst (λ x. OnRefusal x (IfSome domain (λ ds. IfSome problem (λ ps. IsRefusedRun n ds ps plan old new x)))) (sym e)
+    (on_outcome o (IfSome domain (λ ds. IfSome problem (λ ps. IsRefusedRun n ds ps plan old new (status_of o)))) (λ i.
+    on_pair domain problem d p (λ ds ps. IsRefusedRun n ds ps plan old new (status_of o)) rd w (λ ds ps t.
+    refused_run n ds ps plan later d p old new o q t (h i))))
 
 -- a sink that failed
 broken_run :
-    (ds ps : List ℕ) (plan later : Option (List ℕ)) (d : Domain) (p : Problem) (old new : Option (List ℕ)) → later ≡ plan
-    → SpellsWellTyped ds ps d p → RefusesPairInPart d p old new ⊎ IfSome later (λ text. BreaksOff d p 10000 text old new)
-    → IsBrokenRun ds ps plan old new
-broken_run ds ps plan later d p old new q t (inl g) = in_ground d p t g
-broken_run ds ps plan later d p old new q t (inr h) = in_plan d p t (subst (λ b. IfSome b (λ text. BreaksOff d p 10000 text old new)) q h)
+    (n : ℕ) (ds ps : List ℕ) (plan later : Option (List ℕ)) (d : Domain) (p : Problem) (old new : Option (List ℕ)) → later ≡ plan
+    → SpellsWellTyped ds ps d p → RefusesPairInPart d p old new ⊎ IfSome later (λ text. BreaksOff d p n text old new)
+    → IsBrokenRun n ds ps plan old new
+broken_run n ds ps plan later d p old new q t (inl g) = in_ground d p t g
+broken_run n ds ps plan later d p old new q t (inr h) = in_plan d p t (subst (λ b. IfSome b (λ text. BreaksOff d p n text old new)) q h)
 
 pub plan_broken :
-    (domain problem plan later : Option (List ℕ)) (d : Domain) (p : Problem) (old new : Option (List ℕ)) (before now : ℕ) (o : Outcome) (r : Status)
+    (n : ℕ) (domain problem plan later : Option (List ℕ)) (d : Domain) (p : Problem) (old new : Option (List ℕ)) (before now : ℕ) (o : Outcome) (r : Status)
     → later ≡ plan → ReadsPair domain problem d p → IsTrue (is_well_typed d p)
-    → (o ≡ outcomes.WriteFault → Rose before now × (RefusesPairInPart d p old new ⊎ IfSome later (λ text. BreaksOff d p 10000 text old new)))
-    → r ≡ status_of o → r ≡ s.WriteFault → IfSome domain (λ ds. IfSome problem (λ ps. IsBrokenRun ds ps plan old new))
-plan_broken domain problem plan later d p old new before now o r q rd w h e v =
-    on_pair domain problem d p (λ ds ps. IsBrokenRun ds ps plan old new) rd w (λ ds ps t.
-    broken_run ds ps plan later d p old new q t ((h (only_broken o (sym e ∙ v))).1))
+    → (o ≡ outcomes.WriteFault → Rose before now × (RefusesPairInPart d p old new ⊎ IfSome later (λ text. BreaksOff d p n text old new)))
+    → r ≡ status_of o → r ≡ s.WriteFault → IfSome domain (λ ds. IfSome problem (λ ps. IsBrokenRun n ds ps plan old new))
+plan_broken n domain problem plan later d p old new before now o r q rd w h e v =
+    on_pair domain problem d p (λ ds ps. IsBrokenRun n ds ps plan old new) rd w (λ ds ps t.
+    broken_run n ds ps plan later d p old new q t ((h (only_broken o (sym e ∙ v))).1))
 
 -- ---- no pair
 
@@ -176,13 +170,13 @@ told (Some ds) (Some ps) e P h f = f ds ps h
 
 -- a pair that is refused with one line
 pub pair_refused :
-    (domain problem plan : Option (List ℕ)) (e : Early) (old new : Option (List ℕ)) (before now : ℕ) (r : Status)
+    (n : ℕ) (domain problem plan : Option (List ℕ)) (e : Early) (old new : Option (List ℕ)) (before now : ℕ) (r : Status)
     → IfSome domain (λ ds. IfSome problem (λ ps. PairRefused ds ps e)) → Writes (early_text e) (early_status e) old new before now r
-    → OnRefusal r (IfSome domain (λ ds. IfSome problem (λ ps. IsRefusedRun ds ps plan old new r)))
-pair_refused domain problem plan e old new before now r h (inl w) =
-    on_refusal r _ (told domain problem e (λ ds ps. IsRefusedRun ds ps plan old new r) h (λ ds ps x. for_pair e x w.0 w.1))
-pair_refused domain problem plan e old new before now r h (inr w) =
-    subst (λ x. OnRefusal x (IfSome domain (λ ds. IfSome problem (λ ps. IsRefusedRun ds ps plan old new x)))) (sym w.0) tt
+    → OnRefusal r (IfSome domain (λ ds. IfSome problem (λ ps. IsRefusedRun n ds ps plan old new r)))
+pair_refused n domain problem plan e old new before now r h (inl w) =
+    on_refusal r _ (told domain problem e (λ ds ps. IsRefusedRun n ds ps plan old new r) h (λ ds ps x. for_pair e x w.0 w.1))
+pair_refused n domain problem plan e old new before now r h (inr w) =
+    subst (λ x. OnRefusal x (IfSome domain (λ ds. IfSome problem (λ ps. IsRefusedRun n ds ps plan old new x)))) (sym w.0) tt
 
 pub early_plain : (e : Early) → early_status e ≡ s.WriteFault → ⊥
 early_plain (es.BadText text start finish word) q = cc
@@ -195,12 +189,12 @@ early_plain (es.Literal text start finish) q = cc
 early_plain (es.TooMany kind most) q = cc
 
 pub pair_broken :
-    (domain problem plan : Option (List ℕ)) (e : Early) (old new : Option (List ℕ)) (before now : ℕ) (r : Status)
+    (n : ℕ) (domain problem plan : Option (List ℕ)) (e : Early) (old new : Option (List ℕ)) (before now : ℕ) (r : Status)
     → IfSome domain (λ ds. IfSome problem (λ ps. PairRefused ds ps e)) → Writes (early_text e) (early_status e) old new before now r
-    → r ≡ s.WriteFault → IfSome domain (λ ds. IfSome problem (λ ps. IsBrokenRun ds ps plan old new))
-pair_broken domain problem plan e old new before now r h (inl w) v = absurd (early_plain e (sym w.0 ∙ v))
-pair_broken domain problem plan e old new before now r h (inr w) v =
-    told domain problem e (λ ds ps. IsBrokenRun ds ps plan old new) h (λ ds ps x. in_pair e x w.2)
+    → r ≡ s.WriteFault → IfSome domain (λ ds. IfSome problem (λ ps. IsBrokenRun n ds ps plan old new))
+pair_broken n domain problem plan e old new before now r h (inl w) v = absurd (early_plain e (sym w.0 ∙ v))
+pair_broken n domain problem plan e old new before now r h (inr w) v =
+    told domain problem e (λ ds ps. IsBrokenRun n ds ps plan old new) h (λ ds ps x. in_pair e x w.2)
 
 -- ---- the number of the process
 

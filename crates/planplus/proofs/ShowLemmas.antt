@@ -1,12 +1,12 @@
 -- What `show` shows, put together from what its calls answer.
-use Rattle.std.proofs.Common.{◌≡◌, ◌⊎◌, ℕ, ◌≤◌, List, length, Option, Some, None, subst, sym, ◌∙◌, inl, inr}
+use Rattle.std.proofs.Common.{◌≡◌, ℕ, ◌≤◌, List, length, Option, Some, None, subst, sym, ◌∙◌, inl, inr}
 use Rattle.std.specs.Prelude.{IfSome}
 use Rattle.plus_report.specs.declared.refusals.Early.{Early}
 use Rattle.plus_report.specs.Refusals.{early_text}
 use Rattle.planplus.specs.declared.run.Status.{Status}
 use Rattle.planplus.specs.declared.run.Status.TheVariants as s
 use Rattle.planplus.specs.Statuses.{early_status, Writes}
-use Rattle.planplus.specs.Shown.{IsSpelled, IsShown, IsNotShown, IsShownInPart, of_text, of_line}
+use Rattle.planplus.specs.Shown.{IsShown, IsNotShown, IsShownInPart, of_text, of_line}
 use Rattle.planplus.specs.Headline.{OnRefusal}
 use Rattle.planplus.proofs.RunLemmas.{on_refusal, early_plain}
 

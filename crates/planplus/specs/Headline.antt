@@ -4,7 +4,6 @@ use Rattle.plus_io.specs.Faults.{Rose}
 use Rattle.plus_io.specs.Taken.{Took, TookPart}
 use Rattle.plus_tree.specs.declared.trees.Domain.{Domain}
 use Rattle.plus_tree.specs.declared.trees.Problem.{Problem}
-use Rattle.plus_types.specs.Unbuilt.{unbuilt_faults}
 use Rattle.plus_types.specs.Faults.{type_faults}
 use Rattle.plus_report.specs.declared.refusals.Early.{Early}
 use Rattle.plus_validator.specs.declared.judge.Outcome.{Outcome}
@@ -21,29 +20,25 @@ use Rattle.planplus.specs.Pair.{depth_limit, SpellsPair, PairRefused, DomainRefu
 use Rattle.planplus.specs.Statuses.{early_status, Writes}
 use Rattle.planplus.specs.Shown.{IsShown, IsNotShown, IsShownInPart}
 
--- how many moments a plan may enter
-abbrev pub default_happenings : ℕ
-default_happenings = 10000
-
--- The two texts spell this pair, it is well typed, and it has none of the forms that are not handled yet.
+-- the two texts spell this pair, and it is well typed
 pub record SpellsWellTyped (domain problem : List ℕ) (d : Domain) (p : Problem) : Type 0 where
   pub spelled : SpellsPair domain problem d p
   pub well_typed : type_faults d p ≡ []
-  pub handled : unbuilt_faults d p ≡ []
 
 -- The bytes under the three names spell a well-typed pair and a plan of lines, exactly one trajectory of the pair has
--- that plan's actions, and between old and new the sink took that trajectory's text and `valid`.
-pub record IsValidRun (domain problem plan : List ℕ) (old new : Option (List ℕ)) : Type 0 where
+-- that plan's actions, and between old and new the sink took that trajectory's text and `valid`. The plan enters at most
+-- so many moments.
+pub record IsValidRun (happenings : ℕ) (domain problem plan : List ℕ) (old new : Option (List ℕ)) : Type 0 where
   pub d : Domain
   pub p : Problem
   pub pair : SpellsWellTyped domain problem d p
-  pub accepted : Accepts d p default_happenings plan old new
+  pub accepted : Accepts d p happenings plan old new
 
 -- the same for a command, where the shelf tells what stands under its names
 abbrev pub RunsValid : Option Command → (List ℕ → Option (List ℕ)) → Option (List ℕ) → Option (List ℕ) → Type 0
 RunsValid None bytes old new = ⊥
-RunsValid (Some (Check d p l)) bytes old new =
-    IfSome (bytes d) (λ ds. IfSome (bytes p) (λ ps. IfSome (bytes l) (λ ls. IsValidRun ds ps ls old new)))
+RunsValid (Some (Check d p l n)) bytes old new =
+    IfSome (bytes d) (λ ds. IfSome (bytes p) (λ ps. IfSome (bytes l) (λ ls. IsValidRun n ds ps ls old new)))
 RunsValid (Some (ShowDomain file)) bytes old new =
     IfSome (bytes file) (λ text. IsShown (SpellsWithin depth_limit) domain_text text old new)
 RunsValid (Some (ShowProblem file)) bytes old new =
@@ -65,24 +60,24 @@ status_of outcomes.NoMemory = s.NoMemory
 
 -- The command is refused, and between old and new the sink took: one line, where the two texts are no well-typed pair;
 -- one line, where the pair is not grounded; else the report of what happens before the refusal, and the verdict line.
-pub data IsRefusedRun (domain problem : List ℕ) (plan : Option (List ℕ)) (old new : Option (List ℕ)) (status : Status) : Type 0 where
-  for_pair : (e : Early) → PairRefused domain problem e → status ≡ early_status e → Took old new (early_text e) → IsRefusedRun domain problem plan old new status
+pub data IsRefusedRun (happenings : ℕ) (domain problem : List ℕ) (plan : Option (List ℕ)) (old new : Option (List ℕ)) (status : Status) : Type 0 where
+  for_pair : (e : Early) → PairRefused domain problem e → status ≡ early_status e → Took old new (early_text e) → IsRefusedRun happenings domain problem plan old new status
   for_ground :
       (d : Domain) (p : Problem) → SpellsWellTyped domain problem d p → status ≡ s.Beyond → RefusesPair d p old new
-      → IsRefusedRun domain problem plan old new status
+      → IsRefusedRun happenings domain problem plan old new status
   for_plan :
       (d : Domain) (p : Problem) (outcome : Outcome) → SpellsWellTyped domain problem d p → status ≡ status_of outcome
-      → IfSome plan (λ text. Refuses d p default_happenings text outcome old new) → IsRefusedRun domain problem plan old new status
+      → IfSome plan (λ text. Refuses d p happenings text outcome old new) → IsRefusedRun happenings domain problem plan old new status
 
 -- The sink failed, and took the beginning of what was to be written, and not all of it.
-pub data IsBrokenRun (domain problem : List ℕ) (plan : Option (List ℕ)) (old new : Option (List ℕ)) : Type 0 where
-  in_pair : (e : Early) → PairRefused domain problem e → TookPart old new (early_text e) → IsBrokenRun domain problem plan old new
+pub data IsBrokenRun (happenings : ℕ) (domain problem : List ℕ) (plan : Option (List ℕ)) (old new : Option (List ℕ)) : Type 0 where
+  in_pair : (e : Early) → PairRefused domain problem e → TookPart old new (early_text e) → IsBrokenRun happenings domain problem plan old new
   in_ground :
       (d : Domain) (p : Problem) → SpellsWellTyped domain problem d p → RefusesPairInPart d p old new
-      → IsBrokenRun domain problem plan old new
+      → IsBrokenRun happenings domain problem plan old new
   in_plan :
       (d : Domain) (p : Problem) → SpellsWellTyped domain problem d p
-      → IfSome plan (λ text. BreaksOff d p default_happenings text old new) → IsBrokenRun domain problem plan old new
+      → IfSome plan (λ text. BreaksOff d p happenings text old new) → IsBrokenRun happenings domain problem plan old new
 
 -- what is said where a command is refused: its plan is not valid, a limit stands, or a text is none
 abbrev pub OnRefusal : Status → Type 0 → Type 0
@@ -93,16 +88,16 @@ OnRefusal _ P = Unit {0}
 
 abbrev pub RunsRefused : Option Command → (List ℕ → Option (List ℕ)) → Option (List ℕ) → Option (List ℕ) → Status → Type 0
 RunsRefused None bytes old new status = ⊥
-RunsRefused (Some (Check d p l)) bytes old new status =
-    IfSome (bytes d) (λ ds. IfSome (bytes p) (λ ps. IsRefusedRun ds ps (bytes l) old new status))
+RunsRefused (Some (Check d p l n)) bytes old new status =
+    IfSome (bytes d) (λ ds. IfSome (bytes p) (λ ps. IsRefusedRun n ds ps (bytes l) old new status))
 RunsRefused (Some (ShowDomain file)) bytes old new status = IfSome (bytes file) (λ text. IsNotShown DomainRefused text old new status)
 RunsRefused (Some (ShowProblem file)) bytes old new status = IfSome (bytes file) (λ text. IsNotShown ProblemRefused text old new status)
 
 -- the same where the sink failed
 abbrev pub RunsBroken : Option Command → (List ℕ → Option (List ℕ)) → Option (List ℕ) → Option (List ℕ) → Type 0
 RunsBroken None bytes old new = TookPart old new usage_line
-RunsBroken (Some (Check d p l)) bytes old new =
-    IfSome (bytes d) (λ ds. IfSome (bytes p) (λ ps. IsBrokenRun ds ps (bytes l) old new))
+RunsBroken (Some (Check d p l n)) bytes old new =
+    IfSome (bytes d) (λ ds. IfSome (bytes p) (λ ps. IsBrokenRun n ds ps (bytes l) old new))
 RunsBroken (Some (ShowDomain file)) bytes old new =
     IfSome (bytes file) (λ text. IsShownInPart (SpellsWithin depth_limit) domain_text DomainRefused text old new)
 RunsBroken (Some (ShowProblem file)) bytes old new =

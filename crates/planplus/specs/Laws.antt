@@ -1,9 +1,12 @@
 -- What a reader of an answer of the program may rely on, over the definitions alone.
-use Rattle.std.specs.Prelude.{◌≡◌, ℕ, List, [], ◌∷◌, Option, IsSome}
+use Rattle.std.specs.Prelude.{◌≡◌, ℕ, List, [], ◌∷◌, Option, Some, IsSome}
+use Rattle.plus_tree.specs.declared.trees.Domain.{Domain}
+use Rattle.plus_tree.specs.declared.trees.Problem.{Problem}
+use Rattle.plus_validator.specs.Tame.{IsTameText, HasTrajectory}
 use Rattle.planplus.specs.declared.run.Status.{Status}
 use Rattle.planplus.specs.declared.run.Status.TheVariants as s
-use Rattle.planplus.specs.Command.{Command, files_of}
-use Rattle.planplus.specs.Headline.{IsAnswer}
+use Rattle.planplus.specs.Command.{Command, Check, files_of}
+use Rattle.planplus.specs.Headline.{SpellsWellTyped, IsAnswer}
 
 -- the status tells of no fault of a file or of the output, and of no want of memory
 abbrev pub IsSettled : Status → Type 0
@@ -24,3 +27,21 @@ OneAnswer =
     (command : Option Command) (bytes : List ℕ → Option (List ℕ)) (old new new' : Option (List ℕ)) (a b c d a' b' c' d' : ℕ) (status status' : Status)
     → AreTold bytes (files_of command) → IsAnswer command bytes old new a b c d status → IsAnswer command bytes old new' a' b' c' d' status'
     → IsSettled status → IsSettled status' → (status ≡ status') × (new ≡ new')
+
+-- the three texts spell a well-typed pair and a plan, and all of it stays inside the limits, with so many moments
+pub record IsInside (happenings : ℕ) (domain problem plan : List ℕ) (d : Domain) (p : Problem) : Type 0 where
+  pub pair : SpellsWellTyped domain problem d p
+  pub tame : IsTameText d p happenings plan
+
+-- the plan is valid, and it has a trajectory; or it is invalid, and it has none
+pub data IsDecided (d : Domain) (p : Problem) (plan : List ℕ) (status : Status) : Type 0 where
+  is_valid : status ≡ s.Valid → HasTrajectory d p plan → IsDecided d p plan status
+  is_invalid : status ≡ s.Invalid → (HasTrajectory d p plan → ⊥) → IsDecided d p plan status
+
+-- Where all of it stays inside the limits, an answer that tells of no fault and of no want of memory decides the plan.
+abbrev pub Decides : Type 0
+Decides =
+    (domain problem plan : List ℕ) (n : ℕ) (bytes : List ℕ → Option (List ℕ)) (old new : Option (List ℕ)) (a b c e : ℕ) (status : Status)
+    (ds ps ls : List ℕ) (d : Domain) (p : Problem) → bytes domain ≡ Some ds → bytes problem ≡ Some ps → bytes plan ≡ Some ls
+    → IsInside n ds ps ls d p → IsAnswer (Some (Check domain problem plan n)) bytes old new a b c e status → IsSettled status
+    → IsDecided d p ls status

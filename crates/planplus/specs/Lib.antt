@@ -1,3 +1,4 @@
+pub mod Happenings
 pub mod Command
 pub mod Meant
 pub mod Pair

@@ -4,6 +4,6 @@ use Rattle.planplus.specs.declared.command.Command.TheVariants as codes
 use Rattle.planplus.specs.Command.{Command, Check, ShowDomain, ShowProblem}
 
 abbrev pub meant : code.Command → Command
-meant (codes.Check c) = Check c.domain.now c.problem.now c.plan.now
+meant (codes.Check c) = Check c.domain.now c.problem.now c.plan.now c.happenings.number
 meant (codes.ShowDomain file) = ShowDomain file.now
 meant (codes.ShowProblem file) = ShowProblem file.now

@@ -15,20 +15,18 @@ use Rattle.plus_types.specs.declared.faults.Wrong.{Wrong}
 use Rattle.plus_types.specs.declared.faults.Wrong.TheVariants as wrongs
 use Rattle.plus_types.specs.declared.faults.TypeFault.{TypeFault}
 use Rattle.plus_types.specs.declared.faults.TypeFault.TheVariants as types
-use Rattle.plus_types.specs.Faults.{faults_of, IsFirstFault}
+use Rattle.plus_types.specs.Faults.{type_faults, IsFirstFault}
 use Rattle.plus_report.specs.declared.refusals.Text.{Text}
 use Rattle.plus_report.specs.declared.refusals.Text.TheVariants as texts
 use Rattle.plus_report.specs.declared.refusals.Word.{Word}
 use Rattle.plus_report.specs.declared.refusals.Word.TheVariants as words
 use Rattle.plus_report.specs.declared.refusals.Early as early
 use Rattle.plus_report.specs.declared.refusals.Early.TheVariants.{BadText, TooLong, Depth}
+pub use Rattle.plus_validator.specs.Limits.{text_limit}
 use Rattle.planplus.specs.declared.pair.Refusal.{Refusal}
 use Rattle.planplus.specs.declared.pair.Refusal.TheVariants.{Early, NoMemory}
 
--- the most bytes of a text, and the most parentheses open at once
-abbrev pub text_limit : ℕ
-text_limit = 1048576
-
+-- the most parentheses open at once
 abbrev pub depth_limit : ℕ
 depth_limit = 64
 
@@ -60,7 +58,6 @@ word_of wrongs.Shadowed = words.ShadowedVariable
 word_of wrongs.TypeLoop = words.TypeLoop
 word_of wrongs.RateForm = words.RateForm
 word_of wrongs.DomainName = words.DomainName
-word_of wrongs.NotBuilt = words.NotBuilt
 
 -- a pair that is not well typed is refused so
 abbrev pub type_refusal : TypeFault → Refusal
@@ -97,5 +94,5 @@ pub data PairRefused (domain problem : List ℕ) (e : early.Early) : Type 0 wher
       (d : Domain) → length domain ≤ text_limit → SpellsWithin depth_limit domain d → ProblemRefused problem e
       → PairRefused domain problem e
   by_types :
-      (d : Domain) (p : Problem) (fault : TypeFault) → SpellsPair domain problem d p → IsFirstFault (faults_of d p) fault
+      (d : Domain) (p : Problem) (fault : TypeFault) → SpellsPair domain problem d p → IsFirstFault (type_faults d p) fault
       → type_refusal fault ≡ Early e → PairRefused domain problem e

@@ -1,5 +1,5 @@
 -- What `show` writes: the canonical text of the tree that a text spells, or one line that says why it spells none.
-use Rattle.std.specs.Prelude.{◌≡◌, ℕ, ◌≤◌, List, length, Option, IfSome}
+use Rattle.std.specs.Prelude.{◌≡◌, ℕ, ◌≤◌, List, length, Option}
 use Rattle.plus_io.specs.Taken.{Took, TookPart}
 use Rattle.plus_report.specs.declared.refusals.Early.{Early}
 use Rattle.plus_report.specs.Refusals.{early_text}

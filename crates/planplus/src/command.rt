@@ -1,15 +1,16 @@
 //! The words of the command line.
 
 ghost use Rattle.std.specs.Prelude.{◌≡◌, [], ◌∷◌, map, option_map, string_bytes, IfOk};
-ghost use Rattle.planplus.specs.Command.{show_of, command_of, files_of};
+ghost use Rattle.planplus.specs.Command.{check_of, show_of, command_of, files_of};
 ghost use Rattle.planplus.specs.Meant.{meant};
 
+use crate::happenings::Happenings;
 use std::alloc::{AllocError, Global};
 
 /// A command, with the names of its files.
 #[derive(Clone, Copy)]
 pub enum Command<'a> {
-    /// `check D P L`: checks a plan.
+    /// `check D P L` and `check D P L --happenings N`: checks a plan.
     Check(Check<'a>),
     /// `show domain D`: writes the canonical text of a domain.
     ShowDomain(&'a str),
@@ -17,12 +18,13 @@ pub enum Command<'a> {
     ShowProblem(&'a str),
 }
 
-/// The files of a check.
+/// The files of a check, and how many moments its plan may enter.
 #[derive(Clone, Copy)]
 pub struct Check<'a> {
     pub domain: &'a str,
     pub problem: &'a str,
     pub plan: &'a str,
+    pub happenings: Happenings,
 }
 
 impl Check<'_> {
@@ -52,6 +54,29 @@ fn show<'a>(what: &str, file: &'a str) -> Option<Command<'a>>
     }
 }
 
+// The command `check`, of these three files and two more words.
+fn counted_check<'a>(
+    domain: &'a str,
+    problem: &'a str,
+    plan: &'a str,
+    option: &str,
+    number: &str,
+) -> Option<Command<'a>>
+    ensures { option_map meant result ≡ check_of domain.now problem.now plan.now option.now number.now }
+{
+    if option == "--happenings" {
+        let happenings = Happenings::parse(number)?;
+        Some(Command::Check(Check {
+            domain,
+            problem,
+            plan,
+            happenings,
+        }))
+    } else {
+        None
+    }
+}
+
 /// The command that the words mean, if they mean one.
 pub fn parse<'a>(words: &'a [String]) -> Option<Command<'a>>
     ensures { option_map meant result ≡ command_of (map string_bytes words.now) }
@@ -63,7 +88,21 @@ pub fn parse<'a>(words: &'a [String]) -> Option<Command<'a>>
                     domain: domain.as_str(),
                     problem: problem.as_str(),
                     plan: plan.as_str(),
+                    happenings: Happenings::DEFAULT,
                 }))
+            } else {
+                None
+            }
+        }
+        [name, domain, problem, plan, option, number] => {
+            if name.as_str() == "check" {
+                counted_check(
+                    domain.as_str(),
+                    problem.as_str(),
+                    plan.as_str(),
+                    option.as_str(),
+                    number.as_str(),
+                )
             } else {
                 None
             }

@@ -206,10 +206,31 @@ fn moments(alloc: Global, count: u32) -> Result<String, Fail> {
     Ok(text)
 }
 
+// Runs the words over a plan that comes to so many moments, and compares the status and the end of
+// what was written.
+fn expect_end(
+    rt: &impl Abort,
+    alloc: Global,
+    words: &[String],
+    count: u32,
+    status: Status,
+    end: &str,
+) -> Result<(), Fail> {
+    let domain = "(define (domain n) (:action note))";
+    let plan = moments(alloc, count)?;
+    let mut shelf = shelf_of(alloc, domain, EMPTY, &plan)?;
+    let mut out = MemSink::new(alloc, 4096);
+    let answer = run(alloc, words, &mut shelf, &mut out);
+    assert_eq!(rt; answer, status);
+    let from = out.bytes().len().saturating_sub(end.len());
+    assert_eq!(rt; &out.bytes()[from..], end.as_bytes(), "{end}");
+    Ok(())
+}
+
 #[test]
 fn happenings(rt: HostRuntime) -> Result<(), Fail> {
     let alloc = rt.alloc();
-    let domain = "(define (domain n) (:action note))";
+    let words = check_words(alloc)?;
     for (count, status, end) in [
         (10000, Status::Valid, "\nat 9999\n  act (note)\nvalid\n"),
         (
@@ -218,16 +239,19 @@ fn happenings(rt: HostRuntime) -> Result<(), Fail> {
             "\nat 9999\n  act (note)\nbeyond: happenings 10000\n",
         ),
     ] {
-        let plan = moments(alloc, count)?;
-        let mut shelf = shelf_of(alloc, domain, EMPTY, &plan)?;
-        let mut out = MemSink::new(alloc, 4096);
-        let words = check_words(alloc)?;
-        let answer = run(alloc, &words, &mut shelf, &mut out);
-        assert_eq!(rt; answer, status);
-        let from = out.bytes().len().saturating_sub(end.len());
-        assert_eq!(rt; &out.bytes()[from..], end.as_bytes(), "{end}");
+        expect_end(&rt, alloc, &words, count, status, end)?;
     }
     Ok(())
+}
+
+#[test]
+fn more_happenings(rt: HostRuntime) -> Result<(), Fail> {
+    let alloc = rt.alloc();
+    let mut words = check_words(alloc)?;
+    words.push(String::from_str(alloc, "--happenings")?)?;
+    words.push(String::from_str(alloc, "10001")?)?;
+    let end = "\nat 10000\n  act (note)\nvalid\n";
+    expect_end(&rt, alloc, &words, 10001, Status::Valid, end)
 }
 
 // A problem over so many objects.

@@ -5,9 +5,12 @@ mod command;
 #[cfg(test)]
 mod edge_tests;
 mod files;
+mod happenings;
 pub mod laws;
 #[cfg(test)]
 mod limit_tests;
+#[cfg(test)]
+mod moving_tests;
 mod pair;
 mod run;
 mod screen;
@@ -16,6 +19,8 @@ mod show;
 mod tests;
 #[cfg(test)]
 mod typing_tests;
+#[cfg(test)]
+mod word_tests;
 
 ghost use Rattle.std.specs.Prelude.{◌≡◌, ◌⊎◌, map, string_bytes, None};
 ghost use Rattle.std.specs.Process.{exit_status};

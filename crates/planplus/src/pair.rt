@@ -1,12 +1,12 @@
 //! Reads the domain and the problem, and tests their types.
 
-ghost use Rattle.std.specs.Prelude.{◌≡◌, ◌≤◌, [], ◌∷◌, length, IfOk, IfErr, IfSome, OnOk};
+ghost use Rattle.std.specs.Prelude.{◌≡◌, ◌≤◌, ◌+◌, [], ◌∷◌, length, IfOk, IfErr, IfSome, OnOk};
 ghost use Rattle.plus_io.specs.Faults.{Rose};
 ghost use Rattle.plus_io.specs.Files.{KeepsFiles};
 ghost use Rattle.plus_io.specs.Picks.{ReadsOnce, ReadsEach, ReadsInOrder};
 ghost use Rattle.plus_parser.specs.SpellsDomain.{SpellsWithin};
 ghost use Rattle.plus_parser.specs.SpellsProblem.{SpellsProblemWithin};
-ghost use Rattle.planplus.specs.Pair.{behind, text_refusal, type_refusal, word_of, text_named};
+ghost use Rattle.planplus.specs.Pair.{text_limit, behind, text_refusal, type_refusal, word_of, text_named};
 ghost use Rattle.planplus.specs.Reads.{NotRead, ReadsDomain, ReadsProblem, ReadsPair, NoDomain, NoProblem, NoPair};
 
 use plus_io::{ReadStop, Shelf, read_all};
@@ -15,10 +15,8 @@ use plus_report::{Early, Text, Word};
 use plus_tokens::LexFault;
 use plus_tree::{Domain, Problem, Span, TextFault};
 use plus_types::{File, TypeFault, Typed, Wrong, check};
+use plus_validator::limits::TEXT_LIMIT;
 use std::alloc::Global;
-
-/// The most bytes of a domain's, a problem's or a plan's text.
-pub const TEXT_LIMIT: usize = 1048576;
 
 /// Why there is no pair to check.
 #[derive(Drop)]
@@ -88,7 +86,6 @@ fn word_for(wrong: Wrong) -> Word
         Wrong::TypeLoop => Word::TypeLoop,
         Wrong::RateForm => Word::RateForm,
         Wrong::DomainName => Word::DomainName,
-        Wrong::NotBuilt => Word::NotBuilt,
     }
 }
 
@@ -118,10 +115,10 @@ pub fn text_of<S: Shelf>(
     text: Text,
 ) -> Result<Vec<u8>, Refusal>
     ensures read { IfOk result (λ v. IfSome (S.bytes shelf.old name.now) (λ bytes.
-        (v.items ≡ bytes) × (length bytes ≤ 1048576))) }
+        (v.items ≡ bytes) × (length bytes ≤ text_limit))) }
     ensures not_read { IfErr result (NotRead text (S.bytes shelf.old name.now)
         (S.faults shelf.old) (S.faults shelf.new)) }
-    ensures reads { ReadsOnce S.bytes S.picked S.rest S.picks 1048577 name.now shelf.old shelf.new }
+    ensures reads { ReadsOnce S.bytes S.picked S.rest S.picks (text_limit + 1) name.now shelf.old shelf.new }
     ensures keeps { KeepsFiles S.names S.bytes S.faults shelf.old shelf.new }
 {
     let mut bytes = Vec::new(alloc);
@@ -138,7 +135,7 @@ pub fn domain_under<S: Shelf>(alloc: Global, shelf: &mut S, name: &str) -> Resul
     ensures read { IfOk result (ReadsDomain (S.bytes shelf.old name.now)) }
     ensures not_read { IfErr result (NoDomain (S.bytes shelf.old name.now)
         (S.faults shelf.old) (S.faults shelf.new)) }
-    ensures reads { ReadsOnce S.bytes S.picked S.rest S.picks 1048577 name.now shelf.old shelf.new }
+    ensures reads { ReadsOnce S.bytes S.picked S.rest S.picks (text_limit + 1) name.now shelf.old shelf.new }
     ensures keeps { KeepsFiles S.names S.bytes S.faults shelf.old shelf.new }
 {
     let text = text_of(alloc, shelf, name, Text::Domain)?;
@@ -153,7 +150,7 @@ pub fn problem_under<S: Shelf>(alloc: Global, shelf: &mut S, name: &str) -> Resu
     ensures read { IfOk result (ReadsProblem (S.bytes shelf.old name.now)) }
     ensures not_read { IfErr result (NoProblem (S.bytes shelf.old name.now)
         (S.faults shelf.old) (S.faults shelf.new)) }
-    ensures reads { ReadsOnce S.bytes S.picked S.rest S.picks 1048577 name.now shelf.old shelf.new }
+    ensures reads { ReadsOnce S.bytes S.picked S.rest S.picks (text_limit + 1) name.now shelf.old shelf.new }
     ensures keeps { KeepsFiles S.names S.bytes S.faults shelf.old shelf.new }
 {
     let text = text_of(alloc, shelf, name, Text::Problem)?;
@@ -175,9 +172,9 @@ pub fn pair<S: Shelf>(
     ensures not_read { IfErr result (NoPair (S.bytes shelf.old domain.now)
         (S.bytes shelf.old problem.now) (S.faults shelf.old) (S.faults shelf.new)) }
     // The domain's file is read and then the problem's, each once, and no other.
-    ensures reads { ReadsInOrder S.bytes S.picked S.rest S.picks 1048577
+    ensures reads { ReadsInOrder S.bytes S.picked S.rest S.picks (text_limit + 1)
         (domain.now ∷ problem.now ∷ []) shelf.old shelf.new }
-    ensures both { OnOk result (ReadsEach S.bytes S.picked S.rest S.picks 1048577
+    ensures both { OnOk result (ReadsEach S.bytes S.picked S.rest S.picks (text_limit + 1)
         (domain.now ∷ problem.now ∷ []) shelf.old shelf.new) }
     ensures keeps { KeepsFiles S.names S.bytes S.faults shelf.old shelf.new }
 {

@@ -1,10 +1,11 @@
 //! The top call: from the words of the command line to what is written and the exit status.
 
-ghost use Rattle.std.specs.Prelude.{◌≡◌, ◌≤◌, map, string_bytes, Some};
+ghost use Rattle.std.specs.Prelude.{◌≡◌, ◌≤◌, ◌+◌, map, string_bytes, Some};
 ghost use Rattle.std.specs.Process.{exit_status};
 ghost use Rattle.plus_io.specs.Files.{KeepsFiles};
 ghost use Rattle.plus_io.specs.Picks.{ReadsInOrder};
 ghost use Rattle.plus_report.specs.Refusals.{early_text};
+ghost use Rattle.planplus.specs.Pair.{text_limit};
 ghost use Rattle.planplus.specs.Command.{command_of, files_of};
 ghost use Rattle.planplus.specs.Headline.{IsAnswer, usage_line, status_of, exit_number};
 ghost use Rattle.planplus.specs.Statuses.{early_status, Writes};
@@ -18,9 +19,6 @@ use plus_report::{Early, write_early};
 use plus_validator::{Outcome, validate};
 use std::alloc::Global;
 use std::process::ExitCode;
-
-/// How many moments a plan may enter.
-const DEFAULT_HAPPENINGS: u64 = 10000;
 
 /// How a run ends. The exit statuses are 0 to 7 in this order.
 #[derive(Clone, Copy, Debug, PartialEq, Eq)]
@@ -114,7 +112,7 @@ fn check<S: Shelf, O: Sink>(alloc: Global, files: Check<'_>, shelf: &mut S, out:
     ensures answers { IsAnswer (Some (meant (Command.Check files.entry))) (S.bytes shelf.old)
         (O.taken out.old) (O.taken out.new) (S.faults shelf.old) (S.faults shelf.new)
         (O.faults out.old) (O.faults out.new) result }
-    ensures reads { ReadsInOrder S.bytes S.picked S.rest S.picks 1048577
+    ensures reads { ReadsInOrder S.bytes S.picked S.rest S.picks (text_limit + 1)
         (files_of (Some (meant (Command.Check files.entry)))) shelf.old shelf.new }
     ensures keeps { KeepsFiles S.names S.bytes S.faults shelf.old shelf.new }
     ensures no_fall { O.faults out.old ≤ O.faults out.new }
@@ -126,7 +124,7 @@ fn check<S: Shelf, O: Sink>(alloc: Global, files: Check<'_>, shelf: &mut S, out:
             shelf,
             files.plan,
             out,
-            DEFAULT_HAPPENINGS,
+            files.happenings.number,
         )),
         Err(Refusal::Early(early)) => refuse(out, &early),
         Err(Refusal::ReadFault) => Status::ReadFault,
@@ -145,7 +143,7 @@ pub fn run<S: Shelf, O: Sink>(alloc: Global, words: &[String], shelf: &mut S, ou
 
     // It reads the files that the words name and no other, in the order of the words and each once,
     // and of each at most one byte past the limit of a text.
-    ensures reads { ReadsInOrder S.bytes S.picked S.rest S.picks 1048577
+    ensures reads { ReadsInOrder S.bytes S.picked S.rest S.picks (text_limit + 1)
         (files_of (command_of (map string_bytes words.now))) shelf.old shelf.new }
     ensures keeps { KeepsFiles S.names S.bytes S.faults shelf.old shelf.new }
     ensures no_fall { O.faults out.old ≤ O.faults out.new }

@@ -1,9 +1,10 @@
 //! The command `show`: from a text to the canonical text of its tree.
 
-ghost use Rattle.std.specs.Prelude.{◌≡◌, ◌≤◌, [], ◌∷◌, Some, IfOk};
+ghost use Rattle.std.specs.Prelude.{◌≡◌, ◌≤◌, ◌+◌, [], ◌∷◌, Some, IfOk};
 ghost use Rattle.plus_io.specs.Files.{KeepsFiles};
 ghost use Rattle.plus_io.specs.Picks.{ReadsInOrder};
 ghost use Rattle.plus_printer.specs.Canon.{domain_text, problem_text};
+ghost use Rattle.planplus.specs.Pair.{text_limit};
 ghost use Rattle.planplus.specs.Command.{ShowDomain, ShowProblem};
 ghost use Rattle.planplus.specs.Statuses.{Writes};
 ghost use Rattle.planplus.specs.Headline.{IsAnswer};
@@ -46,7 +47,7 @@ pub fn show_domain<S: Shelf, O: Sink>(
     ensures answers { IsAnswer (Some (ShowDomain name.now)) (S.bytes shelf.old)
         (O.taken out.old) (O.taken out.new) (S.faults shelf.old) (S.faults shelf.new)
         (O.faults out.old) (O.faults out.new) result }
-    ensures reads { ReadsInOrder S.bytes S.picked S.rest S.picks 1048577 (name.now ∷ []) shelf.old shelf.new }
+    ensures reads { ReadsInOrder S.bytes S.picked S.rest S.picks (text_limit + 1) (name.now ∷ []) shelf.old shelf.new }
     ensures keeps { KeepsFiles S.names S.bytes S.faults shelf.old shelf.new }
     ensures no_fall { O.faults out.old ≤ O.faults out.new }
 {
@@ -80,7 +81,7 @@ pub fn show_problem<S: Shelf, O: Sink>(
     ensures answers { IsAnswer (Some (ShowProblem name.now)) (S.bytes shelf.old)
         (O.taken out.old) (O.taken out.new) (S.faults shelf.old) (S.faults shelf.new)
         (O.faults out.old) (O.faults out.new) result }
-    ensures reads { ReadsInOrder S.bytes S.picked S.rest S.picks 1048577 (name.now ∷ []) shelf.old shelf.new }
+    ensures reads { ReadsInOrder S.bytes S.picked S.rest S.picks (text_limit + 1) (name.now ∷ []) shelf.old shelf.new }
     ensures keeps { KeepsFiles S.names S.bytes S.faults shelf.old shelf.new }
     ensures no_fall { O.faults out.old ≤ O.faults out.new }
 {

@@ -66,24 +66,12 @@ const DOOR_ROWS: [(&str, Status, &str); 9] = [
 ];
 
 // Domains and problems that are refused, what is written, and the status.
-const PAIR_ROWS: [(&str, &str, Status, &str); 7] = [
+const PAIR_ROWS: [(&str, &str, Status, &str); 5] = [
     (
         "(define (domain a)",
         D1,
         Status::BadText,
         "bad text: domain 18-18: unclosed\n",
-    ),
-    (
-        "(define (domain door) (:predicates (closed) (locked)) (:process p))",
-        D1,
-        Status::BadText,
-        "bad text: domain 54-66: not built\n",
-    ),
-    (
-        DOOR,
-        "(define (problem q) (:domain door) (:init (at 5 (locked))) (:goal (and)))",
-        Status::BadText,
-        "bad text: problem 46-47: not built\n",
     ),
     (
         "(define (domain door) (:predicates (p) (p)))",

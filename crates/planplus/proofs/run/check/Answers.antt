@@ -9,9 +9,9 @@ pub returns-in-Ok-clause-answers : goal.returns-in-Ok-clause-answers
 returns-in-Ok-clause-answers g c =
     let same = ap (λ f. f c.args.files.plan.now) c.in-Ok.ensures.keeps.same_bytes in
     record {
-      valid = λ v. valid_run _ _ _ _ c.in-Ok.typed.domain c.in-Ok.typed.problem _ _ _ _ same c.in-Ok.ensures.read c.in-Ok.typed.well_typed
+      valid = λ v. valid_run _ _ _ _ _ c.in-Ok.typed.domain c.in-Ok.typed.problem _ _ _ _ same c.in-Ok.ensures.read c.in-Ok.typed.well_typed
           c.validate.ensures.valid c.of.ensures v;
-      refused = plan_refused _ _ _ _ c.in-Ok.typed.domain c.in-Ok.typed.problem _ _ _ _ same c.in-Ok.ensures.read c.in-Ok.typed.well_typed
+      refused = plan_refused _ _ _ _ _ c.in-Ok.typed.domain c.in-Ok.typed.problem _ _ _ _ same c.in-Ok.ensures.read c.in-Ok.typed.well_typed
           c.validate.ensures.refused c.of.ensures;
       usage = λ v. absurd (no_usage c.validate.result c.of.result c.of.ensures v);
       no_command = λ n. some_none _ n;
@@ -20,7 +20,7 @@ returns-in-Ok-clause-answers g c =
           (rose_before _ _ _ c.in-Ok.ensures.keeps.no_fall h.0, h.1);
       write_fault = λ v. (
         (c.validate.ensures.write_fault (only_broken c.validate.result (sym c.of.ensures ∙ v))).0,
-        plan_broken _ _ _ _ c.in-Ok.typed.domain c.in-Ok.typed.problem _ _ _ _ _ _ same c.in-Ok.ensures.read c.in-Ok.typed.well_typed
+        plan_broken _ _ _ _ _ c.in-Ok.typed.domain c.in-Ok.typed.problem _ _ _ _ _ _ same c.in-Ok.ensures.read c.in-Ok.typed.well_typed
             c.validate.ensures.write_fault c.of.ensures v,
       );
       no_memory = λ v. c.validate.ensures.no_memory (only_memory c.validate.result (sym c.of.ensures ∙ v));
@@ -30,8 +30,8 @@ pub returns-in-Err-Early-clause-answers : goal.returns-in-Err-Early-clause-answe
 returns-in-Err-Early-clause-answers g c =
     let line = rw c.in-Err-Early.early-is at c.refuse.ensures.writes in
     let cause = rw c.in-Err-Early.field-0-is at c.in-Err-Early.ensures.not_read in
-    line_answer _ _ _ _ _ _ _ _ _ c.in-Err-Early.early line (pair_refused _ _ _ c.in-Err-Early.early _ _ _ _ _ cause line)
-    (pair_broken _ _ _ c.in-Err-Early.early _ _ _ _ _ cause line)
+    line_answer _ _ _ _ _ _ _ _ _ c.in-Err-Early.early line (pair_refused _ _ _ _ c.in-Err-Early.early _ _ _ _ _ cause line)
+    (pair_broken _ _ _ _ c.in-Err-Early.early _ _ _ _ _ cause line)
 
 pub returns-in-Ok-clause-keeps : goal.returns-in-Ok-clause-keeps
 returns-in-Ok-clause-keeps g c = KeepsFiles-trans _ _ _ c.in-Ok.ensures.keeps c.validate.ensures.keeps
