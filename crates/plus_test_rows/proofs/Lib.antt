@@ -1,0 +1,3 @@
+pub mod RoundRows
+pub mod ConditionRows
+pub mod SettleRows

@@ -1,0 +1,4 @@
+pub mod Small
+pub mod Rounds
+pub mod Conditions
+pub mod Settling

@@ -1,0 +1,10 @@
+pub mod EffectRows
+pub mod LineRows
+pub mod Parts
+pub mod SetRows
+pub mod StartRows
+pub mod HistoryRows
+pub mod JustAfterRows
+pub mod MomentRows
+pub mod ListRows
+pub mod OrderRows
