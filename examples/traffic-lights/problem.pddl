@@ -1,0 +1,10 @@
+(define (problem junction)
+ (:domain traffic-lights)
+ (:objects main side - road main-green side-green - phase)
+ (:init
+  (green main-green) (next main-green side-green) (next side-green main-green)
+  (serves main-green main) (serves side-green side)
+  (= (queue main) 10) (= (arrivals main) 0.2) (= (outflow main) 0.5)
+  (= (queue side) 6) (= (arrivals side) 0.1) (= (outflow side) 0.5)
+  (= (duration main-green) 30) (= (duration side-green) 20) (= (elapsed) 0))
+ (:goal (forall (?r - road) (<= (queue ?r) 1))))
