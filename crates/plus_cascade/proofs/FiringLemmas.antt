@@ -1,8 +1,8 @@
 -- How far the conditions of events are looked at, and how far their effects are added.
-use Rattle.std.proofs.Common.{◌≡◌, ℕ, ◌<◌, ◌+◌, zero, suc, Bool, true, false, List, [], ◌∷◌, ◌++◌, length, map, get_or, refl, ap, sym, subst, ◌∙◌, arith, append_assoc}
+use Rattle.std.proofs.Common.{◌≡◌, ℕ, ◌<◌, zero, suc, List, [], ◌∷◌, ◌++◌, length, map, get_or, ap, sym, subst, ◌∙◌, arith, append_assoc}
 use Rattle.std.proofs.lemmas.List.{append-nil, get_or-map, length-map}
 use Rattle.std.proofs.lemmas.List.Elements.{All-head, All-tail}
-use Rattle.std.specs.Prelude.{slice_get, if◌then◌else◌}
+use Rattle.std.specs.Prelude.{slice_get}
 use Rattle.std.specs.List.{All}
 use Rattle.plus_fraction.specs.Fraction.{Fraction}
 use Rattle.plus_model.specs.Terms.{Effect, Event, State, Problem}
@@ -14,8 +14,6 @@ use Rattle.plus_state.specs.declared.problem.Ground.{Ground}
 use Rattle.plus_state.specs.View.{event_of, effect_of, problem_of}
 use Rattle.plus_state.specs.Fits.{EventFits, StateFits}
 use Rattle.plus_state.specs.Node.{Node}
-use Rattle.plus_state.specs.Asked.{NodeFits, AllFit, FirstUnfit}
-use Rattle.plus_state.specs.Tests.{tests_of}
 use Rattle.plus_state.specs.Changes.{Changes, patched}
 use Rattle.plus_state.specs.Due.{Due, DuesFit, dues}
 use Rattle.plus_state.specs.Steps.{Step, Passes, AllPass, FirstStop, add_steps}

@@ -1,6 +1,6 @@
 -- What can be shown beside a ground problem: states for its atoms and fluents, and ids that are
 -- places in its lists.
-use Rattle.std.specs.Prelude.{ℕ, ◌<◌, ◌^◌, List, All, length}
+use Rattle.std.specs.Prelude.{◌<◌, ◌^◌, List, All, length}
 use Rattle.plus_model.specs.Terms.{State, Problem}
 use Rattle.plus_state.specs.View.{Labels}
 use Rattle.plus_state.specs.Fits.{StateFits}

@@ -13,8 +13,6 @@ use Rattle.plus_model.specs.Running.{JustAfter, GoesOn, holding}
 use Rattle.plus_model.proofs.Decide.{rising-numbers, place_of, in_numbers}
 use Rattle.plus_state.specs.Fits.{ProcessFits}
 use Rattle.plus_state.specs.Node.{Node}
-use Rattle.plus_state.specs.Asked.{AllFit, FirstUnfit, NodeFits}
-use Rattle.plus_state.specs.Tests.{tests_of}
 use Rattle.plus_settle.specs.declared.stops.GoStop.{GoStop}
 use Rattle.plus_settle.specs.declared.stops.GoStop.TheVariants as go
 use Rattle.plus_settle.specs.Steps.{SettleStep, AllPass, FirstStop, Passes}
@@ -26,7 +24,7 @@ use Rattle.plus_state.specs.declared.walk.WalkStop.{WalkStop}
 use Rattle.plus_state.specs.declared.walk.WalkStop.TheVariants as walk
 use Rattle.plus_state.specs.Walk.{process_conditions, WalkStops}
 use Rattle.plus_state.proofs.LookingLemmas.{numbers_by}
-use Rattle.plus_state.proofs.Testing.{pass_none, pass_append, pass_one, fail_left, fail_right, fail_one, fail_here, carry_pass, carry_fail}
+use Rattle.plus_state.proofs.Testing.{pass_none, pass_append, fail_left, fail_right}
 
 choose : (found : List ℕ) (k : ℕ) (b : Bool) (more : List ℕ) → (found ++ (if b then k ∷ [] else [])) ++ more ≡ found ++ (if b then k ∷ more else more)
 choose found k true more = append_assoc found (k ∷ []) more

@@ -20,7 +20,7 @@ use Rattle.plus_settle.specs.declared.stops.GoStop.TheVariants.{Number, Nonlinea
 use Rattle.plus_settle.specs.Steps.{SettleStep, AllPass, FirstStop, of_ask, Passes}
 use Rattle.plus_settle.specs.Members.{AreMembers, soon}
 use Rattle.plus_settle.specs.Confirms.{soon_steps, differ, confirm_steps, go_steps, first_other, GoStops}
-use Rattle.plus_state.proofs.Testing.{pass_none, pass_append, pass_one, fail_left, fail_right, fail_one, fail_here, carry_pass, carry_fail}
+use Rattle.plus_state.proofs.Testing.{pass_none, pass_append, fail_left, fail_right}
 use Rattle.plus_settle.proofs.StepsLemmas.{pass_owned, stop_owned}
 use Rattle.plus_settle.proofs.MembersLemmas.{all_in, past_end}
 

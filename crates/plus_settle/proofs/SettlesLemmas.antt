@@ -1,5 +1,5 @@
 -- What settling comes to, by what its parts come to.
-use Rattle.std.proofs.Common.{◌≡◌, ℕ, List, ◌++◌, refl, sym, subst, inl, inr}
+use Rattle.std.proofs.Common.{◌≡◌, ℕ, List, ◌++◌, sym, subst, inl, inr}
 use Rattle.std.specs.Prelude.{Option, Some, None, Result, Ok}
 use Rattle.plus_fraction.specs.Fraction.{Fraction}
 use Rattle.plus_model.specs.Terms.{State, Problem}
@@ -17,7 +17,7 @@ use Rattle.plus_settle.specs.Confirms.{go_steps, first_other, GoStops}
 use Rattle.plus_settle.specs.Settles.{condition_nodes, chosen_steps, running_soon, end_steps, own_then, members_then, first_then, settle_steps, StopIs, ConditionStops, ChosenStops, of_rate, of_go, LacksValue, NotConfirmed, NotSettled, IsRunning}
 use Rattle.plus_settle.specs.Laws.{OneRunningSet}
 use Rattle.plus_model.proofs.Steps.{one_chosen}
-use Rattle.plus_state.proofs.Testing.{pass_none, pass_append, pass_one, fail_left, fail_right, fail_one, fail_here, carry_pass, carry_fail}
+use Rattle.plus_state.proofs.Testing.{pass_none, pass_append, fail_left, fail_right, fail_here, carry_pass, carry_fail}
 use Rattle.plus_settle.proofs.StepsLemmas.{nodes_carry}
 
 module _ {Q : Type 0} (v : Q → Fraction) (fits : Fraction → Type 0) where

@@ -1,5 +1,5 @@
 -- A look at some conditions of a list tells what a look at all of them tells.
-use Rattle.std.proofs.Common.{◌≡◌, ℕ, ◌+◌, ◌<◌, ◌≤◌, suc, Bool, true, false, List, [], ◌∷◌, ◌++◌, length, map, refl, ap, sym, subst, ◌∙◌, inl, inr, arith}
+use Rattle.std.proofs.Common.{◌≡◌, ℕ, ◌+◌, ◌<◌, ◌≤◌, suc, Bool, false, List, [], ◌∷◌, ◌++◌, length, refl, ap, sym, subst, ◌∙◌, inl, inr, arith}
 use Rattle.std.proofs.lemmas.Bool.{cases_eq}
 use Rattle.std.proofs.lemmas.Bool.Decides.{nat_tests}
 use Rattle.std.proofs.lemmas.List.Elements.{All-head, All-tail}
@@ -14,8 +14,8 @@ use Rattle.plus_state.specs.Node.{Node}
 use Rattle.plus_state.specs.Asked.{NodeFits, AllFit, FirstUnfit}
 use Rattle.plus_state.specs.Tests.{tests_of}
 use Rattle.plus_state.specs.Numbers.{AreMembers}
-use Rattle.plus_state.specs.Walk.{all_asked, asked_at, holds_at, asked_among, held_among, OthersPass, OthersFalse}
-use Rattle.plus_state.specs.WalkLaws.{AsksAll, LookSuffices, LookFinds}
+use Rattle.plus_state.specs.Walk.{all_asked, asked_at, holds_at, asked_among, held_among}
+use Rattle.plus_state.specs.WalkLaws.{LookSuffices, LookFinds}
 use Rattle.plus_state.proofs.Testing.{pass_append, pass_left, pass_right, fail_left, fail_right, fail_split}
 
 -- numbers below the start are no members

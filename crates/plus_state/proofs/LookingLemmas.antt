@@ -16,8 +16,7 @@ use Rattle.plus_state.specs.Node.{Node}
 use Rattle.plus_state.specs.Asked.{NodeFits, AllFit, FirstUnfit}
 use Rattle.plus_state.specs.Tests.{tests_of}
 use Rattle.plus_state.specs.Numbers.{numbers_from, AreMembers}
-use Rattle.plus_state.specs.Walk.{all_asked, asked_at, holds_at, asked_among, held_among, OthersPass, OthersFalse}
-use Rattle.plus_state.specs.WalkLaws.{AsksAll}
+use Rattle.plus_state.specs.Walk.{all_asked, asked_at, holds_at, asked_among, held_among, OthersPass}
 use Rattle.plus_state.proofs.Testing.{pass_none, pass_append, fail_left, fail_right}
 use Rattle.plus_state.proofs.LookLemmas.{look_suffices, look_finds}
 

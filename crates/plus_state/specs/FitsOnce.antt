@@ -2,9 +2,9 @@
 use Rattle.std.specs.Prelude.{ℕ, List, [], ◌∷◌}
 use Rattle.std.specs.Coded.{×_prop, Unit-prop}
 use Rattle.std.proofs.Props.{props}
-use Rattle.plus_fraction.specs.Fraction.{Fraction, ◌≤ℚ◌}
-use Rattle.plus_model.specs.Terms.{Expression, Number, Fluent, Sum, Difference, Product, Quotient, Condition, Always, Never, Both, Either, Atom, Compare, Write, Add, Delete, Assign, Increase, Decrease, ScaleUp, ScaleDown, Effect, Rate, Event, Process, Timed, State, Problem}
-use Rattle.plus_state.specs.Fits.{IsIn, Fits, WriteFits, EffectFits, AllEffectsFit, EventFits, ProcessFits, StateFits, AreInOrder, ProblemFits}
+use Rattle.plus_fraction.specs.Fraction.{Fraction}
+use Rattle.plus_model.specs.Terms.{Expression, Number, Fluent, Sum, Difference, Product, Quotient, Condition, Always, Never, Both, Either, Atom, Compare, Write, Add, Delete, Assign, Increase, Decrease, ScaleUp, ScaleDown, Effect, Event, Process, Timed, Problem}
+use Rattle.plus_state.specs.Fits.{IsIn, Fits, WriteFits, AllEffectsFit, EventFits, ProcessFits, AreInOrder, ProblemFits}
 
 IsIn-prop : (n : ℕ) (e : Expression) → IsProp (IsIn n e)
 IsIn-prop n (Number x) = Unit-prop

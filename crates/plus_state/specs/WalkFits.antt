@@ -1,5 +1,5 @@
 -- The ids in the conditions of a problem that fits are places in its lists.
-use Rattle.std.specs.Prelude.{List, All}
+use Rattle.std.specs.Prelude.{All}
 use Rattle.std.proofs.lemmas.List.Elements.{All-map}
 use Rattle.plus_model.specs.Terms.{Event, Process, Problem}
 use Rattle.plus_state.specs.Fits.{Fits, ProblemFits}

@@ -1,4 +1,4 @@
-use Rattle.std.proofs.Common.{◌≡◌, ◌<◌, ◌^◌, [], sym, subst, refl, lit<}
+use Rattle.std.proofs.Common.{◌<◌, ◌^◌, [], sym, subst, refl, lit<}
 use Rattle.plus_model.specs.Terms.{Condition}
 use Rattle.plus_state.specs.Fits.{Fits, comparisons}
 use Rattle.plus_state.proofs.TestsLemmas.{all_view}

@@ -1,7 +1,7 @@
 use Rattle.std.proofs.Common.{◌<◌, length, map, arith}
 use Rattle.std.proofs.lemmas.List.{length-map}
 use Rattle.plus_model.specs.Terms.{Event}
-use Rattle.plus_state.specs.View.{event_of, problem_of}
+use Rattle.plus_state.specs.View.{event_of}
 use Rattle.plus_state.proofs.LookingLemmas.{here}
 use Rattle.plus_state.proofs.walk.EventIdConditional.condition.Goals as goal
 
