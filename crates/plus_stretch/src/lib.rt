@@ -15,6 +15,8 @@ pub mod listing;
 pub mod search;
 pub mod soon;
 pub mod sorted;
+#[cfg(test)]
+mod tests;
 
 pub use arrival::{Arrival, End};
 pub use halt::Halt;

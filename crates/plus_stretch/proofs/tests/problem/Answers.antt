@@ -1,0 +1,13 @@
+use Rattle.std.proofs.Common.{refl, arith, lit<}
+use Rattle.std.proofs.lemmas.List.{length-map}
+use Rattle.std.proofs.lemmas.Grind.{common_steps}
+use Rattle.std.proofs.lemmas.List.Elements.{All-map}
+use Rattle.plus_state.specs.Fits.{ProcessFits, EventFits}
+use Rattle.plus_state.proofs.FitsLemmas.{untimed_fits}
+use Rattle.plus_stretch.proofs.tests.problem.Goals as goal
+
+pub invariant_of-result : goal.invariant_of-result
+invariant_of-result c = record {
+  fits = untimed_fits _ 0 1 (grind (arith, common_steps)) (grind (arith, common_steps)) (rw c.new-3.ensures.items refl) (All-map (ProcessFits 0 1) _ _ c.requires.processes_fit) (All-map (EventFits 0 1) _ _ c.requires.events_fit)
+      c.in_ok-at_zero.ensures c.compare.ensures.fits (lit< tt) (lit< tt) (rw length-map c.requires.few_processes) (rw length-map c.requires.few_events);
+}
