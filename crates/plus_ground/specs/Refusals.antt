@@ -11,7 +11,7 @@ use Rattle.plus_literal.specs.Value.{LiteralFits}
 use Rattle.plus_numbering.specs.Counts.{first_over}
 use Rattle.plus_expansion.specs.Nodes.{action_nodes}
 use Rattle.plus_expansion.specs.Literals.{call_literals}
-use Rattle.plus_expansion.specs.Counting.{counts_of}
+use Rattle.plus_expansion.specs.Counting.{most_nodes, counts_of}
 use Rattle.plus_limits.specs.Unfit.{IsUnfit, IsFirstUnfitAt}
 use Rattle.plus_ground.specs.declared.faults.GroundFault.{GroundFault}
 use Rattle.plus_ground.specs.declared.faults.GroundFault.TheVariants as ground
@@ -27,19 +27,19 @@ RefusesGround fits d p ground.Memory = Unit {0}
 pub record IsTooLarge (called : Called) : Type 0 where
   pub action : Action
   pub is : called ≡ Instance action
-  pub large : 1000000 < action_nodes action
+  pub large : most_nodes < action_nodes action
 
 -- an instance with a literal that is no value of the type of numbers: the first such of its action, the condition before the effect
 pub record HasUnfit (fits : Fraction → Type 0) (d : Domain) (name : List ℕ) (called : Called) (span : Span) : Type 0 where
   pub action : Action
   pub is : called ≡ Instance action
-  pub small : action_nodes action ≤ 1000000
+  pub small : action_nodes action ≤ most_nodes
   pub unfit : IsFirstUnfitAt fits (call_literals d name) span
 
 -- the instance is small enough, and all literals of its action are values
 pub record IsInstance (fits : Fraction → Type 0) (d : Domain) (name : List ℕ) (called : Called) (a : Action) : Type 0 where
   pub is : called ≡ Instance a
-  pub small : action_nodes a ≤ 1000000
+  pub small : action_nodes a ≤ most_nodes
   pub literals : All (LiteralFits fits) (call_literals d name)
 
 -- the call names no action, or has arguments that do not fit; or its instance is not inside the limits

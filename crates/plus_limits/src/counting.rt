@@ -5,7 +5,7 @@ ghost use Rattle.plus_numbering.specs.Counts.{first_over, RefusesCount};
 ghost use Rattle.plus_expansion.specs.Environments.{Environment};
 ghost use Rattle.plus_expansion.specs.Expansion.{action_meant};
 ghost use Rattle.plus_expansion.specs.Nodes.{action_nodes};
-ghost use Rattle.plus_expansion.specs.Counting.{counts_of};
+ghost use Rattle.plus_expansion.specs.Counting.{most_nodes, counts_of};
 ghost use Rattle.plus_limits.specs.Sizes.{held, instances, schema_size, schemas_size, problem_size};
 ghost use Rattle.plus_numbering.specs.Numbered.{context};
 
@@ -14,12 +14,14 @@ use crate::sizes;
 use plus_numbering::{Count, CountFault, Numbering};
 use plus_tree::Schema;
 
-// The most ground processes, the most ground events, and the most nodes.
-const MOST_PROCESSES: u32 = 10000;
+// How many ground processes and ground events there may be.
+const MOST_PROCESSES: u32 = 10_000;
 
-const MOST_EVENTS: u32 = 10000;
+const MOST_EVENTS: u32 = 10_000;
 
-const MOST_NODES: u32 = 1000000;
+/// How many nodes there may be: in the ground processes, the ground events and the goal together, and
+/// in one instance of an action.
+pub const MOST_NODES: u32 = 1_000_000;
 
 // How many instances schemas have.
 #[tactic(auto, using(crate::proofs::Holding::holding))]
@@ -90,7 +92,7 @@ pub fn within(numbering: &Numbering) -> Result<(), CountFault>
 
 /// Whether an instance of an action has at most 1,000,000 nodes. All its instances have equally many.
 pub fn is_small(numbering: &Numbering, schema: &Schema) -> bool
-    ensures { (env : Environment) → result ≡ not (nat_lt 1000000
+    ensures { (env : Environment) → result ≡ not (nat_lt most_nodes
         (action_nodes (action_meant (context numbering.now) schema.now env))) }
 {
     sizes::schema(numbering, false, schema) <= MOST_NODES

@@ -6,5 +6,5 @@ pub mod fitting;
 mod held;
 mod sizes;
 
-pub use counting::{is_small, within};
+pub use counting::{MOST_NODES, is_small, within};
 pub use fitting::{Unfit, fit, schema_fits};

@@ -1,4 +1,5 @@
 -- What is counted before a pair is grounded, and which count passes its limit first.
+use Rattle.plus_numbering.specs.Limits.{MOST_OBJECTS, MOST_ATOMS, MOST_FLUENTS}
 use Rattle.std.specs.Prelude.{◌≡◌, ℕ, ◌<◌, List, [], ◌∷◌, length, Option, Some, None, nat_lt, if◌then◌else◌}
 use Rattle.plus_types.specs.Faults.{Context}
 use Rattle.plus_numbering.specs.Numbers.{ground_names}
@@ -21,9 +22,9 @@ first_over (c ∷ cs) = if nat_lt c.most c.number then Some c else first_over cs
 -- objects, ground atoms and ground fluents
 abbrev pub name_counts : Context → List Counted
 name_counts c =
-    record { kind = Objects; most = 10000; number = length c.objects }
-    ∷ record { kind = Atoms; most = 200000; number = length (ground_names c c.predicates) }
-    ∷ record { kind = Fluents; most = 50000; number = length (ground_names c c.functions) }
+    record { kind = Objects; most = MOST_OBJECTS; number = length c.objects }
+    ∷ record { kind = Atoms; most = MOST_ATOMS; number = length (ground_names c c.predicates) }
+    ∷ record { kind = Fluents; most = MOST_FLUENTS; number = length (ground_names c c.functions) }
     ∷ []
 
 -- too many of the first kind that passes its limit

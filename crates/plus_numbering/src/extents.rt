@@ -1,5 +1,6 @@
 //! The objects of a well-typed pair by their types.
 
+ghost use Rattle.plus_numbering.specs.Limits.{MOST_OBJECTS};
 ghost use Rattle.std.specs.Prelude.{◌≡◌, ℕ, List, map, false, ◌+◌, ◌<◌, ◌≤◌, ◌^◌, [], ◌∷◌, ◌++◌, length, slice_index_or, if◌then◌else◌, OnOk, IfOk};
 ghost use Rattle.std.specs.List.{position_or_len};
 ghost use Rattle.std.specs.Str.{bytes_eq};
@@ -12,9 +13,6 @@ use plus_types::types::OBJECT;
 use plus_types::{Names, Typed, Types};
 use std::alloc::{AllocError, Global};
 
-/// How many objects there may be.
-pub const MOST_OBJECTS: usize = 10_000;
-
 /// The objects of a well-typed pair by their types.
 #[derive(Drop)]
 pub struct Extents<'a> {
@@ -22,7 +20,7 @@ pub struct Extents<'a> {
     names: Names,
     lists: Vec<Vec<u32>>,
     ghost sizes: { length names ≡ length lists.items },
-    ghost few: { length (objects_of typed.now.domain typed.now.problem) ≤ 10000 },
+    ghost few: { length (objects_of typed.now.domain typed.now.problem) ≤ MOST_OBJECTS },
     ghost lists_are: { (kind : List ℕ) → places_of names (map (λ v. v.items) lists.items) kind ≡ members_of (context typed.now) kind },
 }
 
@@ -167,7 +165,7 @@ fn put_objects<'a>(
 impl<'a> Extents<'a> {
     /// Finds the objects of each type.
     pub fn new(alloc: Global, typed: &'a Typed) -> Result<Extents<'a>, AllocError>
-        requires { length (objects_of typed.now.domain typed.now.problem) ≤ 10000 }
+        requires { length (objects_of typed.now.domain typed.now.problem) ≤ MOST_OBJECTS }
         ensures { IfOk result (λ m. m.typed.now ≡ typed.now) }
     {
         let mut names = Names::new(alloc);
@@ -198,7 +196,7 @@ impl<'a> Extents<'a> {
     pub fn numbered(&self, number: usize, kind: &[u8]) -> &[u32]
         requires { number ≡ position_or_len (bytes_eq kind.now) self.now.names }
         ensures members { result.now ≡ members_of (context self.now.typed.now) kind.now }
-        ensures few { length result.now ≤ 10000 }
+        ensures few { length result.now ≤ MOST_OBJECTS }
     {
         if number < self.lists.len() {
             self.lists[number].as_slice()
@@ -210,7 +208,7 @@ impl<'a> Extents<'a> {
     /// The objects of a type, in order.
     pub fn of_type(&self, kind: &[u8]) -> &[u32]
         ensures members { result.now ≡ members_of (context self.now.typed.now) kind.now }
-        ensures few { length result.now ≤ 10000 }
+        ensures few { length result.now ≤ MOST_OBJECTS }
     {
         places(&self.names, &self.lists, kind)
     }

@@ -5,6 +5,7 @@
 mod extents;
 pub mod faults;
 mod labels;
+pub mod limits;
 pub mod numbering;
 mod numbers;
 mod starts;

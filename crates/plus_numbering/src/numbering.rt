@@ -10,20 +10,16 @@ ghost use Rattle.plus_numbering.specs.Numbers.{ground_names, ground_labels, numb
 ghost use Rattle.plus_numbering.specs.Tables.{context, starts_from, list_numbers};
 ghost use Rattle.plus_numbering.specs.Counts.{first_over, name_counts, RefusesCount};
 
-use crate::extents::{Extents, MOST_OBJECTS};
+use crate::extents::Extents;
 use crate::faults::{Count, CountFault};
 use crate::labels::{label, labels};
+use crate::limits::{MOST_ATOMS, MOST_FLUENTS, MOST_OBJECTS};
 use crate::numbers::{kinds, number};
 use crate::starts::starts;
 use plus_state::{AtomId, FluentId, Label};
 use plus_types::Typed;
 use plus_types::known::Declared;
 use std::alloc::{AllocError, Global};
-
-// How many ground atoms and ground fluents there may be.
-const MOST_ATOMS: u32 = 200_000;
-
-const MOST_FLUENTS: u32 = 50_000;
 
 /// A well-typed pair inside the limits, and the tables by which its objects, ground atoms and ground
 /// fluents are found: an object by its place among the constants and then the objects, a ground atom
@@ -150,7 +146,7 @@ impl<'a> Numbering<'a> {
     pub fn atoms(&self) -> u32
         ensures count { result ≡ length (ground_names (context self.now.typed.now)
             self.now.typed.now.domain.predicates) }
-        ensures few { result ≤ 200000 }
+        ensures few { result ≤ MOST_ATOMS }
     {
         self.atoms[self.typed.domain.predicates.as_slice().len()]
     }
@@ -159,7 +155,7 @@ impl<'a> Numbering<'a> {
     pub fn fluents(&self) -> u32
         ensures count { result ≡ length (ground_names (context self.now.typed.now)
             self.now.typed.now.domain.functions) }
-        ensures few { result ≤ 50000 }
+        ensures few { result ≤ MOST_FLUENTS }
     {
         self.fluents[self.typed.domain.functions.as_slice().len()]
     }

@@ -15,6 +15,7 @@ use Rattle.plus_plan.specs.declared.forms.Line.TheVariants as lines
 use Rattle.plus_expansion.specs.Nodes.{action_nodes}
 use Rattle.plus_expansion.specs.Literals.{call_literals}
 use Rattle.plus_expansion.specs.Calls.{called_of}
+use Rattle.plus_expansion.specs.Counting.{most_nodes}
 use Rattle.plus_stretch.specs.Tests.{Test, too_many_nodes, no_number, AllPass, FirstFailing}
 use Rattle.plus_timeline.specs.Asked.{asked}
 use Rattle.plus_validator.specs.Plans.{Pair}
@@ -43,7 +44,7 @@ literal_tests (l ∷ ls) = (if is_value l then [] else no_number l.span.start l.
 
 -- an instance has at most 1,000,000 nodes
 abbrev pub size_tests : Called → List Test
-size_tests (Instance action) = if nat_lt 1000000 (action_nodes action) then too_many_nodes 1000000 ∷ [] else []
+size_tests (Instance action) = if nat_lt most_nodes (action_nodes action) then too_many_nodes most_nodes ∷ [] else []
 size_tests called = []
 
 -- what is asked of the instance that a call names: its size, and then the literals of its action

@@ -6,6 +6,7 @@ use Rattle.plus_ground.specs.declared.faults.InstanceFault.{InstanceFault}
 use Rattle.plus_ground.specs.declared.faults.InstanceFault.TheVariants as instances
 use Rattle.plus_plan.specs.declared.faults.PlanFault.{PlanFault}
 use Rattle.plus_plan.specs.declared.faults.PlanFault.TheVariants as faults
+use Rattle.plus_expansion.specs.Counting.{most_nodes}
 use Rattle.plus_timeline.specs.declared.stop.Stop.{Stop}
 use Rattle.plus_timeline.specs.declared.stop.Stop.TheVariants as stops
 use Rattle.plus_report.specs.declared.verdicts.Verdict.{Verdict}
@@ -45,7 +46,7 @@ pub record HaltFits (P : Problem) (halt : Halt) : Type 0 where
 abbrev pub CallVerdict : InstanceFault → ℕ → List ℕ → Verdict Frac64 → Type 0
 CallVerdict instances.UnknownAction line name v = v ≡ Invalid (breaches.UnknownAction line name)
 CallVerdict instances.WrongArguments line name v = v ≡ Invalid (breaches.WrongArguments line name)
-CallVerdict instances.TooManyNodes line name v = v ≡ Other (TooMany kinds.Nodes 1000000)
+CallVerdict instances.TooManyNodes line name v = v ≡ Other (TooMany kinds.Nodes most_nodes)
 CallVerdict (instances.Literal span) line name v = v ≡ Other (Literal texts.Domain span.start span.«end»)
 CallVerdict instances.Memory line name v = ⊥
 

@@ -24,7 +24,7 @@ use Rattle.plus_plan.specs.Lines.{plan_lines}
 use Rattle.plus_plan.specs.Spells.{line_limit}
 use Rattle.plus_plan.specs.TimeValue.{value_of}
 use Rattle.plus_expansion.specs.Expansion.{expanded, labels_meant}
-use Rattle.plus_expansion.specs.Counting.{IsGroundable}
+use Rattle.plus_expansion.specs.Counting.{most_nodes, IsGroundable}
 use Rattle.plus_stretch.specs.Tests.{Test, too_many_nodes, no_number, breach, of_limit, breach_of}
 use Rattle.plus_report.specs.declared.verdicts.Verdict.{Verdict}
 use Rattle.plus_report.specs.declared.verdicts.Verdict.TheVariants.{Valid, Invalid, Beyond, Other}
@@ -48,7 +48,7 @@ pub record IsBroken (P : Problem) (L : Plan) (most : ℕ) (instance : ℕ → Li
 
 -- a limit of the instance that is due is the first test that fails
 abbrev pub StandsEarly : Problem → Plan → ℕ → (ℕ → List Test) → List Part → Early → Type 0
-StandsEarly P L most instance h (TooMany kind n) = (kind ≡ kinds.Nodes) × (n ≡ 1000000) × Fails P L most instance h (too_many_nodes n)
+StandsEarly P L most instance h (TooMany kind n) = (kind ≡ kinds.Nodes) × (n ≡ most_nodes) × Fails P L most instance h (too_many_nodes n)
 StandsEarly P L most instance h (Literal texts.Domain start last) = Fails P L most instance h (no_number start last)
 StandsEarly P L most instance h _ = ⊥
 

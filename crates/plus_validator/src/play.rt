@@ -18,6 +18,7 @@ use crate::halt::{Halt, halted};
 use crate::instances::Instances;
 use crate::run::Run;
 use plus_ground::InstanceFault;
+use plus_limits::MOST_NODES;
 use plus_number::exact::Exact;
 use plus_number::frac::Frac64;
 use plus_numbering::Numbering;
@@ -46,9 +47,6 @@ fn broken(breach: Breach<Frac64>) -> Halt
 {
     Halt::Refused(Verdict::Invalid(breach))
 }
-
-/// The most nodes of an instance of an action.
-const MOST_NODES: u32 = 1000000;
 
 // Why an action cannot be called, or its instance is over a limit.
 fn refused_call(alloc: Global, fault: InstanceFault, line: u32, call: &Call) -> Halt
