@@ -148,7 +148,13 @@ impl<Q: Exact> Timeline<Q> {
     }
 
     /// Does one thing, and says which: a round fires, the entry is closed with a running set, the next
-    /// entry is begun, or the time asked for is reached.
+    /// entry is begun, or the time asked for is reached. That time is not below the present one, and
+    /// later after `Run`; a timed literal before it begins an entry first. The problem is the one that
+    /// the timeline was begun with, or one in which the last answer stands too. A refusal is the first
+    /// test that fails: of a cascade the conditions of all events, an event that would fire twice and
+    /// then the joint effect; where the entry is closed, the count of entries and what settling asks;
+    /// along a running set what `plus_stretch::reach` asks. `Ended` comes exactly after a refusal or
+    /// `finish`. A call costs what the conditions of all events and processes read, and what changes.
     pub fn advance(&mut self, ground: &Ground<Q>, until: Q) -> Result<Next<Q>, Stop<Q>>
         requires serves { IsGoing self.old → Serves (problem_of Q.value ground.now) self.old }
         requires ahead { IsGoing self.old →
@@ -170,7 +176,9 @@ impl<Q: Exact> Timeline<Q> {
     }
 
     /// Does an action that is due at the present time: its condition holds, and its joint effect is done.
-    /// `line` is the number of its line in the plan's text, which a breach names.
+    /// `line` is the number of its line in the plan's text, which a breach names. It follows a `There`,
+    /// and the cascade after it is fired by `advance`. A refusal is the first test that fails: the
+    /// condition, then the joint effect.
     pub fn act(&mut self, ground: &Ground<Q>, action: &Action<Q>, line: u32) -> Result<(), Stop<Q>>
         requires serves { IsGoing self.old → Serves (problem_of Q.value ground.now) self.old }
         requires paused { IsGoing self.old → IsPaused self.old }
