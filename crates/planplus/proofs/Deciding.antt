@@ -1,5 +1,5 @@
 -- A check of a plan that stays inside the limits decides it.
-use Rattle.std.proofs.Common.{◌≡◌, ℕ, List, Option, Some, subst, sym, ◌∙◌, ap}
+use Rattle.std.proofs.Common.{◌≡◌, ℕ, List, Option, Some, None, subst, sym, ◌∙◌, ap}
 use Rattle.std.specs.Prelude.{IfSome}
 use Rattle.plus_tree.specs.declared.trees.Domain.{Domain}
 use Rattle.plus_tree.specs.declared.trees.Problem.{Problem}
@@ -10,9 +10,9 @@ use Rattle.plus_validator.proofs.Excluding.{not_groundable}
 use Rattle.plus_validator.proofs.Deciding as plan
 use Rattle.planplus.specs.declared.run.Status.{Status}
 use Rattle.planplus.specs.declared.run.Status.TheVariants as s
-use Rattle.planplus.specs.Command.{Check}
-use Rattle.planplus.specs.Headline.{SpellsWellTyped, IsValidRun, IsRefusedRun, OnRefusal, status_of}
-use Rattle.planplus.specs.Laws.{IsSettled, IsInside, IsDecided, is_valid, is_invalid, Decides}
+use Rattle.planplus.specs.Command.{Command, Check, ShowDomain, ShowProblem}
+use Rattle.planplus.specs.Headline.{SpellsWellTyped, IsValidRun, IsRefusedRun, OnRefusal, status_of, IsAnswer}
+use Rattle.planplus.specs.Laws.{IsSettled, IsInside, IsDecided, is_valid, is_invalid, Decides, DecidesFor}
 use Rattle.planplus.proofs.OneAnswer.{pair_once, pair_or_not, Checked, by_pair, by_ground, by_plan, check_wrote, no_usage}
 
 module _ (n : ℕ) (ds ps ls : List ℕ) (d : Domain) (p : Problem) (k : IsInside n ds ps ls d p) where
@@ -53,3 +53,11 @@ module _ (n : ℕ) (ds ps ls : List ℕ) (d : Domain) (p : Problem) (k : IsInsid
 pub decides : Decides
 decides dn pn ln n bytes old new a b c e status ds ps ls d p i j l k h g =
     told n ds ps ls d p k old new status (bytes dn) (bytes pn) (bytes ln) i j l g h.valid h.refused (no_usage (Check dn pn ln n) status h.usage)
+
+-- the same of any command
+pub decides_for : (command : Option Command) (bytes : List ℕ → Option (List ℕ)) (old new : Option (List ℕ)) (a b c e : ℕ) (status : Status) → IsAnswer command bytes old new a b c e status → DecidesFor command bytes status
+decides_for None bytes old new a b c e status h = tt
+decides_for (Some (ShowDomain file)) bytes old new a b c e status h = tt
+decides_for (Some (ShowProblem file)) bytes old new a b c e status h = tt
+decides_for (Some (Check dn pn ln n)) bytes old new a b c e status h = λ ds ps ls d p i j l k g.
+    decides dn pn ln n bytes old new a b c e status ds ps ls d p i j l k h g

@@ -45,3 +45,10 @@ Decides =
     (ds ps ls : List ℕ) (d : Domain) (p : Problem) → bytes domain ≡ Some ds → bytes problem ≡ Some ps → bytes plan ≡ Some ls
     → IsInside n ds ps ls d p → IsAnswer (Some (Check domain problem plan n)) bytes old new a b c e status → IsSettled status
     → IsDecided d p ls status
+
+-- What the status of a command tells of its plan, where the shelf tells the three texts and all of it stays inside the limits.
+abbrev pub DecidesFor : Option Command → (List ℕ → Option (List ℕ)) → Status → Type 0
+DecidesFor (Some (Check domain problem plan n)) bytes status =
+    (ds ps ls : List ℕ) (d : Domain) (p : Problem) → bytes domain ≡ Some ds → bytes problem ≡ Some ps → bytes plan ≡ Some ls
+    → IsInside n ds ps ls d p → IsSettled status → IsDecided d p ls status
+DecidesFor _ bytes status = Unit {0}

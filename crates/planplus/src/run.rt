@@ -7,6 +7,7 @@ ghost use Rattle.plus_io.specs.Picks.{ReadsInOrder};
 ghost use Rattle.plus_report.specs.Refusals.{early_text};
 ghost use Rattle.planplus.specs.Pair.{text_limit};
 ghost use Rattle.planplus.specs.Command.{command_of, files_of};
+ghost use Rattle.planplus.specs.Laws.{DecidesFor};
 ghost use Rattle.planplus.specs.Headline.{IsAnswer, usage_line, status_of, exit_number};
 ghost use Rattle.planplus.specs.Statuses.{early_status, Writes};
 ghost use Rattle.planplus.specs.Meant.{meant};
@@ -132,17 +133,16 @@ fn check<S: Shelf, O: Sink>(alloc: Global, files: Check<'_>, shelf: &mut S, out:
     }
 }
 
-/// Carries out the command that the words mean: reads the files that it names from the shelf,
-/// writes to the sink, and answers the status.
-pub fn run<S: Shelf, O: Sink>(alloc: Global, words: &[String], shelf: &mut S, out: &mut O) -> Status
-    // What the status tells: of a plan, that exactly one trajectory has its actions and the report is
-    // its text, or that the plan is refused, why, and behind which report; of a fault, that it came.
+// Carries out the command that the words mean.
+fn carry_out<S: Shelf, O: Sink>(
+    alloc: Global,
+    words: &[String],
+    shelf: &mut S,
+    out: &mut O,
+) -> Status
     ensures answers { IsAnswer (command_of (map string_bytes words.now)) (S.bytes shelf.old)
         (O.taken out.old) (O.taken out.new) (S.faults shelf.old) (S.faults shelf.new)
         (O.faults out.old) (O.faults out.new) result }
-
-    // It reads the files that the words name and no other, in the order of the words and each once,
-    // and of each at most one byte past the limit of a text.
     ensures reads { ReadsInOrder S.bytes S.picked S.rest S.picks (text_limit + 1)
         (files_of (command_of (map string_bytes words.now))) shelf.old shelf.new }
     ensures keeps { KeepsFiles S.names S.bytes S.faults shelf.old shelf.new }
@@ -154,4 +154,26 @@ pub fn run<S: Shelf, O: Sink>(alloc: Global, words: &[String], shelf: &mut S, ou
         Some(Command::ShowDomain(file)) => show_domain(alloc, file, shelf, out),
         Some(Command::ShowProblem(file)) => show_problem(alloc, file, shelf, out),
     }
+}
+
+/// Carries out the command that the words mean: reads the files that it names from the shelf,
+/// writes to the sink, and answers the status.
+pub fn run<S: Shelf, O: Sink>(alloc: Global, words: &[String], shelf: &mut S, out: &mut O) -> Status
+    // What the status tells: of a plan, that exactly one trajectory has its actions and the report is
+    // its text, or that the plan is refused, why, and behind which report; of a fault, that it came.
+    ensures answers { IsAnswer (command_of (map string_bytes words.now)) (S.bytes shelf.old)
+        (O.taken out.old) (O.taken out.new) (S.faults shelf.old) (S.faults shelf.new)
+        (O.faults out.old) (O.faults out.new) result }
+
+    // Of a plan that stays inside the limits it tells whether there is a trajectory.
+    ensures decides { DecidesFor (command_of (map string_bytes words.now)) (S.bytes shelf.old) result }
+
+    // It reads the files that the words name and no other, in the order of the words and each once,
+    // and of each at most one byte past the limit of a text.
+    ensures reads { ReadsInOrder S.bytes S.picked S.rest S.picks (text_limit + 1)
+        (files_of (command_of (map string_bytes words.now))) shelf.old shelf.new }
+    ensures keeps { KeepsFiles S.names S.bytes S.faults shelf.old shelf.new }
+    ensures no_fall { O.faults out.old ≤ O.faults out.new }
+{
+    carry_out(alloc, words, shelf, out)
 }
