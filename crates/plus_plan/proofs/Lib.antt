@@ -8,3 +8,5 @@ pub mod OneLine
 pub mod OnePlace
 pub mod Stops
 pub mod Places
+pub mod Feeding
+pub mod Nexts

@@ -20,7 +20,7 @@ use Rattle.plus_plan.proofs.Again.{line_again, time_above}
 use Rattle.plus_plan.proofs.Places.{fault_is}
 use Rattle.plus_plan.proofs.Cutting.{line_end-le, cut_at}
 
-placed_ok : (n size : ℕ) (r : Result Line Refusal) (l : Line) → placed n size r ≡ Ok l → r ≡ Ok l
+pub placed_ok : (n size : ℕ) (r : Result Line Refusal) (l : Line) → placed n size r ≡ Ok l → r ≡ Ok l
 placed_ok n size (Ok m) l e = let same : m ≡ l = cc in ap Ok same
 placed_ok n size (Err x) l e = absurd cc
 
@@ -68,7 +68,7 @@ same_line form n text from last next l m end_is next_is e s =
     (said_is l m (sym read ∙ spelled_read form n (line_from text from) m s), next_is ∙ ap (λ k. min (k + 1) (length text)) end_is)
 
 -- the time of a line has a bottom above 0
-has_bottom : (form : PlanForm) (n : ℕ) (l : Line) (ts : List Piece) → SpellsTokens form n l ts → HasBottom l
+pub has_bottom : (form : PlanForm) (n : ℕ) (l : Line) (ts : List Piece) → SpellsTokens form n l ts → HasBottom l
 has_bottom Timed n lines.Blank ts s = tt
 has_bottom Timed n (lines.Act m t c) ts s = time_above t s.0 s.5
 has_bottom Timed n (lines.End m t) ts s = time_above t s.0 s.4

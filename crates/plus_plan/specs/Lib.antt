@@ -7,4 +7,7 @@ pub mod Spells
 pub mod Place
 pub mod Lines
 pub mod Answers
+pub mod Pending
+pub mod Pieces
+pub mod Held
 pub mod TimeValue

@@ -6,6 +6,7 @@ pub mod forms;
 mod grammar;
 pub mod laws;
 pub mod lines;
+mod pieces;
 mod reader;
 #[cfg(test)]
 mod tests;
@@ -14,4 +15,5 @@ pub mod values;
 pub use faults::PlanFault;
 pub use forms::{Line, PlanForm, Time};
 pub use lines::line_at;
+pub use pieces::PlanReader;
 pub use values::time_value;

@@ -16,10 +16,10 @@ use crate::reader::{Reader, Refusal};
 use std::alloc::Global;
 
 // The most bytes of a line.
-const LINE_LIMIT: usize = 4096;
+pub const LINE_LIMIT: usize = 4096;
 
 // Where the line that begins at an offset ends.
-fn line_end(text: &[u8], from: usize) -> usize
+pub fn line_end(text: &[u8], from: usize) -> usize
     requires { from ≤ length text.now }
     ensures end { result ≡ line_end text.now from }
     ensures inside { result ≤ length text.now }
@@ -63,7 +63,7 @@ fn line_of(alloc: Global, bytes: &[u8], line: u32, form: PlanForm) -> Result<Lin
 
 // What these bytes say.
 #[tactic(auto, unfolding(crate::specs::Lines::read_line))]
-fn read_line(alloc: Global, bytes: &[u8], line: u32, form: PlanForm) -> Result<Line, PlanFault>
+pub fn read_line(alloc: Global, bytes: &[u8], line: u32, form: PlanForm) -> Result<Line, PlanFault>
     ensures exact { MatchResult result
         (λ l. read_line form line bytes.now ≡ Ok l)
         (λ e. RefusedAs e (read_line form line bytes.now)) }
