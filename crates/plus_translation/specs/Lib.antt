@@ -1,0 +1,6 @@
+pub mod Names
+pub mod Renamed
+pub mod Leaves
+pub mod Translated
+pub mod Laws
+pub mod Rows
