@@ -32,7 +32,7 @@ use Rattle.plus_canonical.proofs.Exprs.{ExprAgain, expr_again}
 abbrev pub CondAgain : ℕ → Cond → Type 0
 CondAgain n c = Reads Ended (cond_text c) (Again n Cond SpellsCond bare_cond c)
 
-abbrev CondsAgain : ℕ → Conds → Type 0
+abbrev pub CondsAgain : ℕ → Conds → Type 0
 CondsAgain n cs = Reads Ended (conds_text cs) (Again n Conds SpellsConds bare_conds cs)
 
 conds_lead : (cs : Conds) (rest : List ℕ) → Ended rest → Ended (conds_text cs ++ rest)
@@ -62,7 +62,7 @@ exists_small = fixed 101 (codes "xists") refl refl refl refl
 
 -- ---- one form each
 
-all_again : (m : ℕ) (cs : Conds) (s : Span) → CondsAgain m cs → CondAgain (suc m) (c_all cs s)
+pub all_again : (m : ℕ) (cs : Conds) (s : Span) → CondsAgain m cs → CondAgain (suc m) (c_all cs s)
 unfolding word
 all_again m cs s r = turn {after = Ended} (cond_text (c_all cs s)) (λ ts f. record {
   again = c_all f.body_is.again f.span;
@@ -71,7 +71,7 @@ all_again m cs s r = turn {after = Ended} (cond_text (c_all cs s)) (λ ts f. rec
   same = ap (λ ds. c_all ds no_span) f.body_is.same;
 }) (loosen (cond_text (c_all cs s)) (head_reads {S = Ended} (codes "and") (conds_text cs) (name_reads (codes "and") and_small) r (conds_lead cs)))
 
-any_again : (m : ℕ) (cs : Conds) (s : Span) → CondsAgain m cs → CondAgain (suc m) (c_any cs s)
+pub any_again : (m : ℕ) (cs : Conds) (s : Span) → CondsAgain m cs → CondAgain (suc m) (c_any cs s)
 unfolding word
 any_again m cs s r = turn {after = Ended} (cond_text (c_any cs s)) (λ ts f. record {
   again = c_any f.body_is.again f.span;
@@ -80,7 +80,7 @@ any_again m cs s r = turn {after = Ended} (cond_text (c_any cs s)) (λ ts f. rec
   same = ap (λ ds. c_any ds no_span) f.body_is.same;
 }) (loosen (cond_text (c_any cs s)) (head_reads {S = Ended} (codes "or") (conds_text cs) (name_reads (codes "or") or_small) r (conds_lead cs)))
 
-not_again : (m : ℕ) (c : Cond) (s : Span) → CondAgain m c → CondAgain (suc m) (c_not c s)
+pub not_again : (m : ℕ) (c : Cond) (s : Span) → CondAgain m c → CondAgain (suc m) (c_not c s)
 unfolding word
 not_again m c s r = turn {after = Ended} (cond_text (c_not c s)) (λ ts f. record {
   again = c_not f.body_is.again f.span;
@@ -89,7 +89,7 @@ not_again m c s r = turn {after = Ended} (cond_text (c_not c s)) (λ ts f. recor
   same = ap (λ d. c_not d no_span) f.body_is.same;
 }) (loosen (cond_text (c_not c s)) (one_reads (codes "not") (cond_text c) (name_reads (codes "not") not_small) r))
 
-imply_again : (m : ℕ) (c d : Cond) (s : Span) → CondAgain m c → CondAgain m d → CondAgain (suc m) (c_imply c d s)
+pub imply_again : (m : ℕ) (c d : Cond) (s : Span) → CondAgain m c → CondAgain m d → CondAgain (suc m) (c_imply c d s)
 unfolding word
 imply_again m c d s x y = turn {after = Ended} (cond_text (c_imply c d s)) (λ ts p. record {
   again = c_imply p.front_is.again p.back_is.again p.span;
@@ -98,7 +98,7 @@ imply_again m c d s x y = turn {after = Ended} (cond_text (c_imply c d s)) (λ t
   same = ap (λ a. c_imply a (bare_cond d) no_span) p.front_is.same ∙ ap (λ b. c_imply (bare_cond p.front_is.again) b no_span) p.back_is.same;
 }) (loosen (cond_text (c_imply c d s)) (pair_reads (codes "imply") (cond_text c) (cond_text d) (name_reads (codes "imply") imply_small) x y))
 
-forall_again : (m : ℕ) (vs : List TypedName) (c : Cond) (s : Span) → VariablesAgain m vs → CondAgain m c → CondAgain (suc m) (c_forall vs c s)
+pub forall_again : (m : ℕ) (vs : List TypedName) (c : Cond) (s : Span) → VariablesAgain m vs → CondAgain m c → CondAgain (suc m) (c_forall vs c s)
 unfolding word
 forall_again m vs c s x y = turn {after = Ended} (cond_text (c_forall vs c s)) (λ ts p. record {
   again = c_forall p.front_is.again p.back_is.again p.span;
@@ -107,7 +107,7 @@ forall_again m vs c s x y = turn {after = Ended} (cond_text (c_forall vs c s)) (
   same = ap (λ a. c_forall a (bare_cond c) no_span) p.front_is.same ∙ ap (λ b. c_forall (map bare_typed p.front_is.again) b no_span) p.back_is.same;
 }) (loosen (cond_text (c_forall vs c s)) (pair_reads (codes "forall") (variables_text vs) (cond_text c) (name_reads (codes "forall") forall_small) (loosen (variables_text vs) x) y))
 
-exists_again : (m : ℕ) (vs : List TypedName) (c : Cond) (s : Span) → VariablesAgain m vs → CondAgain m c → CondAgain (suc m) (c_exists vs c s)
+pub exists_again : (m : ℕ) (vs : List TypedName) (c : Cond) (s : Span) → VariablesAgain m vs → CondAgain m c → CondAgain (suc m) (c_exists vs c s)
 unfolding word
 exists_again m vs c s x y = turn {after = Ended} (cond_text (c_exists vs c s)) (λ ts p. record {
   again = c_exists p.front_is.again p.back_is.again p.span;
@@ -116,7 +116,7 @@ exists_again m vs c s x y = turn {after = Ended} (cond_text (c_exists vs c s)) (
   same = ap (λ a. c_exists a (bare_cond c) no_span) p.front_is.same ∙ ap (λ b. c_exists (map bare_typed p.front_is.again) b no_span) p.back_is.same;
 }) (loosen (cond_text (c_exists vs c s)) (pair_reads (codes "exists") (variables_text vs) (cond_text c) (name_reads (codes "exists") exists_small) (loosen (variables_text vs) x) y))
 
-atom_again : (n : ℕ) (u : Use) (s : Span) → UseAgain n Terms u → CondAgain n (c_atom u s)
+pub atom_again : (n : ℕ) (u : Use) (s : Span) → UseAgain n Terms u → CondAgain n (c_atom u s)
 atom_again n u s r = turn {after = Ended} (use_text u) (λ ts a. record {
   again = c_atom a.again a.again.span;
   spelled = (refl, a.spelled);
@@ -124,7 +124,7 @@ atom_again n u s r = turn {after = Ended} (use_text u) (λ ts a. record {
   same = ap (λ v. c_atom v no_span) a.same;
 }) (loosen (use_text u) r)
 
-same_again : (m : ℕ) (t u : Term) (s : Span) → TermAgain m Terms t → TermAgain m Terms u → CondAgain (suc m) (c_same t u s)
+pub same_again : (m : ℕ) (t u : Term) (s : Span) → TermAgain m Terms t → TermAgain m Terms u → CondAgain (suc m) (c_same t u s)
 unfolding word
 same_again m t u s x y = turn {after = Ended} (cond_text (c_same t u s)) (λ ts p. record {
   again = c_same p.front_is.again p.back_is.again p.span;
@@ -145,7 +145,7 @@ compare_made m op w e f s ts p = record {
   same = ap (λ a. c_compare op a (bare_expr f) no_span) p.front_is.same ∙ ap (λ b. c_compare op (bare_expr p.front_is.again) b no_span) p.back_is.same;
 }
 
-compare_again : (m : ℕ) (op : Comparison) (e f : Expr) (s : Span) → ExprAgain m e → ExprAgain m f → CondAgain (suc m) (c_compare op e f s)
+pub compare_again : (m : ℕ) (op : Comparison) (e f : Expr) (s : Span) → ExprAgain m e → ExprAgain m f → CondAgain (suc m) (c_compare op e f s)
 unfolding word
 compare_again m comparisons.Less e f s x y = turn {after = Ended} (cond_text (c_compare comparisons.Less e f s)) (compare_made m comparisons.Less (60 ∷ []) e f s)
     (loosen (cond_text (c_compare comparisons.Less e f s)) (pair_reads (60 ∷ []) (expr_text e) (expr_text f) (op_reads ops.Less) x y))
@@ -158,7 +158,7 @@ compare_again m comparisons.AtLeast e f s x y = turn {after = Ended} (cond_text 
 compare_again m comparisons.Greater e f s x y = turn {after = Ended} (cond_text (c_compare comparisons.Greater e f s)) (compare_made m comparisons.Greater (62 ∷ []) e f s)
     (loosen (cond_text (c_compare comparisons.Greater e f s)) (pair_reads (62 ∷ []) (expr_text e) (expr_text f) (op_reads ops.Greater) x y))
 
-none_again : (n : ℕ) → CondsAgain n no_conds
+pub none_again : (n : ℕ) → CondsAgain n no_conds
 none_again n = turn {after = Ended} {P = Nothing} [] (λ ts e. record { again = no_conds; spelled = e; even = ap (room_after n) e; same = refl }) (none_reads Ended)
 
 more_made : (n : ℕ) (c : Cond) (cs : Conds) (ts : List Piece) → Both (Again n Cond SpellsCond bare_cond c) (Again n Conds SpellsConds bare_conds cs) ts → Again n Conds SpellsConds bare_conds (more_conds c cs) ts
@@ -169,7 +169,7 @@ more_made n c cs ts (both a b x y w) = record {
   same = ap (λ z. more_conds z (bare_conds cs)) x.same ∙ ap (λ zs. more_conds (bare_cond x.again) zs) y.same;
 }
 
-more_again : (n : ℕ) (c : Cond) (cs : Conds) → CondAgain n c → CondsAgain n cs → CondsAgain n (more_conds c cs)
+pub more_again : (n : ℕ) (c : Cond) (cs : Conds) → CondAgain n c → CondsAgain n cs → CondsAgain n (more_conds c cs)
 unfolding word
 more_again n c cs x y = turn {after = Ended} (conds_text (more_conds c cs)) (more_made n c cs)
     (join {S = Ended} {T = Ended} (32 ∷ cond_text c) (conds_text cs) (spaced_before {S = Ended} (cond_text c) x) y (conds_lead cs))

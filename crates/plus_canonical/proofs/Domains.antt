@@ -139,7 +139,7 @@ domain_is k d ts f =
       same = g.same name span refl;
     }
 
-domain_reads : (k : ℕ) (d : Domain) → GoodDomain k d → Reads Any (domain_text d) (Again (suc (suc (suc k))) Domain DomainTokens bare_domain d)
+pub domain_reads : (k : ℕ) (d : Domain) → GoodDomain k d → Reads Any (domain_text d) (Again (suc (suc (suc k))) Domain DomainTokens bare_domain d)
 unfolding domain_text domain_opening word
 domain_reads k d g =
     turn {after = Any} (domain_text d) (domain_is k d)

@@ -57,10 +57,10 @@ when_small = fixed 119 (codes "hen") refl refl refl refl
 abbrev pub LeafAgain : ℕ → Leaf → Type 0
 LeafAgain n l = Reads Ended (leaf_text l) (Again n Leaf SpellsLeaf bare_leaf l)
 
-abbrev NodeAgain : ℕ → LeafNode → Span → Type 0
+abbrev pub NodeAgain : ℕ → LeafNode → Span → Type 0
 NodeAgain n x s = Reads Ended (node_text x) (Again n Leaf SpellsLeaf bare_leaf (record { node = x; span = s }))
 
-add_again : (n : ℕ) (u : Use) (s : Span) → UseAgain n Terms u → NodeAgain n (Add u) s
+pub add_again : (n : ℕ) (u : Use) (s : Span) → UseAgain n Terms u → NodeAgain n (Add u) s
 add_again n u s r = turn {after = Ended} (use_text u) (λ ts a. record {
   again = record { node = Add a.again; span = a.again.span };
   spelled = (refl, a.spelled);
@@ -68,7 +68,7 @@ add_again n u s r = turn {after = Ended} (use_text u) (λ ts a. record {
   same = ap (λ (v : Use). record { node = Add v; span = no_span }) a.same;
 }) (loosen (use_text u) r)
 
-delete_again : (m : ℕ) (u : Use) (s : Span) → UseAgain m Terms u → NodeAgain (suc m) (Delete u) s
+pub delete_again : (m : ℕ) (u : Use) (s : Span) → UseAgain m Terms u → NodeAgain (suc m) (Delete u) s
 unfolding word
 delete_again m u s r = turn {after = Ended} (node_text (Delete u)) (λ ts f. record {
   again = record { node = Delete f.body_is.again; span = f.span };
@@ -89,27 +89,27 @@ change_made m made w u e s spells bare ts p = record {
       ∙ sym (bare p.front_is.again p.back_is.again));
 }
 
-assign_again : (m : ℕ) (u : Use) (e : Expr) (s : Span) → UseAgain m Terms u → ExprAgain m e → NodeAgain (suc m) (Assign u e) s
+pub assign_again : (m : ℕ) (u : Use) (e : Expr) (s : Span) → UseAgain m Terms u → ExprAgain m e → NodeAgain (suc m) (Assign u e) s
 unfolding word write_text
 assign_again m u e s x y = turn {after = Ended} (node_text (Assign u e)) (change_made m Assign (codes "assign") u e s (λ v x t ts c. c) (λ v x. refl))
     (loosen (node_text (Assign u e)) (pair_reads (codes "assign") (use_text u) (expr_text e) (name_reads (codes "assign") assign_small) (loosen (use_text u) x) y))
 
-increase_again : (m : ℕ) (u : Use) (e : Expr) (s : Span) → UseAgain m Terms u → ExprAgain m e → NodeAgain (suc m) (Increase u e) s
+pub increase_again : (m : ℕ) (u : Use) (e : Expr) (s : Span) → UseAgain m Terms u → ExprAgain m e → NodeAgain (suc m) (Increase u e) s
 unfolding word write_text
 increase_again m u e s x y = turn {after = Ended} (node_text (Increase u e)) (change_made m Increase (codes "increase") u e s (λ v x t ts c. c) (λ v x. refl))
     (loosen (node_text (Increase u e)) (pair_reads (codes "increase") (use_text u) (expr_text e) (name_reads (codes "increase") increase_small) (loosen (use_text u) x) y))
 
-decrease_again : (m : ℕ) (u : Use) (e : Expr) (s : Span) → UseAgain m Terms u → ExprAgain m e → NodeAgain (suc m) (Decrease u e) s
+pub decrease_again : (m : ℕ) (u : Use) (e : Expr) (s : Span) → UseAgain m Terms u → ExprAgain m e → NodeAgain (suc m) (Decrease u e) s
 unfolding word write_text
 decrease_again m u e s x y = turn {after = Ended} (node_text (Decrease u e)) (change_made m Decrease (codes "decrease") u e s (λ v x t ts c. c) (λ v x. refl))
     (loosen (node_text (Decrease u e)) (pair_reads (codes "decrease") (use_text u) (expr_text e) (name_reads (codes "decrease") decrease_small) (loosen (use_text u) x) y))
 
-scale_up_again : (m : ℕ) (u : Use) (e : Expr) (s : Span) → UseAgain m Terms u → ExprAgain m e → NodeAgain (suc m) (ScaleUp u e) s
+pub scale_up_again : (m : ℕ) (u : Use) (e : Expr) (s : Span) → UseAgain m Terms u → ExprAgain m e → NodeAgain (suc m) (ScaleUp u e) s
 unfolding word write_text
 scale_up_again m u e s x y = turn {after = Ended} (node_text (ScaleUp u e)) (change_made m ScaleUp (codes "scale-up") u e s (λ v x t ts c. c) (λ v x. refl))
     (loosen (node_text (ScaleUp u e)) (pair_reads (codes "scale-up") (use_text u) (expr_text e) (name_reads (codes "scale-up") scale_up_small) (loosen (use_text u) x) y))
 
-scale_down_again : (m : ℕ) (u : Use) (e : Expr) (s : Span) → UseAgain m Terms u → ExprAgain m e → NodeAgain (suc m) (ScaleDown u e) s
+pub scale_down_again : (m : ℕ) (u : Use) (e : Expr) (s : Span) → UseAgain m Terms u → ExprAgain m e → NodeAgain (suc m) (ScaleDown u e) s
 unfolding word write_text
 scale_down_again m u e s x y = turn {after = Ended} (node_text (ScaleDown u e)) (change_made m ScaleDown (codes "scale-down") u e s (λ v x t ts c. c) (λ v x. refl))
     (loosen (node_text (ScaleDown u e)) (pair_reads (codes "scale-down") (use_text u) (expr_text e) (name_reads (codes "scale-down") scale_down_small) (loosen (use_text u) x) y))
@@ -149,7 +149,7 @@ leaf_again n x ts l c = node_again n x.node x.span ts l c
 
 -- ---- the writes of a `when`
 
-abbrev LeavesAgain : ℕ → List Leaf → Type 0
+abbrev pub LeavesAgain : ℕ → List Leaf → Type 0
 LeavesAgain n ls = Reads Ended (leaves_text ls) (Again n (List Leaf) SpellsSimple (map bare_leaf) ls)
 
 and_made : (m : ℕ) (ls : List Leaf) (ts : List Piece) → HeadForm kinds.Name (codes "and") (Again m (List Leaf) (Chain SpellsLeaf) (map bare_leaf) ls) ts → Again (suc m) (List Leaf) SpellsSimple (map bare_leaf) ls ts
@@ -174,10 +174,10 @@ bare_reads n x r = turn {after = Ended} (leaf_text x) (λ ts a. record {
   same = ap (λ (y : Leaf). y ∷ []) a.same;
 }) r
 
-more_room : (n : ℕ) (x : Leaf) → LeafAgain n x → LeafAgain (suc n) x
+pub more_room : (n : ℕ) (x : Leaf) → LeafAgain n x → LeafAgain (suc n) x
 more_room n x r = turn {after = Ended} (leaf_text x) (λ ts a. record { again = a.again; spelled = a.spelled; even = even_more n ts a.even; same = a.same }) r
 
-leaves_reads : (m : ℕ) (ls : List Leaf) → AllOf (LeafAgain m) ls → LeavesAgain (suc m) ls
+pub leaves_reads : (m : ℕ) (ls : List Leaf) → AllOf (LeafAgain m) ls → LeavesAgain (suc m) ls
 unfolding word leaves_text
 leaves_reads m [] all = loosen (leaves_text []) (and_reads m [] all)
 leaves_reads m (x ∷ []) all = bare_reads (suc m) x (more_room m x all.0)
@@ -200,7 +200,7 @@ simple_again n ls ts l (inr (x, is, spelled)) = subst (LeavesAgain n) (sym is) (
 abbrev pub EffectAgain : ℕ → Effect → Type 0
 EffectAgain n e = Reads Ended (effect_text e) (Again n Effect SpellsEffect bare_effect e)
 
-abbrev EffectsAgain : ℕ → Effects → Type 0
+abbrev pub EffectsAgain : ℕ → Effects → Type 0
 EffectsAgain n es = Reads Ended (effects_text es) (Again n Effects SpellsEffects bare_effects es)
 
 effects_lead : (es : Effects) (rest : List ℕ) → Ended rest → Ended (effects_text es ++ rest)
@@ -208,7 +208,7 @@ unfolding word
 effects_lead no_effects rest e = e
 effects_lead (more_effects x es) rest e = at_space
 
-all_again : (m : ℕ) (es : Effects) (s : Span) → EffectsAgain m es → EffectAgain (suc m) (e_all es s)
+pub all_again : (m : ℕ) (es : Effects) (s : Span) → EffectsAgain m es → EffectAgain (suc m) (e_all es s)
 unfolding word
 all_again m es s r = turn {after = Ended} (effect_text (e_all es s)) (λ ts f. record {
   again = e_all f.body_is.again f.span;
@@ -217,7 +217,7 @@ all_again m es s r = turn {after = Ended} (effect_text (e_all es s)) (λ ts f. r
   same = ap (λ ds. e_all ds no_span) f.body_is.same;
 }) (loosen (effect_text (e_all es s)) (head_reads {S = Ended} (codes "and") (effects_text es) (name_reads (codes "and") and_small) r (effects_lead es)))
 
-forall_again : (m : ℕ) (vs : List TypedName) (e : Effect) (s : Span) → VariablesAgain m vs → EffectAgain m e → EffectAgain (suc m) (e_forall vs e s)
+pub forall_again : (m : ℕ) (vs : List TypedName) (e : Effect) (s : Span) → VariablesAgain m vs → EffectAgain m e → EffectAgain (suc m) (e_forall vs e s)
 unfolding word
 forall_again m vs e s x y = turn {after = Ended} (effect_text (e_forall vs e s)) (λ ts p. record {
   again = e_forall p.front_is.again p.back_is.again p.span;
@@ -226,7 +226,7 @@ forall_again m vs e s x y = turn {after = Ended} (effect_text (e_forall vs e s))
   same = ap (λ a. e_forall a (bare_effect e) no_span) p.front_is.same ∙ ap (λ b. e_forall (map bare_typed p.front_is.again) b no_span) p.back_is.same;
 }) (loosen (effect_text (e_forall vs e s)) (pair_reads (codes "forall") (variables_text vs) (effect_text e) (name_reads (codes "forall") forall_small) (loosen (variables_text vs) x) y))
 
-when_again : (m : ℕ) (c : Cond) (ls : List Leaf) (s : Span) → CondAgain m c → LeavesAgain m ls → EffectAgain (suc m) (e_when c ls s)
+pub when_again : (m : ℕ) (c : Cond) (ls : List Leaf) (s : Span) → CondAgain m c → LeavesAgain m ls → EffectAgain (suc m) (e_when c ls s)
 unfolding word
 when_again m c ls s x y = turn {after = Ended} (effect_text (e_when c ls s)) (λ ts p. record {
   again = e_when p.front_is.again p.back_is.again p.span;
@@ -235,7 +235,7 @@ when_again m c ls s x y = turn {after = Ended} (effect_text (e_when c ls s)) (λ
   same = ap (λ a. e_when a (map bare_leaf ls) no_span) p.front_is.same ∙ ap (λ b. e_when (bare_cond p.front_is.again) b no_span) p.back_is.same;
 }) (loosen (effect_text (e_when c ls s)) (pair_reads (codes "when") (cond_text c) (leaves_text ls) (name_reads (codes "when") when_small) x y))
 
-one_again : (n : ℕ) (x : Leaf) (s : Span) → LeafAgain n x → EffectAgain n (e_leaf x s)
+pub one_again : (n : ℕ) (x : Leaf) (s : Span) → LeafAgain n x → EffectAgain n (e_leaf x s)
 one_again n x s r = turn {after = Ended} (leaf_text x) (λ ts a. record {
   again = e_leaf a.again a.again.span;
   spelled = (refl, a.spelled);
@@ -243,7 +243,7 @@ one_again n x s r = turn {after = Ended} (leaf_text x) (λ ts a. record {
   same = ap (λ y. e_leaf y no_span) a.same;
 }) r
 
-none_again : (n : ℕ) → EffectsAgain n no_effects
+pub none_again : (n : ℕ) → EffectsAgain n no_effects
 none_again n = turn {after = Ended} {P = Nothing} [] (λ ts e. record { again = no_effects; spelled = e; even = ap (room_after n) e; same = refl }) (none_reads Ended)
 
 more_made : (n : ℕ) (e : Effect) (es : Effects) (ts : List Piece) → Both (Again n Effect SpellsEffect bare_effect e) (Again n Effects SpellsEffects bare_effects es) ts
@@ -255,7 +255,7 @@ more_made n e es ts (both a b x y w) = record {
   same = ap (λ z. more_effects z (bare_effects es)) x.same ∙ ap (λ zs. more_effects (bare_effect x.again) zs) y.same;
 }
 
-more_again : (n : ℕ) (e : Effect) (es : Effects) → EffectAgain n e → EffectsAgain n es → EffectsAgain n (more_effects e es)
+pub more_again : (n : ℕ) (e : Effect) (es : Effects) → EffectAgain n e → EffectsAgain n es → EffectsAgain n (more_effects e es)
 unfolding word
 more_again n e es x y = turn {after = Ended} (effects_text (more_effects e es)) (more_made n e es)
     (join {S = Ended} {T = Ended} (32 ∷ effect_text e) (effects_text es) (spaced_before {S = Ended} (effect_text e) x) y (effects_lead es))

@@ -23,7 +23,7 @@ use Rattle.plus_canonical.proofs.Literals.{SpellsNumber, literal_good, literal_a
 abbrev pub ExprAgain : ℕ → Expr → Type 0
 ExprAgain n e = Reads Ended (expr_text e) (Again n Expr SpellsExpr bare_expr e)
 
-abbrev ExprsAgain : ℕ → Exprs → Type 0
+abbrev pub ExprsAgain : ℕ → Exprs → Type 0
 ExprsAgain n es = Reads Ended (exprs_text es) (Again n Exprs SpellsExprs bare_exprs es)
 
 exprs_lead : (es : Exprs) (rest : List ℕ) → Ended rest → Ended (exprs_text es ++ rest)
@@ -40,7 +40,7 @@ many_same (more_exprs a (more_exprs b es)) (more_exprs f (more_exprs g fs)) e ma
 
 -- ---- one form each
 
-number_reads : (room : ℕ) (n : Literal) (s : Span) → Reads Ended (literal_text n) (Again room Literal SpellsNumber bare_literal n) → ExprAgain room (x_number n s)
+pub number_reads : (room : ℕ) (n : Literal) (s : Span) → Reads Ended (literal_text n) (Again room Literal SpellsNumber bare_literal n) → ExprAgain room (x_number n s)
 number_reads room n s r = turn {after = Ended} (literal_text n) (λ ts a. record {
   again = x_number a.again a.spelled.0.span;
   spelled = (a.spelled.0, a.spelled.1, refl, a.spelled.2);
@@ -48,7 +48,7 @@ number_reads room n s r = turn {after = Ended} (literal_text n) (λ ts a. record
   same = ap (λ m. x_number m no_span) a.same;
 }) r
 
-clock_again : (n : ℕ) (s : Span) → ExprAgain n (x_clock s)
+pub clock_again : (n : ℕ) (s : Span) → ExprAgain n (x_clock s)
 unfolding word
 clock_again n s = turn {after = Ended} (35 ∷ 116 ∷ []) (λ ts t. record {
   again = x_clock t.span;
@@ -57,7 +57,7 @@ clock_again n s = turn {after = Ended} (35 ∷ 116 ∷ []) (λ ts t. record {
   same = refl;
 }) clock_reads
 
-fluent_again : (n : ℕ) (u : Use) (s : Span) → UseAgain n Terms u → ExprAgain n (x_fluent u s)
+pub fluent_again : (n : ℕ) (u : Use) (s : Span) → UseAgain n Terms u → ExprAgain n (x_fluent u s)
 fluent_again n u s r = turn {after = Ended} (use_text u) (λ ts a. record {
   again = x_fluent a.again a.again.span;
   spelled = (refl, a.spelled);
@@ -65,7 +65,7 @@ fluent_again n u s r = turn {after = Ended} (use_text u) (λ ts a. record {
   same = ap (λ v. x_fluent v no_span) a.same;
 }) (loosen (use_text u) r)
 
-sum_again : (m : ℕ) (es : Exprs) (s : Span) → AreMany es → ExprsAgain m es → ExprAgain (suc m) (x_sum es s)
+pub sum_again : (m : ℕ) (es : Exprs) (s : Span) → AreMany es → ExprsAgain m es → ExprAgain (suc m) (x_sum es s)
 unfolding word
 sum_again m es s many r = turn {after = Ended} (expr_text (x_sum es s)) (λ ts f. record {
   again = x_sum f.body_is.again f.span;
@@ -74,7 +74,7 @@ sum_again m es s many r = turn {after = Ended} (expr_text (x_sum es s)) (λ ts f
   same = ap (λ fs. x_sum fs no_span) f.body_is.same;
 }) (loosen (expr_text (x_sum es s)) (head_reads {S = Ended} (43 ∷ []) (exprs_text es) (op_reads ops.Plus) r (exprs_lead es)))
 
-product_again : (m : ℕ) (es : Exprs) (s : Span) → AreMany es → ExprsAgain m es → ExprAgain (suc m) (x_product es s)
+pub product_again : (m : ℕ) (es : Exprs) (s : Span) → AreMany es → ExprsAgain m es → ExprAgain (suc m) (x_product es s)
 unfolding word
 product_again m es s many r = turn {after = Ended} (expr_text (x_product es s)) (λ ts f. record {
   again = x_product f.body_is.again f.span;
@@ -83,7 +83,7 @@ product_again m es s many r = turn {after = Ended} (expr_text (x_product es s)) 
   same = ap (λ fs. x_product fs no_span) f.body_is.same;
 }) (loosen (expr_text (x_product es s)) (head_reads {S = Ended} (42 ∷ []) (exprs_text es) (op_reads ops.Times) r (exprs_lead es)))
 
-minus_again : (m : ℕ) (e : Expr) (s : Span) → ExprAgain m e → ExprAgain (suc m) (x_minus e s)
+pub minus_again : (m : ℕ) (e : Expr) (s : Span) → ExprAgain m e → ExprAgain (suc m) (x_minus e s)
 unfolding word
 minus_again m e s r = turn {after = Ended} (expr_text (x_minus e s)) (λ ts f. record {
   again = x_minus f.body_is.again f.span;
@@ -92,7 +92,7 @@ minus_again m e s r = turn {after = Ended} (expr_text (x_minus e s)) (λ ts f. r
   same = ap (λ x. x_minus x no_span) f.body_is.same;
 }) (loosen (expr_text (x_minus e s)) (one_reads (45 ∷ []) (expr_text e) (op_reads ops.Minus) r))
 
-difference_again : (m : ℕ) (e f : Expr) (s : Span) → ExprAgain m e → ExprAgain m f → ExprAgain (suc m) (x_difference e f s)
+pub difference_again : (m : ℕ) (e f : Expr) (s : Span) → ExprAgain m e → ExprAgain m f → ExprAgain (suc m) (x_difference e f s)
 unfolding word
 difference_again m e f s x y = turn {after = Ended} (expr_text (x_difference e f s)) (λ ts p. record {
   again = x_difference p.front_is.again p.back_is.again p.span;
@@ -101,7 +101,7 @@ difference_again m e f s x y = turn {after = Ended} (expr_text (x_difference e f
   same = ap (λ a. x_difference a (bare_expr f) no_span) p.front_is.same ∙ ap (λ b. x_difference (bare_expr p.front_is.again) b no_span) p.back_is.same;
 }) (loosen (expr_text (x_difference e f s)) (pair_reads (45 ∷ []) (expr_text e) (expr_text f) (op_reads ops.Minus) x y))
 
-quotient_again : (m : ℕ) (e f : Expr) (s : Span) → ExprAgain m e → ExprAgain m f → ExprAgain (suc m) (x_quotient e f s)
+pub quotient_again : (m : ℕ) (e f : Expr) (s : Span) → ExprAgain m e → ExprAgain m f → ExprAgain (suc m) (x_quotient e f s)
 unfolding word
 quotient_again m e f s x y = turn {after = Ended} (expr_text (x_quotient e f s)) (λ ts p. record {
   again = x_quotient p.front_is.again p.back_is.again p.span;
@@ -110,7 +110,7 @@ quotient_again m e f s x y = turn {after = Ended} (expr_text (x_quotient e f s))
   same = ap (λ a. x_quotient a (bare_expr f) no_span) p.front_is.same ∙ ap (λ b. x_quotient (bare_expr p.front_is.again) b no_span) p.back_is.same;
 }) (loosen (expr_text (x_quotient e f s)) (pair_reads (47 ∷ []) (expr_text e) (expr_text f) (op_reads ops.Divide) x y))
 
-none_again : (n : ℕ) → ExprsAgain n no_exprs
+pub none_again : (n : ℕ) → ExprsAgain n no_exprs
 none_again n = turn {after = Ended} {P = Nothing} [] (λ ts e. record { again = no_exprs; spelled = e; even = ap (room_after n) e; same = refl }) (none_reads Ended)
 
 more_made : (n : ℕ) (e : Expr) (es : Exprs) (ts : List Piece) → Both (Again n Expr SpellsExpr bare_expr e) (Again n Exprs SpellsExprs bare_exprs es) ts → Again n Exprs SpellsExprs bare_exprs (more_exprs e es) ts
@@ -121,7 +121,7 @@ more_made n e es ts (both a b x y w) = record {
   same = ap (λ z. more_exprs z (bare_exprs es)) x.same ∙ ap (λ zs. more_exprs (bare_expr x.again) zs) y.same;
 }
 
-more_again : (n : ℕ) (e : Expr) (es : Exprs) → ExprAgain n e → ExprsAgain n es → ExprsAgain n (more_exprs e es)
+pub more_again : (n : ℕ) (e : Expr) (es : Exprs) → ExprAgain n e → ExprsAgain n es → ExprsAgain n (more_exprs e es)
 unfolding word
 more_again n e es x y = turn {after = Ended} (exprs_text (more_exprs e es)) (more_made n e es)
     (join {S = Ended} {T = Ended} (32 ∷ expr_text e) (exprs_text es) (spaced_before {S = Ended} (expr_text e) x) y (exprs_lead es))

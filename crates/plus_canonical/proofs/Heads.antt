@@ -37,7 +37,7 @@ head_made m h plain ts f = record {
   same = ap (λ (vs : List TypedName). record { name = bare_spelled h.name; params = vs; span = no_span }) f.body_is.same;
 }
 
-head_again_of : (m : ℕ) (h : Head) → PlainName h.name.name → AllOf SmallTyped h.params → HeadAgain (suc m) h
+pub head_again_of : (m : ℕ) (h : Head) → PlainName h.name.name → AllOf SmallTyped h.params → HeadAgain (suc m) h
 unfolding head_text word
 head_again_of m h name params = turn {after = Ended} (head_text h) (head_made m h name.plain)
     (loosen (head_text h) (head_reads {S = Ended} h.name.name (spaced variable_text h.params) (name_reads h.name.name name.small) (params_again m h.params params)

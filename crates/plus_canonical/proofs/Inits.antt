@@ -28,7 +28,7 @@ use Rattle.plus_canonical.proofs.Conds.{not_small}
 abbrev pub InitAgain : ℕ → Init → Type 0
 InitAgain n x = Reads Ended (init_text x) (Again n Init SpellsInit bare_init x)
 
-holds_again : (n : ℕ) (u : Use) → UseAgain n Names u → InitAgain n (Holds u)
+pub holds_again : (n : ℕ) (u : Use) → UseAgain n Names u → InitAgain n (Holds u)
 holds_again n u r = turn {after = Ended} (use_text u) (λ ts a. record {
   again = Holds a.again;
   spelled = a.spelled;
@@ -42,10 +42,10 @@ holds_again n u r = turn {after = Ended} (use_text u) (λ ts a. record {
 abbrev SpellsAbsent : Allowed → Use → List Piece → Type 0
 SpellsAbsent allowed u ts = (place : Span) × SpellsNot allowed u place ts
 
-abbrev AbsentAgain : ℕ → Allowed → Use → Type 0
+abbrev pub AbsentAgain : ℕ → Allowed → Use → Type 0
 AbsentAgain n allowed u = Reads Ended (absent_text u) (Again n Use (SpellsAbsent allowed) bare_use u)
 
-not_again : (m : ℕ) (allowed : Allowed) (u : Use) → UseAgain m allowed u → AbsentAgain (suc m) allowed u
+pub not_again : (m : ℕ) (allowed : Allowed) (u : Use) → UseAgain m allowed u → AbsentAgain (suc m) allowed u
 unfolding word
 not_again m allowed u r = turn {after = Ended} (absent_text u) (λ ts f. record {
   again = f.body_is.again;
@@ -62,7 +62,7 @@ absent_again n allowed u s ts l (a, inner, is, wrapped, spelled) =
     let i = fine_form n s a inner ts (ap is_flat is.0) wrapped (level_use allowed u inner spelled) l in
     subst (λ m. AbsentAgain m allowed u) i.under (not_again i.room allowed u (use_again i.room allowed u inner i.fine spelled))
 
-false_again : (n : ℕ) (u : Use) (s : Span) → AbsentAgain n Names u → InitAgain n (Absent u s)
+pub false_again : (n : ℕ) (u : Use) (s : Span) → AbsentAgain n Names u → InitAgain n (Absent u s)
 false_again n u s r = turn {after = Ended} (absent_text u) (λ ts a. record {
   again = Absent a.again a.spelled.0;
   spelled = a.spelled.1;
@@ -90,7 +90,7 @@ value_made m u n s ts p =
       same = ap (λ v. Value v (bare_literal n) no_span) p.front_is.same ∙ ap (λ m. Value (bare_use p.front_is.again) m no_span) p.back_is.same;
     }
 
-value_again : (m : ℕ) (u : Use) (n : Literal) (s : Span) → UseAgain m Names u → GoodLiteral n → InitAgain (suc m) (Value u n s)
+pub value_again : (m : ℕ) (u : Use) (n : Literal) (s : Span) → UseAgain m Names u → GoodLiteral n → InitAgain (suc m) (Value u n s)
 unfolding word
 value_again m u n s r good = turn {after = Ended} (init_text (Value u n s)) (value_made m u n s)
     (loosen (init_text (Value u n s)) (pair_reads (61 ∷ []) (use_text u) (literal_text n) (op_reads Equal) (loosen (use_text u) r) (literal_again m n good)))
@@ -123,7 +123,7 @@ timed_reads : (m : ℕ) (t : Literal) (spells : Use → List Piece → Type 0) (
 unfolding word
 timed_reads m t spells u text good r = loosen (timed_text t text) (pair_reads (codes "at") (literal_text t) text (name_reads (codes "at") at_small) (time_again m t good) r)
 
-at_again : (m : ℕ) (t : Literal) (u : Use) (s : Span) → GoodTime t → UseAgain m Terms u → InitAgain (suc m) (At t u s)
+pub at_again : (m : ℕ) (t : Literal) (u : Use) (s : Span) → GoodTime t → UseAgain m Terms u → InitAgain (suc m) (At t u s)
 at_again m t u s good r = turn {after = Ended} (timed_text t (use_text u)) (λ ts p. record {
   again = At p.front_is.again p.back_is.again p.span;
   spelled = timed_spelled m t (SpellsUse Terms) u ts p;
@@ -131,7 +131,7 @@ at_again m t u s good r = turn {after = Ended} (timed_text t (use_text u)) (λ t
   same = ap (λ n. At n (bare_use u) no_span) p.front_is.same ∙ ap (λ v. At (bare_literal p.front_is.again) v no_span) p.back_is.same;
 }) (timed_reads m t (SpellsUse Terms) u (use_text u) good (loosen (use_text u) r))
 
-at_not_again : (m : ℕ) (t : Literal) (u : Use) (s : Span) → GoodTime t → AbsentAgain m Terms u → InitAgain (suc m) (AtNot t u s)
+pub at_not_again : (m : ℕ) (t : Literal) (u : Use) (s : Span) → GoodTime t → AbsentAgain m Terms u → InitAgain (suc m) (AtNot t u s)
 at_not_again m t u s good r = turn {after = Ended} (timed_text t (absent_text u)) (λ ts p. record {
   again = AtNot p.front_is.again p.back_is.again p.span;
   spelled = timed_spelled m t (SpellsAbsent Terms) u ts p;

@@ -155,7 +155,7 @@ text_is p =
     ∙ ap (λ l. (40 ∷ (codes "define" ++ 32 ∷ [])) ++ (40 ∷ ((codes "problem" ++ 32 ∷ []) ++ (p.name.name ++ (41 ∷ 10 ∷ (domain_line p
     ++ (requirements_text p.requirements ++ (section (codes " (:objects") typed_text p.objects ++ l)))))))) (stated_is p)
 
-problem_reads : (m : ℕ) (p : Problem) → GoodProblem m p → Reads Any (problem_text p) (Again (suc (suc m)) Problem ProblemTokens bare_problem p)
+pub problem_reads : (m : ℕ) (p : Problem) → GoodProblem m p → Reads Any (problem_text p) (Again (suc (suc m)) Problem ProblemTokens bare_problem p)
 problem_reads m p g =
     subst (λ l. Reads Any l (Again (suc (suc m)) Problem ProblemTokens bare_problem p)) (sym (text_is p))
     (turn {after = Any} ((40 ∷ (codes "define" ++ 32 ∷ [])) ++ (40 ∷ ((codes "problem" ++ 32 ∷ []) ++ (p.name.name ++ (41 ∷ 10 ∷ sections_text p))))) (problem_is m p)

@@ -133,7 +133,7 @@ module _ (m : ℕ) (S X Part : Type 0) (spells : Part → List Piece → Type 0)
 abbrev pub RequirementAgain : ℕ → Spelled → Type 0
 RequirementAgain n x = Reads Ended (keyword_text x) (Again n Spelled SpellsRequirement bare_spelled x)
 
-requirement_reads : (n : ℕ) (x : Spelled) → IsSmall x.name → RequirementAgain n x
+pub requirement_reads : (n : ℕ) (x : Spelled) → IsSmall x.name → RequirementAgain n x
 unfolding word keyword_text
 requirement_reads n x small = turn {after = Ended} (keyword_text x) (λ ts t. record {
   again = record { name = x.name; span = t.span };

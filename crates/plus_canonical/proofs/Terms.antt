@@ -59,7 +59,7 @@ named_small allowed p l e = by (allowed_kind allowed p.kind e) where
 abbrev pub TermAgain : ℕ → Allowed → Term → Type 0
 TermAgain n allowed t = Reads Ended (term_text t) (Again n Term (SpellsArgument allowed) bare_term t)
 
-object_again : (n : ℕ) (allowed : Allowed) (x : Spelled) → is_allowed allowed kinds.Name ≡ true → IsSmall x.name → TermAgain n allowed (Object x)
+pub object_again : (n : ℕ) (allowed : Allowed) (x : Spelled) → is_allowed allowed kinds.Name ≡ true → IsSmall x.name → TermAgain n allowed (Object x)
 unfolding term_text
 object_again n allowed x ok small =
     turn {after = Ended} x.name (λ ts t. record {
@@ -69,7 +69,7 @@ object_again n allowed x ok small =
       same = refl;
     }) (name_reads x.name small)
 
-variable_again : (n : ℕ) (allowed : Allowed) (x : Spelled) → is_allowed allowed kinds.Variable ≡ true → IsSmall x.name → TermAgain n allowed (Variable x)
+pub variable_again : (n : ℕ) (allowed : Allowed) (x : Spelled) → is_allowed allowed kinds.Variable ≡ true → IsSmall x.name → TermAgain n allowed (Variable x)
 unfolding term_text word
 variable_again n allowed x ok small =
     turn {after = Ended} (63 ∷ x.name) (λ ts t. record {
@@ -127,7 +127,7 @@ use_made m allowed u plain ts f = record {
   same = ap (λ (ts : List Term). record { head = bare_spelled u.head; args = ts; span = record { start = 0; «end» = 0 } }) f.body_is.same;
 }
 
-use_reads : (m : ℕ) (allowed : Allowed) (u : Use) → PlainName u.head.name → AllOf (TermAgain m allowed) u.args → UseAgain (suc m) allowed u
+pub use_reads : (m : ℕ) (allowed : Allowed) (u : Use) → PlainName u.head.name → AllOf (TermAgain m allowed) u.args → UseAgain (suc m) allowed u
 unfolding use_text word
 use_reads m allowed u name args =
     turn {after = Any} (40 ∷ (u.head.name ++ (spaced term_text u.args ++ 41 ∷ []))) (use_made m allowed u name.plain)

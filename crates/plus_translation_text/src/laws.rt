@@ -1,0 +1,12 @@
+//! The laws, each the contract of a function with an empty body.
+ghost use Rattle.plus_translation_text.specs.Laws.{TranslationReadsAgain, SpellsWithinItsDepth};
+
+/// The canonical texts of a translated pair spell it again, but for spans.
+pub fn translation_reads_again()
+    ensures { TranslationReadsAgain }
+{}
+
+/// A text that nests to a depth spells within that depth what it spells.
+pub fn spells_within_its_depth()
+    ensures { SpellsWithinItsDepth }
+{}
