@@ -1,0 +1,10 @@
+pub mod Sets
+pub mod Frame
+pub mod Unwritten
+pub mod Unmoved
+pub mod Unchanged
+pub mod Pushing
+pub mod Naming
+pub mod Reading
+pub mod Listing
+pub mod Waking

@@ -1,0 +1,7 @@
+pub mod Reads
+pub mod Writes
+pub mod Tables
+pub mod Listing
+pub mod Indexing
+pub mod Quiet
+pub mod Laws

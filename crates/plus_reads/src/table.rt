@@ -1,0 +1,52 @@
+//! For each atom, or for each fluent, the numbers of those that read it.
+ghost use Rattle.std.specs.Prelude.{◌≡◌, ◌<◌, [], ◌∷◌, ◌++◌, length, replicate, slice_set, slice_index_or, All, IfOk};
+ghost use Rattle.plus_reads.specs.Tables.{readers_at};
+
+use std::alloc::{AllocError, Global};
+use std::marker::Model;
+
+/// For each key, by its number, a list of readers. Contracts see the list of these lists.
+#[derive(Drop)]
+pub struct Table {
+    lists: Vec<Vec<u32>>,
+}
+
+impl Model for Table {
+    ghost use Rattle.std.specs.Prelude.{ℕ, List, map};
+
+    ghost Value = { List (List ℕ) };
+
+    ghost view = { λ t. map (λ l. l.items) t.lists.items };
+}
+
+impl Table {
+    /// So many keys, and no readers.
+    pub fn new(alloc: Global, keys: u32) -> Result<Table, AllocError>
+        ensures { IfOk result (λ t. t ≡ replicate keys []) }
+    {
+        let mut lists: Vec<Vec<u32>> = Vec::new(alloc);
+        'keys: for _key in 0..keys {
+            lists.push(Vec::new(alloc))?;
+        }
+        Ok(Table { lists })
+    }
+
+    /// Adds a reader of a key.
+    pub fn add(&mut self, key: u32, reader: u32) -> Result<(), AllocError>
+        requires { key < length self.old }
+        ensures { IfOk result (λ _. self.new ≡ slice_set self.old key (slice_index_or self.old key [] ++ reader ∷ [])) }
+    {
+        self.lists[key as usize].push(reader)?;
+        Ok(())
+    }
+
+    /// The readers of a key: none where there is no such key.
+    pub fn readers(&self, key: u32) -> &[u32]
+        ensures { result.now ≡ readers_at self.now key }
+    {
+        match self.lists.get(key as usize) {
+            Some(list) => list,
+            None => &[],
+        }
+    }
+}

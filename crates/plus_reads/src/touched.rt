@@ -1,0 +1,65 @@
+//! The members to be looked at after a step.
+ghost use Rattle.std.specs.Prelude.{◌≡◌, ◌<◌, ℕ, [], ◌++◌, map, ◌↔◌, true, All, IfOk};
+ghost use Rattle.plus_model.specs.Firing.{is_in};
+ghost use Rattle.plus_model.specs.Running.{IsRising};
+ghost use Rattle.plus_state.specs.Numbers.{AreMembers, event_numbers};
+ghost use Rattle.plus_reads.specs.Tables.{AreBelow, Wakes, readers_at};
+
+use crate::readers::Readers;
+use crate::table::Table;
+use plus_number::exact::Exact;
+use plus_state::changes::Changes;
+use plus_state::term::EventId;
+use plus_state::walk::Conditional;
+use std::alloc::{AllocError, Global};
+
+// In order, each once.
+fn sort_once(numbers: &mut Vec<u32>)
+    ensures rises { IsRising 0 numbers.new.items }
+    ensures same { (k : ℕ) → is_in numbers.new.items k ≡ true ↔ is_in numbers.old.items k ≡ true }
+{
+    numbers.sort_unstable();
+    numbers.dedup();
+}
+
+/// In ground order and without repeats: these numbers, and those of the readers of all that is changed.
+pub fn touched<Q: Exact>(
+    readers: &Readers,
+    changes: &Changes<Q>,
+    mut numbers: Vec<u32>,
+) -> Result<Vec<u32>, AllocError>
+    ensures wakes { IfOk result (λ after. Wakes readers.now changes.now numbers.items after.items) }
+    ensures members { IfOk result (λ after. (n : ℕ) → AreBelow n readers.now
+        → All (λ k. k < n) numbers.items → AreMembers n after.items) }
+{
+    'atoms: for change in &changes.atoms {
+        numbers.extend_from_slice(readers.atoms.readers(change.atom.0))?;
+    }
+    'fluents: for change in &changes.fluents {
+        numbers.extend_from_slice(readers.fluents.readers(change.fluent.0))?;
+    }
+    sort_once(&mut numbers);
+    Ok(numbers)
+}
+
+/// The numbers of these events.
+pub fn numbers_of(alloc: Global, events: &[EventId]) -> Result<Vec<u32>, AllocError>
+    ensures { IfOk result (λ numbers. numbers.items ≡ event_numbers events.now) }
+{
+    let mut numbers = Vec::new(alloc);
+    'each: for event in events {
+        numbers.push(event.0)?;
+    }
+    Ok(numbers)
+}
+
+/// The members with these numbers.
+pub fn members_of<I: Conditional>(alloc: Global, numbers: &[u32]) -> Result<Vec<I>, AllocError>
+    ensures { IfOk result (λ members. map I.number members.items ≡ numbers.now) }
+{
+    let mut members = Vec::new(alloc);
+    'each: for number in numbers {
+        members.push(I::with_number(*number))?;
+    }
+    Ok(members)
+}
