@@ -21,7 +21,7 @@ use Rattle.plus_model.specs.Running.{IsRising}
 use Rattle.plus_model.proofs.Members.{in_first, in_later, in_cases}
 use Rattle.plus_state.specs.Changes.{Changes}
 use Rattle.plus_state.specs.Numbers.{AreMembers}
-use Rattle.plus_reads.specs.Tables.{readers_at, AreBelow, Wakes, atoms_changed, fluents_changed}
+use Rattle.plus_reads.specs.Tables.{readers_at, AreBelow, ReadAny, Wakes, atoms_changed, fluents_changed}
 use Rattle.plus_reads.specs.declared.readers.Readers.{Readers}
 use Rattle.plus_reads.proofs.Sets.{in_left, in_right, in_either}
 
@@ -141,3 +141,13 @@ atoms_named (c ∷ cs) = ap (λ ks. c.atom.0 ∷ ks) (atoms_named cs)
 pub fluents_named : {Q : Type 0} (v : Q → Fraction) (cs : List (FluentChange Q)) → map (λ (a : FluentChange Q). a.fluent.0) cs ≡ map (λ p. p.0) (fluent_changes v cs)
 fluents_named v [] = refl
 fluents_named v (c ∷ cs) = ap (λ ks. c.fluent.0 ∷ ks) (fluents_named v cs)
+
+-- the readers of fluents, put in order
+pub reads_any : (t : Readers) (fluents all after : List ℕ) → Gathers t.fluents fluents [] all → ((k : ℕ) → is_in all k ≡ true → is_in after k ≡ true) → ((k : ℕ) → is_in after k ≡ true → is_in all k ≡ true) → IsRising 0 after → ReadAny t fluents after
+reads_any t fluents all after g in_all from_all r = record {
+  all = λ f k i h. in_all k (g.listed f k i h);
+  members = λ n b. record { inside = λ i d l. below n b (get_or after i d) (in_at after i d l); rising = r };
+}
+  where
+    below : (n : ℕ) → AreBelow n t → (k : ℕ) → is_in after k ≡ true → k < n
+    below n b k h = elim (g.only k (from_all k h)) [ inl l ↦ cc | inr w ↦ b.by_fluents w.0 k w.1 ]

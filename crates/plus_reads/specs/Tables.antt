@@ -3,6 +3,7 @@ use Rattle.std.specs.Prelude.{◌≡◌, ℕ, ◌<◌, true, List, [], Some, map
 use Rattle.plus_model.specs.Terms.{Condition}
 use Rattle.plus_model.specs.Firing.{is_in}
 use Rattle.plus_state.specs.Changes.{Changes}
+use Rattle.plus_state.specs.Numbers.{AreMembers}
 use Rattle.plus_reads.specs.Reads.{atoms_read, fluents_read}
 use Rattle.plus_reads.specs.declared.readers.Readers.{Readers}
 
@@ -36,3 +37,8 @@ pub record Wakes (t : Readers) (c : Changes) (before after : List ℕ) : Type 0 
   pub kept : (k : ℕ) → is_in before k ≡ true → is_in after k ≡ true
   pub by_atoms : (a k : ℕ) → is_in (atoms_changed c) a ≡ true → is_in (readers_at t.atoms a) k ≡ true → is_in after k ≡ true
   pub by_fluents : (f k : ℕ) → is_in (fluents_changed c) f ≡ true → is_in (readers_at t.fluents f) k ≡ true → is_in after k ≡ true
+
+-- among these numbers are all readers of these fluents, and they are numbers of members
+pub record ReadAny (t : Readers) (fluents readers : List ℕ) : Type 0 where
+  pub all : (f k : ℕ) → is_in fluents f ≡ true → is_in (readers_at t.fluents f) k ≡ true → is_in readers k ≡ true
+  pub members : (n : ℕ) → AreBelow n t → AreMembers n readers

@@ -8,7 +8,7 @@
 
 pub mod index;
 pub mod laws;
-mod names;
+pub mod names;
 pub mod readers;
 pub mod table;
 pub mod touched;

@@ -8,7 +8,7 @@ use plus_number::exact::Exact;
 use plus_state::term::{Cond, Expr};
 use std::alloc::{AllocError, Global};
 
-// Numbers of atoms and of fluents.
+/// Numbers of atoms and of fluents.
 #[derive(Drop)]
 pub struct Names {
     pub atoms: Vec<u32>,
@@ -46,6 +46,7 @@ fn add_fluents<Q: Exact>(fluents: &mut Vec<u32>, expr: &Expr<Q>) -> Result<(), A
 }
 
 impl Names {
+    /// No names. It takes no memory.
     pub fn none(alloc: Global) -> Names
         ensures atoms { result.atoms.items ≡ [] }
         ensures fluents { result.fluents.items ≡ [] }
@@ -56,7 +57,7 @@ impl Names {
         }
     }
 
-    // Forgets them, and keeps their memory.
+    /// Forgets them, and keeps their memory.
     pub fn clear(&mut self)
         ensures atoms { self.new.atoms.items ≡ [] }
         ensures fluents { self.new.fluents.items ≡ [] }
@@ -66,7 +67,7 @@ impl Names {
     }
 }
 
-// Adds what a condition names.
+/// Adds what a condition names.
 #[tactic(auto, using(crate::proofs::Naming::naming))]
 pub fn add_names<Q: Exact>(names: &mut Names, cond: &Cond<Q>) -> Result<(), AllocError>
     ensures atoms { IfOk result (λ _. names.new.atoms.items

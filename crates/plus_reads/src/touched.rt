@@ -3,13 +3,13 @@ ghost use Rattle.std.specs.Prelude.{◌≡◌, ◌<◌, ℕ, [], ◌++◌, map, 
 ghost use Rattle.plus_model.specs.Firing.{is_in};
 ghost use Rattle.plus_model.specs.Running.{IsRising};
 ghost use Rattle.plus_state.specs.Numbers.{AreMembers, event_numbers};
-ghost use Rattle.plus_reads.specs.Tables.{AreBelow, Wakes, readers_at};
+ghost use Rattle.plus_reads.specs.Tables.{AreBelow, ReadAny, Wakes};
 
 use crate::readers::Readers;
 use crate::table::Table;
 use plus_number::exact::Exact;
 use plus_state::changes::Changes;
-use plus_state::term::EventId;
+use plus_state::term::{EventId, FluentId};
 use plus_state::walk::Conditional;
 use std::alloc::{AllocError, Global};
 
@@ -40,6 +40,35 @@ pub fn touched<Q: Exact>(
     }
     sort_once(&mut numbers);
     Ok(numbers)
+}
+
+// The numbers of the readers of these fluents.
+fn numbers_by(
+    alloc: Global,
+    readers: &Readers,
+    fluents: &[FluentId],
+) -> Result<Vec<u32>, AllocError>
+    ensures { IfOk result (λ numbers. ReadAny readers.now (map (λ f. f.0) fluents.now) numbers.items) }
+{
+    let mut numbers = Vec::new(alloc);
+    'fluents: for fluent in fluents {
+        numbers.extend_from_slice(readers.fluents.readers(fluent.0))?;
+    }
+    sort_once(&mut numbers);
+    Ok(numbers)
+}
+
+/// The readers of these fluents, in ground order and without repeats.
+pub fn readers_by<I: Conditional>(
+    alloc: Global,
+    readers: &Readers,
+    fluents: &[FluentId],
+) -> Result<Vec<I>, AllocError>
+    ensures { IfOk result (λ members. ReadAny readers.now (map (λ f. f.0) fluents.now) (map I.number members.items)) }
+{
+    let numbers = numbers_by(alloc, readers, fluents)?;
+    let members = members_of(alloc, &numbers)?;
+    Ok(members)
 }
 
 /// The numbers of these events.
