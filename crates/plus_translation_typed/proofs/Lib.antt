@@ -1,0 +1,7 @@
+pub mod Listed
+pub mod Wider
+pub mod RenamedTyped
+pub mod Nested
+pub mod Flows
+pub mod EventsTyped
+pub mod TypedLaws
