@@ -5,3 +5,4 @@ pub mod ConfirmsLemmas
 pub mod ChoicesLemmas
 pub mod CouplingLemmas
 pub mod SettlesLemmas
+pub mod AmongLemmas

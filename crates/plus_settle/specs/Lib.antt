@@ -4,3 +4,4 @@ pub mod Members
 pub mod Confirms
 pub mod Settles
 pub mod Laws
+pub mod Among

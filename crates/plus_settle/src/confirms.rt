@@ -61,7 +61,8 @@ fn behind(members: &[ProcessId], id: ProcessId) -> &[ProcessId]
     }
 }
 
-fn differ(x: bool, y: bool) -> bool
+// One holds and the other does not.
+pub fn differ(x: bool, y: bool) -> bool
     ensures { result ≡ differ_of x y }
 {
     if x { !y } else { y }

@@ -6,6 +6,7 @@
 //! the rates of two sets of processes.
 #![tactic(auto)]
 
+pub mod among;
 mod choices;
 pub mod confirms;
 mod coupling;
@@ -16,6 +17,7 @@ pub mod stops;
 #[cfg(test)]
 mod tests;
 
+pub use among::first_other_among;
 pub use choices::holding;
 pub use confirms::goes_on;
 pub use net::net_rates;

@@ -16,9 +16,13 @@ use Rattle.plus_state.specs.Tested.{Carries}
 use Rattle.plus_state.specs.Tests.{tests_of}
 use Rattle.plus_state.proofs.Testing.{pass_append, pass_one, fail_one, fail_left, fail_right, carry_pass, carry_fail}
 use Rattle.plus_cascade.specs.Steps.{condition_nodes}
-use Rattle.plus_stretch.proofs.Gathering.{Gathering, gathering_start, gathering_next, gathering_end}
-use Rattle.plus_state.specs.Fits.{EventFits, StateFits}
-use Rattle.std.specs.List.{All}
+use Rattle.plus_state.specs.Fits.{StateFits}
+use Rattle.plus_state.specs.Numbers.{AreMembers}
+use Rattle.plus_state.specs.declared.walk.WalkStop.{WalkStop}
+use Rattle.plus_state.specs.declared.walk.WalkStop.TheVariants as walk
+use Rattle.plus_state.specs.Walk.{event_conditions, held_among, OthersFalse, WalkStops}
+use Rattle.plus_state.proofs.LookLemmas.{look_finds}
+use Rattle.plus_state.proofs.LookingLemmas.{numbers_by}
 use Rattle.plus_state.specs.Changes.{Changes, patched, Within, RisesIn}
 use Rattle.plus_model.proofs.Search.{moved-zero}
 use Rattle.plus_crossing.specs.Moves.{MovesTo}
@@ -32,10 +36,10 @@ use Rattle.plus_stretch.specs.declared.halt.Halt.{Halt}
 use Rattle.plus_stretch.specs.Tests.{Test, process, asks, straight, Passes, AllPass, FirstFailing, of_settle}
 use Rattle.plus_stretch.specs.StretchTests.{if_none, if_empty, after_tests, here_tests}
 use Rattle.plus_stretch.specs.After.{first_after, IsNoneSoon, IsSoon}
-use Rattle.plus_stretch.specs.Told.{HaltTold}
-use Rattle.plus_stretch.specs.Here.{is_some_of, of_go, IsQuietHere, SetEndsHere, MomentlessHere, IsAlong}
+use Rattle.plus_stretch.specs.Told.{HaltTold, Never}
+use Rattle.plus_stretch.specs.Here.{is_some_of, of_walk, of_go, IsQuietHere, SetEndsHere, MomentlessHere, IsAlong}
 use Rattle.plus_stretch.proofs.Layers.{nodes_carry}
-use Rattle.plus_stretch.proofs.Halts.{halt_right}
+use Rattle.plus_stretch.proofs.Halts.{halt_left, halt_right}
 use Rattle.plus_stretch.proofs.SoonLemmas.{after_split}
 
 -- ---- halts
@@ -74,30 +78,17 @@ unfolding Passes NodeFits
 node_fail fits sign x y m h e = fail_one (Passes fits) (asks (node sign x y)) (asks m) h (ap asks e)
 
 -- ---- whether an event holds
-pub record Finding (fits : Fraction → Type 0) (found : Bool) (k : ℕ) (rest whole : List Event) (s : State) : Type 0 where
-  pub events : List ℕ
-  pub so_far : found ≡ is_some_of events
-  pub gathering : Gathering fits events k rest whole s
+pub walk_fails : {Q : Type 0} (v : Q → Fraction) (fits : Fraction → Type 0) (ns : List Node) (stop : WalkStop Q) → WalkStops v fits ns stop → HaltTold v fits (map asks ns) Never (of_walk stop)
+walk_fails v fits ns (walk.Number o) u = nodes_fail fits ns _ u
+walk_fails v fits ns walk.Memory u = tt
 
-pub finding_start : (fits : Fraction → Type 0) (whole : List Event) (s : State) (atoms fluents : ℕ) → StateFits atoms fluents s → All (EventFits atoms fluents) whole → Finding fits false 0 whole whole s
-finding_start fits whole s atoms fluents k h = record { events = []; so_far = refl; gathering = gathering_start fits whole s atoms fluents k h }
+-- the events that a look at some finds, where no other one holds
+pub firing_is : (P : Problem) (s : State) (looked found : List ℕ) → AreMembers (length (event_conditions P)) looked → OthersFalse (event_conditions P) s looked → found ≡ held_among (event_conditions P) looked s → found ≡ firing P s
+unfolding firing
+firing_is P s looked found m o h = h ∙ look_finds (event_conditions P) s looked m o ∙ numbers_by (λ (e : Event). e.condition) s 0 P.events
 
-some_or : (es : List ℕ) (k : ℕ) (b : Bool) → is_some_of es || b ≡ is_some_of (es ++ (if b then k ∷ [] else []))
-some_or [] k true = refl
-some_or [] k false = refl
-some_or (e ∷ es) k b = refl
-
-pub finding_next : (fits : Fraction → Type 0) (found new b : Bool) (k : ℕ) (e : Event) (rest whole : List Event) (s : State) → Finding fits found k (e ∷ rest) whole s → AllFit fits (tests_of e.condition s) → b ≡ holds e.condition s → new ≡ found || b → Finding fits new (k + 1) rest whole s
-finding_next fits found new b k e rest whole s h a d n = record {
-  events = h.events ++ (if b then k ∷ [] else []);
-  so_far = n ∙ ap (λ (c : Bool). c || b) h.so_far ∙ some_or h.events k b;
-  gathering = gathering_next fits h.events k e rest whole s h.gathering b _ a d refl;
-}
-
-pub finding_end : (fits : Fraction → Type 0) (found : Bool) (k : ℕ) (P : Problem) (s : State) → Finding fits found k [] P.events s → AllFit fits (condition_nodes P.events s) × (found ≡ is_some_of (firing P s))
-finding_end fits found k P s h =
-    let g = gathering_end fits h.events k P s h.gathering in
-    (g.0, h.so_far ∙ ap is_some_of g.1)
+pub some_found : (P : Problem) (s : State) (looked found : List ℕ) (b : Bool) → AreMembers (length (event_conditions P)) looked → OthersFalse (event_conditions P) s looked → found ≡ held_among (event_conditions P) looked s → b ≡ is_some_of found → b ≡ is_some_of (firing P s)
+some_found P s looked found b m o h e = e ∙ ap is_some_of (firing_is P s looked found m o h)
 
 none_of : (xs : List ℕ) → false ≡ is_some_of xs → xs ≡ []
 none_of [] e = refl
@@ -180,43 +171,43 @@ module _ (P : Problem) (t : Fraction) (s : State) (R : List ℕ) (rs : List Frac
       (empty_is (firing P s) _ h.quiet.still ∙ none_is (first_other R 0 P.processes s rs) _ h.other ∙ none_is (first_after 0 P.events s rs) rest h.soon.later)
 
   module _ (fits : Fraction → Type 0) where
-    pub stop_events : {Q : Type 0} (v : Q → Fraction) (o : Overflow Q) → FirstUnfit fits (condition_nodes P.events s) (overflow_of v o) → FirstFailing fits (here_tests P t s R rs []) (asks (overflow_of v o))
+    pub stop_events : {Q : Type 0} (v : Q → Fraction) (Means : ℕ → Fraction → Type 0) (h : Halt Q) → HaltTold v fits (map asks (condition_nodes P.events s)) Never h → HaltTold v fits (here_tests P t s R rs []) Means h
     unfolding here_tests
-    stop_events v o u = fail_left (Passes fits) _ _ _ (nodes_fail fits _ _ u)
+    stop_events v Means h u = halt_left v fits _ _ Never Means h (λ e x m. absurd m) u
 
-    pub holds_here : AllFit fits (condition_nodes P.events s) → true ≡ is_some_of (firing P s) → AllPass fits (here_tests P t s R rs []) × (firing P s ≢ [])
+    pub holds_here : AllPass fits (map asks (condition_nodes P.events s)) → true ≡ is_some_of (firing P s) → AllPass fits (here_tests P t s R rs []) × (firing P s ≢ [])
     holds_here a e =
         let n = some_of (firing P s) e in
-        (subst (AllPass fits) (sym (here_firing [] n)) (nodes_pass fits _ a), n)
+        (subst (AllPass fits) (sym (here_firing [] n)) a, n)
 
     -- the stop of a process
-    pub stop_processes : {Q : Type 0} (v : Q → Fraction) (Means : ℕ → Fraction → Type 0) (stop : GoStop Q) → AllFit fits (condition_nodes P.events s) → false ≡ is_some_of (firing P s) → GoStops v fits (go_steps P R s rs) stop → HaltTold v fits (here_tests P t s R rs []) Means (of_go stop)
+    pub stop_processes : {Q : Type 0} (v : Q → Fraction) (Means : ℕ → Fraction → Type 0) (stop : GoStop Q) → AllPass fits (map asks (condition_nodes P.events s)) → false ≡ is_some_of (firing P s) → GoStops v fits (go_steps P R s rs) stop → HaltTold v fits (here_tests P t s R rs []) Means (of_go stop)
     stop_processes v Means (go.Number o) a e u =
         subst (λ (ts : List Test). FirstFailing fits ts (asks (overflow_of v o))) (sym (here_still [] (none_of (firing P s) e)))
-        (fail_right (Passes fits) _ _ _ (nodes_pass fits _ a) (fail_left (Passes fits) _ _ _ (carry_fail (settle_carry fits) _ _ u)))
+        (fail_right (Passes fits) _ _ _ a (fail_left (Passes fits) _ _ _ (carry_fail (settle_carry fits) _ _ u)))
     stop_processes v Means (go.Nonlinear p k) a e u =
         subst (λ (ts : List Test). FirstFailing fits ts (straight (process p.0) k false)) (sym (here_still [] (none_of (firing P s) e)))
-        (fail_right (Passes fits) _ _ _ (nodes_pass fits _ a) (fail_left (Passes fits) _ _ _ (carry_fail (settle_carry fits) _ _ u)))
+        (fail_right (Passes fits) _ _ _ a (fail_left (Passes fits) _ _ _ (carry_fail (settle_carry fits) _ _ u)))
 
-    pub ends_here : (p : ℕ) → AllFit fits (condition_nodes P.events s) → false ≡ is_some_of (firing P s) → settle.AllPass fits (go_steps P R s rs) → Some p ≡ first_other R 0 P.processes s rs → (GoesOn P s rs R → ⊥) → AllPass fits (here_tests P t s R rs []) × SetEndsHere P s R rs
+    pub ends_here : (p : ℕ) → AllPass fits (map asks (condition_nodes P.events s)) → false ≡ is_some_of (firing P s) → settle.AllPass fits (go_steps P R s rs) → Some p ≡ first_other R 0 P.processes s rs → (GoesOn P s rs R → ⊥) → AllPass fits (here_tests P t s R rs []) × SetEndsHere P s R rs
     ends_here p a e b o n =
         let still = none_of (firing P s) e in (
-          subst (AllPass fits) (sym (here_ends [] p still (sym o))) (pass_append (Passes fits) _ _ (nodes_pass fits _ a) (carry_pass (settle_carry fits) _ b)),
+          subst (AllPass fits) (sym (here_ends [] p still (sym o))) (pass_append (Passes fits) _ _ a (carry_pass (settle_carry fits) _ b)),
           record { still = still; process = p; other = sym o; ends = n },
         )
 
-    pub on_here : AllFit fits (condition_nodes P.events s) → false ≡ is_some_of (firing P s) → settle.AllPass fits (go_steps P R s rs) → None ≡ first_other R 0 P.processes s rs → GoesOn P s rs R → AllPass fits (after_tests t 0 P.events s rs []) → IsNoneSoon P s rs → AllPass fits (here_tests P t s R rs []) × IsQuietHere P s R rs
+    pub on_here : AllPass fits (map asks (condition_nodes P.events s)) → false ≡ is_some_of (firing P s) → settle.AllPass fits (go_steps P R s rs) → None ≡ first_other R 0 P.processes s rs → GoesOn P s rs R → AllPass fits (after_tests t 0 P.events s rs []) → IsNoneSoon P s rs → AllPass fits (here_tests P t s R rs []) × IsQuietHere P s R rs
     on_here a e b o g c n =
         let still = none_of (firing P s) e in (
-          subst (AllPass fits) (sym (here_on [] still (sym o))) (pass_append (Passes fits) _ _ (nodes_pass fits _ a) (pass_append (Passes fits) _ _ (carry_pass (settle_carry fits) _ b) c)),
+          subst (AllPass fits) (sym (here_on [] still (sym o))) (pass_append (Passes fits) _ _ a (pass_append (Passes fits) _ _ (carry_pass (settle_carry fits) _ b) c)),
           record { quiet = record { still = still; on = g }; other = sym o; soon = n },
         )
 
-    pub stop_soon : {Q : Type 0} (v : Q → Fraction) (h : Halt Q) → AllFit fits (condition_nodes P.events s) → false ≡ is_some_of (firing P s) → settle.AllPass fits (go_steps P R s rs) → None ≡ first_other R 0 P.processes s rs → GoesOn P s rs R → HaltTold v fits (after_tests t 0 P.events s rs []) (IsSoon P t s rs) h → HaltTold v fits (here_tests P t s R rs []) (MomentlessHere P t s R rs) h
+    pub stop_soon : {Q : Type 0} (v : Q → Fraction) (h : Halt Q) → AllPass fits (map asks (condition_nodes P.events s)) → false ≡ is_some_of (firing P s) → settle.AllPass fits (go_steps P R s rs) → None ≡ first_other R 0 P.processes s rs → GoesOn P s rs R → HaltTold v fits (after_tests t 0 P.events s rs []) (IsSoon P t s rs) h → HaltTold v fits (here_tests P t s R rs []) (MomentlessHere P t s R rs) h
     stop_soon v h a e b o g u =
         let still = none_of (firing P s) e in
         subst (λ (ts : List Test). HaltTold v fits ts (MomentlessHere P t s R rs) h) (sym (here_on [] still (sym o)))
-        (halt_right v fits _ _ (MomentlessHere P t s R rs) (MomentlessHere P t s R rs) h (nodes_pass fits _ a) (λ k x m. m)
+        (halt_right v fits _ _ (MomentlessHere P t s R rs) (MomentlessHere P t s R rs) h a (λ k x m. m)
         (halt_right v fits _ _ (IsSoon P t s rs) (MomentlessHere P t s R rs) h (carry_pass (settle_carry fits) _ b) (λ k x m. record { quiet = record { still = still; on = g }; soon = m }) u))
 
 -- ---- along the rates

@@ -4,10 +4,12 @@ pub mod Rising
 pub mod Between
 pub mod Left
 pub mod Halts
+pub mod Places
 pub mod SoonLemmas
 pub mod Thinned
 pub mod Collecting
-pub mod Gathering
 pub mod HereLemmas
 pub mod CrossingLemmas
+pub mod Known
+pub mod AllListed
 pub mod SearchLemmas

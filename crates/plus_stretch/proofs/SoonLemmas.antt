@@ -1,5 +1,5 @@
 -- How far events are known not to hold just after.
-use Rattle.std.proofs.Common.{◌≡◌, ℕ, ◌<◌, ◌≤◌, ◌+◌, zero, suc, Bool, true, false, List, [], ◌∷◌, ◌++◌, length, map, get_or, refl, ap, sym, subst, ◌∙◌, inl, inr, ◌⊎◌, arith, append_assoc}
+use Rattle.std.proofs.Common.{◌≡◌, ℕ, ◌<◌, ◌≤◌, ◌+◌, zero, suc, Bool, true, false, List, [], ◌∷◌, ◌++◌, length, drop, refl, ap, sym, subst, ◌∙◌, inl, inr, ◌⊎◌, arith, append_assoc}
 use Rattle.std.proofs.lemmas.Bool.{cases_lt}
 use Rattle.std.proofs.lemmas.List.Elements.{All-head, All-tail}
 use Rattle.std.specs.Prelude.{Option, Some, None, IsSomeAnd, slice_get, ◌↔◌, if◌then◌else◌}
@@ -11,8 +11,7 @@ use Rattle.plus_model.specs.Live.{live}
 use Rattle.plus_model.specs.Running.{JustAfter}
 use Rattle.plus_model.specs.Breach as model
 use Rattle.plus_model.specs.Breach.{IsFirst, HoldsAfter}
-use Rattle.plus_state.specs.declared.problem.Event as code
-use Rattle.plus_state.specs.View.{event_of}
+use Rattle.plus_state.specs.Numbers.{AreMembers}
 use Rattle.plus_state.specs.Fits.{EventFits}
 use Rattle.plus_state.proofs.Testing.{pass_none, pass_append, fail_here, fail_left, fail_right, carry_pass, carry_fail}
 use Rattle.plus_crossing.specs.Asked as crossing
@@ -20,7 +19,9 @@ use Rattle.plus_crossing.specs.Conds.{live_asks}
 use Rattle.plus_crossing.proofs.Straight.{soon_tells}
 use Rattle.plus_stretch.specs.Tests.{event, Test, breach, Passes, AllPass, FirstFailing, of_ask}
 use Rattle.plus_stretch.specs.StretchTests.{after_tests, if_none}
+use Rattle.plus_still.proofs.Listed.{PassesOver, Walked, walked_start, walked_here, walked_end, Item, item_at, from_item, none_left}
 use Rattle.plus_stretch.specs.After.{soon, event_tests, soon_tests, first_after, NoneHoldsAfter}
+use Rattle.plus_stretch.specs.Among.{IsNotSoon, OthersNotSoon}
 use Rattle.plus_stretch.proofs.Layers.{asks_carry}
 
 -- ---- one event
@@ -111,11 +112,37 @@ waiting_end fits P k s rs h l = (
   λ i e g j. h.none i (let b = within P.events i e g in omega arith) (subst (λ (o : Option Event). IsSomeAnd o (λ x. JustAfter s rs x.condition)) (sym g) j),
 )
 
--- an event of the list
-pub event_here : {Q : Type 0} (v : Q → Fraction) (items : List (code.Event Q)) (i : ℕ) (x : code.Event Q) → i < length items → x ≡ get_or items i x → slice_get (map (event_of v) items) i ≡ Some (event_of v x)
-event_here v [] i x h e = absurd (omega arith)
-event_here v (y ∷ items) zero x h e = ap (λ (z : code.Event _). Some (event_of v z)) (sym e)
-event_here v (y ∷ items) (suc i) x h e = event_here v items i x (omega arith) e
+-- ---- a look at some events
+module _ (fits : Fraction → Type 0) (P : Problem) (s : State) (rs : List Fraction) where
+  -- no event up to number k holds just after
+  abbrev pub NotYet : ℕ → Type 0
+  NotYet k = Waiting fits P k (drop k P.events) s rs
+
+  not_soon_tells : (k : ℕ) (e : Event) → IsNotSoon fits s rs e → AllPass fits (event_tests k e s rs) × (soon e s rs ≡ soon e s rs) × ((soon e s rs ≡ true) ↔ JustAfter s rs e.condition)
+  unfolding soon
+  not_soon_tells k e h =
+      let u = soon_tells fits 0 e.condition s rs h.pass in
+      soon_pass fits k e s rs (after (live e.condition s) s rs) h.pass (u.1, u.0)
+
+  passes_over : (listed : List ℕ) → OthersNotSoon fits P s rs listed → PassesOver NotYet (length P.events) listed
+  passes_over listed o k l n h =
+      let i = item_at P.events k l in
+      let q = o k i.item i.is n in
+      let t = not_soon_tells k i.item q in
+      waiting_next fits P k i.item (drop (k + 1) P.events) s rs (subst (λ (es : List Event). Waiting fits P k es s rs) (from_item P.events k i.item i.is) h) t.0 t.2 i.is q.not
+
+  pub not_yet_start : (listed : List ℕ) → All (EventFits (length s.atoms) (length s.fluents)) P.events → AreMembers (length P.events) listed → Walked NotYet (length P.events) listed listed
+  not_yet_start listed f m = walked_start NotYet (length P.events) listed m (waiting_start fits P s rs f)
+
+  -- no event before a listed one does
+  pub waiting_at : (listed : List ℕ) (k : ℕ) (rest : List ℕ) (e : Event) → OthersNotSoon fits P s rs listed → slice_get P.events k ≡ Some e → Walked NotYet (length P.events) (k ∷ rest) listed → Waiting fits P k (e ∷ drop (k + 1) P.events) s rs
+  waiting_at listed k rest e o g w =
+      subst (λ (es : List Event). Waiting fits P k es s rs) (from_item P.events k e g) (walked_here NotYet (length P.events) k rest listed w (passes_over listed o))
+
+  pub not_yet_end : (listed : List ℕ) → OthersNotSoon fits P s rs listed → Walked NotYet (length P.events) [] listed → AllPass fits (soon_tests 0 P.events s rs) × (None ≡ first_after 0 P.events s rs) × NoneHoldsAfter P s rs
+  not_yet_end listed o w =
+      let h : NotYet (length P.events) = walked_end NotYet (length P.events) listed w (passes_over listed o) in
+      waiting_end fits P (length P.events) s rs (subst (λ (es : List Event). Waiting fits P (length P.events) es s rs) (none_left P.events) h) (omega arith)
 
 -- ---- the list of the tests with the breach, and then the rest
 abbrev breach_at : Fraction → Option ℕ → List Test → List Test

@@ -1,5 +1,5 @@
 -- What begins in a state on the way along a running set.
-use Rattle.std.specs.Prelude.{◌≡◌, ◌≢◌, ℕ, Bool, true, false, List, [], ◌∷◌, Option, Some, None}
+use Rattle.std.specs.Prelude.{◌≡◌, ◌≢◌, ℕ, Bool, true, false, List, [], ◌∷◌, Option, Some, None, Result, map}
 use Rattle.plus_fraction.specs.Fraction.{Fraction}
 use Rattle.plus_model.specs.Terms.{State, Problem}
 use Rattle.plus_model.specs.Firing.{firing}
@@ -10,9 +10,14 @@ use Rattle.plus_settle.specs.declared.stops.GoStop.{GoStop}
 use Rattle.plus_settle.specs.declared.stops.GoStop.TheVariants as go
 use Rattle.plus_settle.specs.Confirms.{first_other}
 use Rattle.plus_stretch.specs.declared.halt.Halt.{Halt}
-use Rattle.plus_stretch.specs.declared.halt.Halt.TheVariants.{Limit}
+use Rattle.plus_stretch.specs.declared.halt.Halt.TheVariants.{Limit, Memory}
 use Rattle.plus_stretch.specs.declared.arrival.End.{End}
 use Rattle.plus_stretch.specs.declared.arrival.End.TheVariants.{EventHolds, SetEnds, Until}
+use Rattle.plus_state.specs.declared.walk.WalkStop.{WalkStop}
+use Rattle.plus_state.specs.declared.walk.WalkStop.TheVariants as walk
+use Rattle.plus_cascade.specs.Steps.{condition_nodes}
+use Rattle.plus_stretch.specs.Tests.{asks}
+use Rattle.plus_stretch.specs.Told.{Told, Never}
 use Rattle.plus_stretch.specs.After.{IsNoneSoon, IsSoon}
 
 -- whether there is one
@@ -24,6 +29,15 @@ is_some_of (x ∷ xs) = true
 abbrev pub of_go : {Q : Type 0} → GoStop Q → Halt Q
 of_go (go.Number o) = Limit (Number o)
 of_go (go.Nonlinear p k) = Limit (Nonlinear (Process p) k)
+
+-- the stop of a walk over conditions
+abbrev pub of_walk : {Q : Type 0} → WalkStop Q → Halt Q
+of_walk (walk.Number o) = Limit (Number o)
+of_walk walk.Memory = Memory
+
+-- whether an event holds
+abbrev pub EventHoldsTold : {Q : Type 0} → (Q → Fraction) → (Fraction → Type 0) → Problem → State → Result Bool (Halt Q) → Type 0
+EventHoldsTold value fits P s answer = Told value fits (map asks (condition_nodes P.events s)) (λ b. b ≡ is_some_of (firing P s)) Never answer
 
 -- nothing begins: no event holds, the set goes on, and no event holds just after
 pub record IsQuietHere (P : Problem) (s : State) (R : List ℕ) (rs : List Fraction) : Type 0 where

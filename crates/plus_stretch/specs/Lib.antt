@@ -8,3 +8,4 @@ pub mod Thinned
 pub mod Collected
 pub mod Here
 pub mod Arrives
+pub mod Among

@@ -1,19 +1,19 @@
 //! What begins at one moment along a running set.
-ghost use Rattle.std.specs.Prelude.{◌≡◌, ◌||◌, [], ◌∷◌, length, map, IfOk, IfSome};
+ghost use Rattle.std.specs.Prelude.{◌≡◌, [], ◌∷◌, length, map, IfOk, IfSome};
 ghost use Rattle.plus_fraction.specs.Fraction.{◌+ℚ◌};
-ghost use Rattle.plus_model.specs.Firing.{firing};
 ghost use Rattle.plus_model.specs.Running.{moved};
 ghost use Rattle.plus_state.specs.View.{problem_of};
 ghost use Rattle.plus_state.specs.Fits.{StateFits};
 ghost use Rattle.plus_state.specs.Asked.{node};
-ghost use Rattle.plus_state.specs.Tells.{Tells};
-ghost use Rattle.plus_cascade.specs.Steps.{condition_nodes};
+ghost use Rattle.plus_state.specs.Numbers.{event_numbers};
+ghost use Rattle.plus_state.specs.Walk.{event_conditions, OthersPass, OthersFalse};
 ghost use Rattle.plus_crossing.specs.Moves.{moved_nodes};
 ghost use Rattle.plus_settle.specs.Members.{process_numbers, AreMembers};
 ghost use Rattle.plus_stretch.specs.Tests.{asks};
 ghost use Rattle.plus_stretch.specs.StretchTests.{here_tests};
 ghost use Rattle.plus_stretch.specs.Told.{Told, Never};
-ghost use Rattle.plus_stretch.specs.Here.{is_some_of, of_go, HereIs, MomentlessHere, IsAlong};
+ghost use Rattle.plus_stretch.specs.Here.{is_some_of, of_walk, of_go, EventHoldsTold, HereIs, MomentlessHere, IsAlong};
+ghost use Rattle.plus_stretch.specs.Among.{OthersKnown};
 ghost use Rattle.plus_stretch.specs.Arrives.{ComesBy, CrossingTold, IsArrived};
 
 use crate::arrival::{Arrival, End};
@@ -23,37 +23,52 @@ use plus_crossing::moves::{MoveStop, moved_changes};
 use plus_crossing::node::exact;
 use plus_crossing::rates::Rates;
 use plus_number::exact::Exact;
-use plus_settle::confirms::first_other;
+use plus_settle::among::first_other_among;
 use plus_settle::settling::Running;
 use plus_settle::stops::GoStop;
 use plus_state::changes::Changes;
 use plus_state::outcome::{Limit, Owner};
 use plus_state::problem::Ground;
 use plus_state::states::State;
-use plus_state::term::{Overflow, Sign};
-use plus_state::truth::holds;
+use plus_state::term::{EventId, ProcessId, Sign};
+use plus_state::walk::{WalkStop, holding_among};
 use std::alloc::Global;
 
-fn either(x: bool, y: bool) -> bool
-    ensures { result ≡ x || y }
+fn walk_halt<Q: Exact>(stop: WalkStop<Q>) -> Halt<Q>
+    ensures { result ≡ of_walk stop }
 {
-    x || y
+    match stop {
+        WalkStop::Number(overflow) => Halt::Limit(Limit::Number(overflow)),
+        WalkStop::Memory => Halt::Memory,
+    }
 }
 
-// Whether an event holds.
-fn event_holds<Q: Exact>(ground: &Ground<Q>, state: &State<Q>) -> Result<bool, Overflow<Q>>
-    requires state { StateFits (length (ground.now.atoms.items)) (length (ground.now.fluents.items)) state.now }
-    ensures { Tells Q.value Q.fits (condition_nodes ((problem_of Q.value ground.now).events) state.now)
-        (λ b. b ≡ is_some_of (firing (problem_of Q.value ground.now) state.now)) result }
+fn is_some(events: &[EventId]) -> bool
+    ensures { result ≡ is_some_of (event_numbers events.now) }
 {
-    let mut found = false;
-    'each: for number in 0..ground.events.len() {
-        match holds(&ground.events[number].condition, state) {
-            Err(overflow) => return Err(overflow),
-            Ok(truth) => found = either(found, truth),
-        }
+    match events {
+        [] => false,
+        [_, ..] => true,
     }
-    Ok(found)
+}
+
+// Whether an event holds, by a look at these, where no other one does.
+fn event_holds<Q: Exact>(
+    alloc: Global,
+    ground: &Ground<Q>,
+    state: &State<Q>,
+    events: &[EventId],
+) -> Result<bool, Halt<Q>>
+    requires state { StateFits (length (ground.now.atoms.items)) (length (ground.now.fluents.items)) state.now }
+    requires events { AreMembers (length (ground.now.events.items)) (event_numbers events.now) }
+    requires pass { OthersPass Q.fits (event_conditions (problem_of Q.value ground.now)) state.now (event_numbers events.now) }
+    requires silent { OthersFalse (event_conditions (problem_of Q.value ground.now)) state.now (event_numbers events.now) }
+    ensures { EventHoldsTold Q.value Q.fits (problem_of Q.value ground.now) state.now result }
+{
+    match holding_among(alloc, ground, state, events) {
+        Err(stop) => Err(walk_halt(stop)),
+        Ok(found) => Ok(is_some(&found)),
+    }
 }
 
 fn go_halt<Q: Exact>(stop: GoStop<Q>) -> Halt<Q>
@@ -71,36 +86,43 @@ fn go_halt<Q: Exact>(stop: GoStop<Q>) -> Halt<Q>
     }
 }
 
-// What begins in a state on the way, which is reached at this time. The refusal is the first test that fails: all events,
-// then the processes just after up to the first that differs from the running set, and then the events just after up to the
-// first that holds.
+// What begins in a state on the way, which is reached at this time, by a look at these events and
+// processes, where it is known what the others tell. The refusal is the first test that fails: all
+// events, then the processes just after up to the first that differs from the running set, and then the
+// events just after up to the first that holds; or want of memory.
 fn begins_here<Q: Exact>(
+    alloc: Global,
     ground: &Ground<Q>,
     state: &State<Q>,
     running: &Running<Q>,
     time: Q,
+    events: &[EventId],
+    processes: &[ProcessId],
 ) -> Result<Option<End>, Halt<Q>>
     requires state { StateFits (length (ground.now.atoms.items)) (length (ground.now.fluents.items)) state.now }
     requires members { AreMembers (length (ground.now.processes.items)) (process_numbers running.now.members.items) }
     requires rates { length (running.now.rates) ≡ length (state.now.fluents) }
+    requires events { AreMembers (length (ground.now.events.items)) (event_numbers events.now) }
+    requires processes { AreMembers (length (ground.now.processes.items)) (process_numbers processes.now) }
+    requires others { OthersKnown Q.fits (problem_of Q.value ground.now) (process_numbers running.now.members.items) state.now running.now.rates (event_numbers events.now) (process_numbers processes.now) }
     ensures { Told Q.value Q.fits
         (here_tests (problem_of Q.value ground.now) (Q.value time) state.now (process_numbers running.now.members.items) running.now.rates [])
         (HereIs (problem_of Q.value ground.now) state.now (process_numbers running.now.members.items) running.now.rates)
         (MomentlessHere (problem_of Q.value ground.now) (Q.value time) state.now (process_numbers running.now.members.items) running.now.rates)
         result }
 {
-    match event_holds(ground, state) {
-        Err(overflow) => return Err(Halt::Limit(Limit::Number(overflow))),
+    match event_holds(alloc, ground, state, events) {
+        Err(halt) => return Err(halt),
         Ok(holds) => {
             if holds {
                 return Ok(Some(End::EventHolds));
             }
         }
     }
-    match first_other(ground, &running.members, state, &running.rates) {
+    match first_other_among(ground, &running.members, state, &running.rates, processes) {
         Err(stop) => Err(go_halt(stop)),
         Ok(Some(_)) => Ok(Some(End::SetEnds)),
-        Ok(None) => match none_soon(ground, state, &running.rates, time) {
+        Ok(None) => match none_soon(ground, state, &running.rates, time, events) {
             Err(halt) => Err(halt),
             Ok(()) => Ok(None),
         },
@@ -143,9 +165,10 @@ pub fn move_ahead<Q: Exact>(
     }
 }
 
-/// What happens so much time after the beginning of a stretch: none where nothing begins, or its end.
-/// The refusal is the first test that fails: the moment, the fluents that move, and then what is asked
-/// there; or want of memory. The state ahead is moved there.
+/// What happens so much time after the beginning of a stretch, by a look at these events and processes,
+/// where it is known what the others tell there: none where nothing begins, or its end. The refusal is
+/// the first test that fails: the moment, the fluents that move, and then what is asked there of all
+/// events and processes; or want of memory. The state ahead is moved there.
 pub fn at_root<Q: Exact>(
     alloc: Global,
     ground: &Ground<Q>,
@@ -154,18 +177,23 @@ pub fn at_root<Q: Exact>(
     running: &Running<Q>,
     time: Q,
     root: Q,
+    events: &[EventId],
+    processes: &[ProcessId],
 ) -> Result<Option<Arrival<Q>>, Halt<Q>>
     requires state { StateFits (length (ground.now.atoms.items)) (length (ground.now.fluents.items)) state.now }
     requires members { AreMembers (length (ground.now.processes.items)) (process_numbers running.now.members.items) }
     requires rates { length (running.now.rates) ≡ length (state.now.fluents) }
     requires along { IsAlong state.now running.now.rates ahead.old }
+    requires events { AreMembers (length (ground.now.events.items)) (event_numbers events.now) }
+    requires processes { AreMembers (length (ground.now.processes.items)) (process_numbers processes.now) }
+    requires others { OthersKnown Q.fits (problem_of Q.value ground.now) (process_numbers running.now.members.items) (moved state.now running.now.rates (Q.value root)) running.now.rates (event_numbers events.now) (process_numbers processes.now) }
     ensures told { CrossingTold Q.value Q.fits (problem_of Q.value ground.now) (Q.value time) state.now (process_numbers running.now.members.items) running.now.rates (Q.value root) result }
     ensures along { IsAlong state.now running.now.rates ahead.new }
     ensures arrived { IfOk result (λ o. IfSome o (IsArrived state.now ahead.new)) }
 {
     let moment = later(time, root)?;
     let changes = move_ahead(alloc, state, ahead, &running.rates, root)?;
-    match begins_here(ground, ahead, running, moment) {
+    match begins_here(alloc, ground, ahead, running, moment, events, processes) {
         Err(halt) => Err(halt),
         Ok(None) => Ok(None),
         Ok(Some(end)) => Ok(Some(Arrival {

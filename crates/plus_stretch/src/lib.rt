@@ -1,14 +1,16 @@
 //! What happens along a running set of a ground PDDL+ problem: time passes, and processes move numbers
 //! along lines, until an event holds, the set does not go on, or the given time comes.
 //!
-//! `reach` takes the roots of the live comparisons of all events and processes once, sorts those below
-//! the time asked for, and goes from one to the next. At each it visits each fluent once, and takes the
-//! condition of each event twice and of each process once, up to the first root at which something
-//! begins. It copies no state: the state ahead is lent, and what it answers are changes.
+//! `reach_among` takes the roots of the live comparisons of the listed events and processes once, sorts
+//! those below the time asked for, and goes from one to the next. At each it visits each fluent that
+//! moves once, and takes the condition of each listed event twice and of each listed process once, up to
+//! the first root at which something begins. It copies no state: the state ahead is lent, and what it
+//! answers are changes. `reach` lists all events and all processes.
 #![tactic(auto)]
 
 pub mod arrival;
 pub mod crossing;
+mod everyone;
 pub mod halt;
 pub mod laws;
 pub mod listing;
@@ -20,5 +22,5 @@ mod tests;
 
 pub use arrival::{Arrival, End};
 pub use halt::Halt;
-pub use search::reach;
-pub use soon::momentless;
+pub use search::{reach, reach_among};
+pub use soon::momentless_among;

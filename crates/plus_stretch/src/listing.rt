@@ -2,11 +2,14 @@
 ghost use Rattle.std.specs.Prelude.{◌≡◌, length, map};
 ghost use Rattle.plus_state.specs.View.{problem_of};
 ghost use Rattle.plus_state.specs.Fits.{StateFits};
+ghost use Rattle.plus_state.specs.Numbers.{event_numbers, process_numbers, AreMembers};
+ghost use Rattle.plus_state.specs.Walk.{event_conditions, process_conditions};
 ghost use Rattle.plus_stretch.specs.Tests.{event, process};
 ghost use Rattle.plus_stretch.specs.Crossings.{all_roots};
 ghost use Rattle.plus_stretch.specs.StretchTests.{root_tests};
 ghost use Rattle.plus_stretch.specs.Told.{Told, Never};
 ghost use Rattle.plus_stretch.specs.Collected.{of_roots, Collects};
+ghost use Rattle.plus_stretch.specs.Among.{OthersHaveNoRoot};
 
 use crate::halt::Halt;
 use plus_crossing::listing::{RootsStop, roots_into};
@@ -32,38 +35,51 @@ fn root_halt<Q: Exact>(stop: RootsStop<Q>, owner: Owner) -> Halt<Q>
     }
 }
 
+// Appends the roots of these events, where no other event has one.
 fn event_roots<Q: Exact>(
     ground: &Ground<Q>,
     state: &State<Q>,
     rates: &Rates<Q>,
+    events: &[EventId],
     into: &mut Vec<Q>,
 ) -> Result<(), Halt<Q>>
     requires state { StateFits (length (ground.now.atoms.items)) (length (ground.now.fluents.items)) state.now }
     requires rates { length rates.now ≡ length (state.now.fluents) }
+    requires events { AreMembers (length (ground.now.events.items)) (event_numbers events.now) }
+    requires others { OthersHaveNoRoot Q.fits (event_conditions (problem_of Q.value ground.now)) state.now rates.now (event_numbers events.now) }
     ensures { Collects Q.value Q.fits event (λ e. e.condition) ((problem_of Q.value ground.now).events) state.now rates.now into.old.items into.new.items result }
 {
-    'each: for number in 0..ground.events.len() {
-        match roots_into(&ground.events[number].condition, state, rates, into) {
-            Err(stop) => return Err(root_halt(stop, Owner::Event(EventId(number as u32)))),
+    'each: for id in events {
+        match roots_into(&ground.events[id.0 as usize].condition, state, rates, into) {
+            Err(stop) => return Err(root_halt(stop, Owner::Event(*id))),
             Ok(()) => {}
         }
     }
     Ok(())
 }
 
+// Appends the roots of these processes, where no other process has one.
 fn process_roots<Q: Exact>(
     ground: &Ground<Q>,
     state: &State<Q>,
     rates: &Rates<Q>,
+    processes: &[ProcessId],
     into: &mut Vec<Q>,
 ) -> Result<(), Halt<Q>>
     requires state { StateFits (length (ground.now.atoms.items)) (length (ground.now.fluents.items)) state.now }
     requires rates { length rates.now ≡ length (state.now.fluents) }
+    requires processes { AreMembers (length (ground.now.processes.items)) (process_numbers processes.now) }
+    requires others { OthersHaveNoRoot Q.fits (process_conditions (problem_of Q.value ground.now)) state.now rates.now (process_numbers processes.now) }
     ensures { Collects Q.value Q.fits process (λ p. p.condition) ((problem_of Q.value ground.now).processes) state.now rates.now into.old.items into.new.items result }
 {
-    'each: for number in 0..ground.processes.len() {
-        match roots_into(&ground.processes[number].condition, state, rates, into) {
-            Err(stop) => return Err(root_halt(stop, Owner::Process(ProcessId(number as u32)))),
+    'each: for id in processes {
+        match roots_into(
+            &ground.processes[id.0 as usize].condition,
+            state,
+            rates,
+            into,
+        ) {
+            Err(stop) => return Err(root_halt(stop, Owner::Process(*id))),
             Ok(()) => {}
         }
     }
@@ -71,21 +87,28 @@ fn process_roots<Q: Exact>(
 }
 
 /// The moments above 0 at which the sides of a live comparison meet, when the fluents move at these
-/// rates: those of all events and then of all processes, in ground order and in the order of the text.
-/// The refusal is the first test that fails, or want of memory.
+/// rates: those of all events and then of all processes, in ground order and in the order of the text,
+/// by a look at the listed ones alone, where no other one has a root. The refusal is the first test
+/// that fails, or want of memory.
 pub fn roots<Q: Exact>(
     alloc: Global,
     ground: &Ground<Q>,
     state: &State<Q>,
     rates: &Rates<Q>,
+    events: &[EventId],
+    processes: &[ProcessId],
 ) -> Result<Vec<Q>, Halt<Q>>
     requires state { StateFits (length (ground.now.atoms.items)) (length (ground.now.fluents.items)) state.now }
     requires rates { length rates.now ≡ length (state.now.fluents) }
+    requires events { AreMembers (length (ground.now.events.items)) (event_numbers events.now) }
+    requires processes { AreMembers (length (ground.now.processes.items)) (process_numbers processes.now) }
+    requires other_events { OthersHaveNoRoot Q.fits (event_conditions (problem_of Q.value ground.now)) state.now rates.now (event_numbers events.now) }
+    requires other_processes { OthersHaveNoRoot Q.fits (process_conditions (problem_of Q.value ground.now)) state.now rates.now (process_numbers processes.now) }
     ensures { Told Q.value Q.fits (root_tests (problem_of Q.value ground.now) state.now rates.now)
         (λ roots. map Q.value roots.items ≡ all_roots (problem_of Q.value ground.now) state.now rates.now) Never result }
 {
     let mut roots = Vec::new(alloc);
-    event_roots(ground, state, rates, &mut roots)?;
-    process_roots(ground, state, rates, &mut roots)?;
+    event_roots(ground, state, rates, events, &mut roots)?;
+    process_roots(ground, state, rates, processes, &mut roots)?;
     Ok(roots)
 }

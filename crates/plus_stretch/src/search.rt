@@ -5,6 +5,9 @@ ghost use Rattle.plus_model.specs.Running.{rates as rates_of, GoesOn};
 ghost use Rattle.plus_state.specs.View.{problem_of};
 ghost use Rattle.plus_state.specs.Fits.{StateFits};
 ghost use Rattle.plus_state.specs.Asked.{node};
+ghost use Rattle.plus_state.specs.Numbers.{event_numbers};
+ghost use Rattle.plus_state.specs.Walk.{event_conditions, process_conditions, OthersFalse};
+ghost use Rattle.plus_still.specs.Others.{OthersStill};
 ghost use Rattle.plus_settle.specs.Members.{process_numbers, AreMembers};
 ghost use Rattle.plus_stretch.specs.Tests.{asks, AllPass};
 ghost use Rattle.plus_stretch.specs.StretchTests.{root_tests};
@@ -16,6 +19,7 @@ ghost use Rattle.plus_stretch.specs.Arrives.{IsArrived, WalkTold, StretchTold};
 
 use crate::arrival::{Arrival, End};
 use crate::crossing::{at_root, move_ahead};
+use crate::everyone::everyone;
 use crate::halt::Halt;
 use crate::listing::roots;
 use crate::soon::none_soon;
@@ -26,7 +30,7 @@ use plus_settle::settling::Running;
 use plus_state::outcome::Limit;
 use plus_state::problem::Ground;
 use plus_state::states::State;
-use plus_state::term::Sign;
+use plus_state::term::{EventId, ProcessId, Sign};
 use std::alloc::Global;
 
 // A stretch of time: from a moment up to another, and how long that is.
@@ -37,7 +41,8 @@ struct Span<Q> {
     length: Q,
 }
 
-// From one of these roots to the next, up to the first at which something begins, or to the end.
+// From one of these roots to the next, up to the first at which something begins, or to the end, by a look at these events
+// and processes, where all others stand still.
 fn walk<Q: Exact>(
     alloc: Global,
     ground: &Ground<Q>,
@@ -46,6 +51,8 @@ fn walk<Q: Exact>(
     running: &Running<Q>,
     span: Span<Q>,
     roots: &[Q],
+    events: &[EventId],
+    processes: &[ProcessId],
 ) -> Result<Arrival<Q>, Halt<Q>>
     requires state { StateFits (length (ground.now.atoms.items)) (length (ground.now.fluents.items)) state.now }
     requires members { AreMembers (length (ground.now.processes.items)) (process_numbers running.now.members.items) }
@@ -58,6 +65,11 @@ fn walk<Q: Exact>(
     requires length { Q.value span.length ≡ Q.value span.until -ℚ Q.value span.from }
     requires roots { AreLeft (problem_of Q.value ground.now) state.now running.now.rates (whole (pos 0)) (Q.value span.length) (map Q.value roots.now) }
     requires along { IsAlong state.now running.now.rates ahead.old }
+    requires events { AreMembers (length (ground.now.events.items)) (event_numbers events.now) }
+    requires processes { AreMembers (length (ground.now.processes.items)) (process_numbers processes.now) }
+    requires other_events { OthersStill Q.fits (event_conditions (problem_of Q.value ground.now)) state.now running.now.rates (event_numbers events.now) }
+    requires silent { OthersFalse (event_conditions (problem_of Q.value ground.now)) state.now (event_numbers events.now) }
+    requires other_processes { OthersStill Q.fits (process_conditions (problem_of Q.value ground.now)) state.now running.now.rates (process_numbers processes.now) }
     ensures told { WalkTold Q.value Q.fits (problem_of Q.value ground.now) (Q.value span.until) (Q.value span.from) state.now (process_numbers running.now.members.items) running.now.rates (Q.value span.length) (map Q.value roots.now) result }
     ensures along { IsAlong state.now running.now.rates ahead.new }
     ensures arrived { IfOk result (IsArrived state.now ahead.new) }
@@ -68,7 +80,9 @@ fn walk<Q: Exact>(
         length,
     } = span;
     'each: for root in roots {
-        match at_root(alloc, ground, state, ahead, running, from, *root) {
+        match at_root(
+            alloc, ground, state, ahead, running, from, *root, events, processes,
+        ) {
             Err(halt) => return Err(halt),
             Ok(Some(arrival)) => return Ok(arrival),
             Ok(None) => {}
@@ -97,13 +111,67 @@ fn time_left<Q: Exact>(time: Q, until: Q) -> Result<Q, Halt<Q>>
 
 /// How far a running set goes on from a time: the first moment, at most the one asked for, at which an
 /// event holds or the set does not go on. The rates are those of its members in the state, and they go
-/// on in it; the time asked for is later. The refusal is the first test that fails, in this order: the
-/// events just after the state, up to the first that holds; the time that is left; the roots of all
-/// events and all processes; then root by root below the time asked for, from the least, the moment,
-/// the fluents that move, all events, the processes just after up to the first that differs, and the
-/// events just after up to the first that holds; at last the fluents that move up to the time asked
-/// for. Want of memory may come at any time. The state ahead is one more copy of the state, which is
-/// moved on the way and is the state on arrival then.
+/// on in it; the time asked for is later. Only the listed events and processes are looked at: no other
+/// one reads a fluent that moves, what each other one asks in the state passes, and no other event holds
+/// in it. The refusal is the first test that fails, in this order: the events just after the state, up
+/// to the first that holds; the time that is left; the roots of all events and all processes; then root
+/// by root below the time asked for, from the least, the moment, the fluents that move, all events, the
+/// processes just after up to the first that differs, and the events just after up to the first that
+/// holds; at last the fluents that move up to the time asked for. Want of memory may come at any time.
+/// The state ahead is one more copy of the state, which is moved on the way and is the state on arrival
+/// then.
+pub fn reach_among<Q: Exact>(
+    alloc: Global,
+    ground: &Ground<Q>,
+    state: &State<Q>,
+    ahead: &mut State<Q>,
+    running: &Running<Q>,
+    time: Q,
+    until: Q,
+    events: &[EventId],
+    processes: &[ProcessId],
+) -> Result<Arrival<Q>, Halt<Q>>
+    requires state { StateFits (length (ground.now.atoms.items)) (length (ground.now.fluents.items)) state.now }
+    requires members { AreMembers (length (ground.now.processes.items)) (process_numbers running.now.members.items) }
+    requires size { length (running.now.rates) ≡ length (state.now.fluents) }
+    requires rates { rates_of (problem_of Q.value ground.now) state.now (process_numbers running.now.members.items) ≡ Ok running.now.rates }
+    requires on { GoesOn (problem_of Q.value ground.now) state.now running.now.rates (process_numbers running.now.members.items) }
+    requires later { Q.value time <ℚ Q.value until }
+    requires ahead { ahead.old ≡ state.now }
+    requires events { AreMembers (length (ground.now.events.items)) (event_numbers events.now) }
+    requires processes { AreMembers (length (ground.now.processes.items)) (process_numbers processes.now) }
+    requires other_events { OthersStill Q.fits (event_conditions (problem_of Q.value ground.now)) state.now running.now.rates (event_numbers events.now) }
+    requires silent { OthersFalse (event_conditions (problem_of Q.value ground.now)) state.now (event_numbers events.now) }
+    requires other_processes { OthersStill Q.fits (process_conditions (problem_of Q.value ground.now)) state.now running.now.rates (process_numbers processes.now) }
+    ensures told { StretchTold Q.value Q.fits (problem_of Q.value ground.now) (Q.value until) (Q.value time) state.now (process_numbers running.now.members.items) running.now.rates result }
+    ensures along { IsAlong state.now running.now.rates ahead.new }
+    ensures arrived { IfOk result (IsArrived state.now ahead.new) }
+{
+    none_soon(ground, state, &running.rates, time, events)?;
+    let length = time_left(time, until)?;
+    let all = roots(alloc, ground, state, &running.rates, events, processes)?;
+    match rising(alloc, all, length) {
+        Err(_) => Err(Halt::Memory),
+        Ok(different) => walk(
+            alloc,
+            ground,
+            state,
+            ahead,
+            running,
+            Span {
+                from: time,
+                until,
+                length,
+            },
+            &different,
+            events,
+            processes,
+        ),
+    }
+}
+
+/// How far a running set goes on from a time, by a look at all events and processes: that of
+/// `reach_among` with all numbers.
 pub fn reach<Q: Exact>(
     alloc: Global,
     ground: &Ground<Q>,
@@ -124,23 +192,10 @@ pub fn reach<Q: Exact>(
     ensures along { IsAlong state.now running.now.rates ahead.new }
     ensures arrived { IfOk result (IsArrived state.now ahead.new) }
 {
-    none_soon(ground, state, &running.rates, time)?;
-    let length = time_left(time, until)?;
-    let all = roots(alloc, ground, state, &running.rates)?;
-    match rising(alloc, all, length) {
+    match everyone(alloc, ground) {
         Err(_) => Err(Halt::Memory),
-        Ok(different) => walk(
-            alloc,
-            ground,
-            state,
-            ahead,
-            running,
-            Span {
-                from: time,
-                until,
-                length,
-            },
-            &different,
+        Ok((events, processes)) => reach_among(
+            alloc, ground, state, ahead, running, time, until, &events, &processes,
         ),
     }
 }

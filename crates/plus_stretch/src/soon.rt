@@ -1,8 +1,10 @@
 //! The events that hold just after a state.
 ghost use Rattle.std.specs.Prelude.{◌≡◌, length};
+ghost use Rattle.plus_state.specs.Numbers.{event_numbers, AreMembers};
 ghost use Rattle.plus_state.specs.View.{event_of, problem_of};
 ghost use Rattle.plus_state.specs.Fits.{EventFits, StateFits};
 ghost use Rattle.plus_stretch.specs.After.{SoonTells, MomentlessTells, NoneSoonTold};
+ghost use Rattle.plus_stretch.specs.Among.{OthersNotSoon};
 
 use crate::halt::Halt;
 use plus_crossing::afters::just_after;
@@ -35,25 +37,28 @@ fn holds_after<Q: Exact>(
     }
 }
 
-/// The first event, in ground order, that holds just after a state when the fluents move at these rates.
-/// The refusal is the first test that fails: the events in ground order up to the first that holds, of
-/// each its live comparisons.
-pub fn momentless<Q: Exact>(
+/// The first event, in ground order, that holds just after a state when the fluents move at these rates,
+/// by a look at the listed events alone: each other one is known not to hold just after, and what it
+/// asks to pass. So the refusal is the first test that fails: all events in ground order up to the first
+/// that holds, of each its live comparisons.
+pub fn momentless_among<Q: Exact>(
     ground: &Ground<Q>,
     state: &State<Q>,
     rates: &Rates<Q>,
+    events: &[EventId],
 ) -> Result<Option<EventId>, Limit<Q>>
     requires state { StateFits (length (ground.now.atoms.items)) (length (ground.now.fluents.items)) state.now }
     requires rates { length rates.now ≡ length (state.now.fluents) }
+    requires events { AreMembers (length (ground.now.events.items)) (event_numbers events.now) }
+    requires others { OthersNotSoon Q.fits (problem_of Q.value ground.now) state.now rates.now (event_numbers events.now) }
     ensures { MomentlessTells Q.value Q.fits (problem_of Q.value ground.now) state.now rates.now result }
 {
-    'each: for number in 0..ground.events.len() {
-        let id = EventId(number as u32);
-        match holds_after(&ground.events[number], id, state, rates) {
+    'each: for id in events {
+        match holds_after(&ground.events[id.0 as usize], *id, state, rates) {
             Err(limit) => return Err(limit),
             Ok(truth) => {
                 if truth {
-                    return Ok(Some(id));
+                    return Ok(Some(*id));
                 }
             }
         }
@@ -67,12 +72,15 @@ pub fn none_soon<Q: Exact>(
     state: &State<Q>,
     rates: &Rates<Q>,
     time: Q,
+    events: &[EventId],
 ) -> Result<(), Halt<Q>>
     requires state { StateFits (length (ground.now.atoms.items)) (length (ground.now.fluents.items)) state.now }
     requires rates { length rates.now ≡ length (state.now.fluents) }
+    requires events { AreMembers (length (ground.now.events.items)) (event_numbers events.now) }
+    requires others { OthersNotSoon Q.fits (problem_of Q.value ground.now) state.now rates.now (event_numbers events.now) }
     ensures { NoneSoonTold Q.value Q.fits (problem_of Q.value ground.now) (Q.value time) state.now rates.now result }
 {
-    match momentless(ground, state, rates) {
+    match momentless_among(ground, state, rates, events) {
         Err(limit) => Err(Halt::Limit(limit)),
         Ok(Some(event)) => Err(Halt::NoFirstMoment { event, time }),
         Ok(None) => Ok(()),

@@ -2,6 +2,7 @@ use Rattle.std.proofs.lemmas.Result.{err_from_is_err_and}
 use Rattle.std.specs.Prelude.{Some, None}
 use Rattle.plus_state.specs.View.{problem_of}
 use Rattle.plus_stretch.proofs.CrossingLemmas.{halt_moment, halt_moves, halt_here, pass_here, fits_ahead, rates_ahead}
+use Rattle.plus_stretch.proofs.Known.{known_at}
 use Rattle.plus_stretch.proofs.crossing.at_root.Goals as goal
 
 pub returns-in_err-moment-clause-told : goal.returns-in_err-moment-clause-told
@@ -19,6 +20,9 @@ begins_here-requires-clause-state g c = fits_ahead _ _ _ _ _ c.requires.state c.
 
 pub begins_here-requires-clause-rates : goal.begins_here-requires-clause-rates
 begins_here-requires-clause-rates g c = rates_ahead _ _ _ c.requires.rates c.move_ahead.ensures.along
+
+pub begins_here-requires-clause-others : goal.begins_here-requires-clause-others
+begins_here-requires-clause-others g c = known_at _ (problem_of g.Q.Exact.value c.args.ground.now) _ _ _ _ _ _ c.in_ok-changes.ensures.there c.requires.others
 
 pub returns-in-Err-clause-told : goal.returns-in-Err-clause-told
 returns-in-Err-clause-told g c =

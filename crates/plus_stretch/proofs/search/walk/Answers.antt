@@ -2,6 +2,7 @@ use Rattle.std.proofs.Common.{refl, sym, ◌∙◌}
 use Rattle.plus_state.specs.View.{problem_of}
 use Rattle.plus_state.proofs.TestsLemmas.{next_member, no_member}
 use Rattle.plus_stretch.proofs.SearchLemmas.{walking_start, walking_next, walking_halt, walking_arrives, walking_end, halt_end}
+use Rattle.plus_stretch.proofs.Known.{known_along}
 use Rattle.plus_stretch.proofs.search.walk.Goals as goal
 
 pub each-init : goal.each-init
@@ -21,6 +22,16 @@ at_root-requires-clause-rates g c = c.requires.size
 
 pub at_root-requires-clause-along : goal.at_root-requires-clause-along
 at_root-requires-clause-along g c = c.each.invariant.along
+
+pub at_root-requires-clause-events : goal.at_root-requires-clause-events
+at_root-requires-clause-events g c = c.requires.events
+
+pub at_root-requires-clause-processes : goal.at_root-requires-clause-processes
+at_root-requires-clause-processes g c = c.requires.processes
+
+pub at_root-requires-clause-others : goal.at_root-requires-clause-others
+at_root-requires-clause-others g c =
+    known_along _ (problem_of g.Q.Exact.value c.args.ground.now) _ _ _ _ _ _ g.met.Q.Exact.zero_fits c.requires.on c.requires.other_events c.requires.silent c.requires.other_processes
 
 pub returns-in-Err-clause-told : goal.returns-in-Err-clause-told
 returns-in-Err-clause-told g c =

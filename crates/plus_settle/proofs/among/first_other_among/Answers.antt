@@ -1,0 +1,53 @@
+use Rattle.std.proofs.Common.{◌<◌, length, get_or, ap₂, sym, ◌∙◌, arith}
+use Rattle.plus_state.specs.View.{problem_of}
+use Rattle.plus_settle.specs.Confirms.{differ}
+use Rattle.plus_still.proofs.Listed.{walked_next}
+use Rattle.plus_settle.proofs.MembersLemmas.{next_number, no_number, all_fit, process_here, are_members}
+use Rattle.plus_settle.proofs.ConfirmsLemmas.{confirming_inside, confirming_stops, confirming_next, confirming_found}
+use Rattle.plus_settle.proofs.AmongLemmas.{agreeing_start, agreeing_end, confirming_at, listed_inside}
+use Rattle.plus_settle.proofs.among.first_other_among.Goals as goal
+
+pub each-init : goal.each-init
+each-init g c = agreeing_start _ (problem_of g.Q.Exact.value c.args.ground.now) _ _ _ _ (all_fit _ _ _ _ c.requires.state c.args.ground.now.fits.processes) (are_members g.Q.Exact.value c.args.ground.now _ c.requires.listed)
+
+pub index-requires : goal.index-requires
+index-requires g c =
+    let e = next_number c.args.listed.now c.each.id-index _ c.each-test.true in
+    let b : (get_or c.args.listed.now c.each.id-index (record { 0 = 0 })).0 < length c.args.ground.now.processes.items = listed_inside g.Q.Exact.value c.args.ground.now _ _ _ _ (rw e at c.each.invariant) in
+    omega (arith, c.args.ground.now.processes.ok.0)
+
+pub runs_after-requires-clause-fits : goal.runs_after-requires-clause-fits
+runs_after-requires-clause-fits g c =
+    let e = next_number c.args.listed.now c.each.id-index _ c.each-test.true in
+    let b : (get_or c.args.listed.now c.each.id-index (record { 0 = 0 })).0 < length c.args.ground.now.processes.items = listed_inside g.Q.Exact.value c.args.ground.now _ _ _ _ (rw e at c.each.invariant) in
+    let here = process_here g.Q.Exact.value c.args.ground.now.processes.items _ c.index.result.now b c.index.ensures in
+    confirming_inside _ _ _ _ _ _ _ _ (confirming_at _ (problem_of g.Q.Exact.value c.args.ground.now) _ _ _ _ _ _ _ c.requires.others here (rw e at c.each.invariant))
+
+pub returns-in-Err : goal.returns-in-Err
+returns-in-Err g c =
+    let e = next_number c.args.listed.now c.each.id-index _ c.each-test.true in
+    let b : (get_or c.args.listed.now c.each.id-index (record { 0 = 0 })).0 < length c.args.ground.now.processes.items = listed_inside g.Q.Exact.value c.args.ground.now _ _ _ _ (rw e at c.each.invariant) in
+    let here = process_here g.Q.Exact.value c.args.ground.now.processes.items _ c.index.result.now b c.index.ensures in
+    confirming_stops _ _ _ _ _ _ _ _ (confirming_at _ (problem_of g.Q.Exact.value c.args.ground.now) _ _ _ _ _ _ _ c.requires.others here (rw e at c.each.invariant)) g.Q.Exact.value c.in-Err.stop c.in-Err.ensures
+
+pub returns-then-differ : goal.returns-then-differ
+returns-then-differ g c =
+    let e = next_number c.args.listed.now c.each.id-index _ c.each-test.true in
+    let b : (get_or c.args.listed.now c.each.id-index (record { 0 = 0 })).0 < length c.args.ground.now.processes.items = listed_inside g.Q.Exact.value c.args.ground.now _ _ _ _ (rw e at c.each.invariant) in
+    let here = process_here g.Q.Exact.value c.args.ground.now.processes.items _ c.index.result.now b c.index.ensures in
+    let t = c.in-Ok.ensures in
+    let d = sym (ap₂ differ t.1 c.is_member.ensures) ∙ sym c.differ.ensures ∙ c.if-differ.true in
+    confirming_found _ _ _ _ _ _ _ _ (confirming_at _ (problem_of g.Q.Exact.value c.args.ground.now) _ _ _ _ _ _ _ c.requires.others here (rw e at c.each.invariant)) t.0 t.2 here d
+
+pub each-preserved : goal.each-preserved
+each-preserved g c =
+    let e = next_number c.args.listed.now c.each.id-index _ c.each-test.true in
+    let b : (get_or c.args.listed.now c.each.id-index (record { 0 = 0 })).0 < length c.args.ground.now.processes.items = listed_inside g.Q.Exact.value c.args.ground.now _ _ _ _ (rw e at c.each.invariant) in
+    let here = process_here g.Q.Exact.value c.args.ground.now.processes.items _ c.index.result.now b c.index.ensures in
+    let t = c.in-Ok.ensures in
+    let d = sym (ap₂ differ t.1 c.is_member.ensures) ∙ sym c.differ.ensures ∙ c.if-differ.false in
+    walked_next _ _ _ _ _ (rw e at c.each.invariant) (confirming_next _ _ _ _ _ _ _ _ (confirming_at _ (problem_of g.Q.Exact.value c.args.ground.now) _ _ _ _ _ _ _ c.requires.others here (rw e at c.each.invariant)) t.0 t.2 here d)
+
+pub returns : goal.returns
+returns g c =
+    agreeing_end _ (problem_of g.Q.Exact.value c.args.ground.now) _ _ _ _ c.requires.others (rw (no_number c.args.listed.now c.each.id-index c.each-test.false) at c.each.invariant) (are_members g.Q.Exact.value c.args.ground.now _ c.requires.members)
