@@ -165,7 +165,7 @@ and_reads m ls all = turn {after = Any} (40 ∷ (codes "and" ++ (spaced leaf_tex
     (head_reads {S = Ended} (codes "and") (spaced leaf_text ls) (name_reads (codes "and") and_small) (spaced_again m Leaf SpellsLeaf bare_leaf leaf_text ls all) (spaced_leads Leaf leaf_text ls))
 
 -- a write that stands bare needs no room for an `and`
-bare_reads : (n : ℕ) (x : Leaf) → LeafAgain n x → LeavesAgain n (x ∷ [])
+pub bare_reads : (n : ℕ) (x : Leaf) → LeafAgain n x → LeavesAgain n (x ∷ [])
 unfolding leaves_text
 bare_reads n x r = turn {after = Ended} (leaf_text x) (λ ts a. record {
   again = a.again ∷ [];

@@ -58,7 +58,7 @@ GoodPart k (d_process a) = GoodSchema k a
 GoodPart k (d_event a) = GoodSchema k a
 
 -- a section begins with a keyword
-part_kind : (p : Piece) (h : DomainWord) → domain_part_of p ≡ h → (domains.Other ≡ h → ⊥) → is_flat p.kind ≡ true
+pub part_kind : (p : Piece) (h : DomainWord) → domain_part_of p ≡ h → (domains.Other ≡ h → ⊥) → is_flat p.kind ≡ true
 part_kind p h e apart = ap is_flat (keyword_says domain_part_of domains.Other (λ q f. cond-false (is_keyword q.kind) _ domains.Other f) p h e apart)
 
 part_good : (k : ℕ) (x : DomainPart) (ts : List Piece) → Fine (suc (suc k)) ts → SpellsDomainPart x ts → GoodPart k x
@@ -79,7 +79,7 @@ part_good k (d_process xs) ts l (s, p, body, is, wrapped, c, e) =
 part_good k (d_event xs) ts l (s, p, body, is, wrapped, c, e) =
     let f = section_inside (suc k) s p body ts (part_kind p domains.Event is (λ e. cc)) wrapped (schema_level xs body c) l in schema_good k xs body f c
 
-part_level : (x : DomainPart) (ts : List Piece) → SpellsDomainPart x ts → Level ts
+pub part_level : (x : DomainPart) (ts : List Piece) → SpellsDomainPart x ts → Level ts
 part_level (d_requirements xs) ts (s, p, body, is, wrapped, c) = section_level s p body ts (part_kind p domains.Requirements is (λ e. cc)) wrapped (chain_level Spelled SpellsRequirement requirement_level xs body c)
 part_level (d_types xs) ts (s, p, body, is, wrapped, c) = section_level s p body ts (part_kind p domains.Types is (λ e. cc)) wrapped (level_listing Names 0 c.0 body c.1)
 part_level (d_constants xs) ts (s, p, body, is, wrapped, c) = section_level s p body ts (part_kind p domains.Constants is (λ e. cc)) wrapped (level_list Names 0 xs body c)

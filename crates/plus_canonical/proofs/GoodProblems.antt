@@ -62,7 +62,7 @@ GoodPart m (p_goal c) = CondAgain m c
 GoodPart m p_metric = Unit {0}
 
 -- a section begins with a keyword
-part_kind : (p : Piece) (h : ProblemWord) → problem_part_of p ≡ h → (problems.Other ≡ h → ⊥) → is_flat p.kind ≡ true
+pub part_kind : (p : Piece) (h : ProblemWord) → problem_part_of p ≡ h → (problems.Other ≡ h → ⊥) → is_flat p.kind ≡ true
 part_kind p h e apart = ap is_flat (keyword_says problem_part_of problems.Other (λ q f. cond-false (is_keyword q.kind) _ problems.Other f) p h e apart)
 
 part_good : (m : ℕ) (x : ProblemPart) (ts : List Piece) → Fine (suc m) ts → SpellsProblemPart x ts → GoodPart m x
@@ -79,7 +79,7 @@ part_good m (p_goal xs) ts l (s, p, body, is, wrapped, c) =
     let f = section_inside m s p body ts (part_kind p problems.Goal is (λ e. cc)) wrapped (level_cond xs body c) l in cond_again m xs body f c
 part_good m p_metric ts l c = tt
 
-part_level : (x : ProblemPart) (ts : List Piece) → SpellsProblemPart x ts → Level ts
+pub part_level : (x : ProblemPart) (ts : List Piece) → SpellsProblemPart x ts → Level ts
 part_level (p_domain x) ts (s, p, n, is, wrapped, name, e) = section_level s p (n ∷ []) ts (part_kind p problems.Domain is (λ e. cc)) wrapped (level_flat n [] (ap is_flat name) level_none)
 part_level (p_requirements xs) ts (s, p, body, is, wrapped, c) = section_level s p body ts (part_kind p problems.Requirements is (λ e. cc)) wrapped (chain_level Spelled SpellsRequirement requirement_level xs body c)
 part_level (p_objects xs) ts (s, p, body, is, wrapped, c) = section_level s p body ts (part_kind p problems.Objects is (λ e. cc)) wrapped (level_list Names 0 xs body c)

@@ -54,7 +54,7 @@ not_again m allowed u r = turn {after = Ended} (absent_text u) (λ ts f. record 
   same = f.body_is.same;
 }) (loosen (absent_text u) (one_reads (codes "not") (use_text u) (name_reads (codes "not") not_small) (loosen (use_text u) r)))
 
-not_level : (allowed : Allowed) (u : Use) (s : Span) (ts : List Piece) → SpellsNot allowed u s ts → Level ts
+pub not_level : (allowed : Allowed) (u : Use) (s : Span) (ts : List Piece) → SpellsNot allowed u s ts → Level ts
 not_level allowed u s ts (a, inner, is, wrapped, spelled) = level_wrapped s (a ∷ inner) ts wrapped (level_flat a inner (ap is_flat is.0) (level_use allowed u inner spelled))
 
 absent_again : (n : ℕ) (allowed : Allowed) (u : Use) (s : Span) (ts : List Piece) → Fine n ts → SpellsNot allowed u s ts → AbsentAgain n allowed u

@@ -59,7 +59,7 @@ GoodKey k (k_condition c) = CondAgain (suc k) c
 GoodKey k (k_effect e) = EffectAgain (suc k) e
 
 -- a key is a keyword
-key_kind : (p : Piece) (h : KeyWord) → key_of p ≡ h → (keys.Other ≡ h → ⊥) → is_flat p.kind ≡ true
+pub key_kind : (p : Piece) (h : KeyWord) → key_of p ≡ h → (keys.Other ≡ h → ⊥) → is_flat p.kind ≡ true
 key_kind p h e apart = ap is_flat (keyword_says key_of keys.Other (λ q f. cond-false (is_keyword q.kind) _ keys.Other f) p h e apart)
 
 key_good : (k : ℕ) (x : Key) (ts : List Piece) → Fine (suc k) ts → SpellsKey x ts → GoodKey k x
@@ -70,7 +70,7 @@ key_good k (k_condition c) ts l (p, inner, is, spelled, whole) =
 key_good k (k_effect e) ts l (p, inner, is, spelled, whole) =
     let f = fine_behind (suc k) p inner (key_kind p keys.Effect is (λ e. cc)) (fine_at (suc k) ts (p ∷ inner) whole l) in effect_again (suc k) e inner f spelled
 
-key_level : (x : Key) (ts : List Piece) → SpellsKey x ts → Level ts
+pub key_level : (x : Key) (ts : List Piece) → SpellsKey x ts → Level ts
 key_level (k_parameters vs) ts (p, inner, is, spelled, whole) = level_at ts (p ∷ inner) whole (level_flat p inner (key_kind p keys.Parameters is (λ e. cc)) (level_variables vs inner spelled))
 key_level (k_condition c) ts (p, inner, is, spelled, whole) = level_at ts (p ∷ inner) whole (level_flat p inner (key_kind p keys.Precondition is (λ e. cc)) (level_cond c inner spelled))
 key_level (k_effect x) ts (p, inner, is, spelled, whole) = level_at ts (p ∷ inner) whole (level_flat p inner (key_kind p keys.Effect is (λ e. cc)) (level_effect x inner spelled))

@@ -84,11 +84,11 @@ all_rooms X P G f (x ∷ xs) g = both_rooms (λ n. P n x) (λ n. AllOf (P n) xs)
 
 -- ---- uses and expressions
 
-term_reads : (n : ℕ) (allowed : Allowed) (t : Term) → GoodTerm allowed t → TermAgain n allowed t
+pub term_reads : (n : ℕ) (allowed : Allowed) (t : Term) → GoodTerm allowed t → TermAgain n allowed t
 term_reads n allowed (Object x) g = object_again n allowed x g.0 g.1
 term_reads n allowed (Variable x) g = variable_again n allowed x g.0 g.1
 
-args_read : (n : ℕ) (allowed : Allowed) (ts : List Term) → AllOf (GoodTerm allowed) ts → AllOf (TermAgain n allowed) ts
+pub args_read : (n : ℕ) (allowed : Allowed) (ts : List Term) → AllOf (GoodTerm allowed) ts → AllOf (TermAgain n allowed) ts
 args_read n allowed [] g = tt
 args_read n allowed (t ∷ ts) g = (term_reads n allowed t g.0, args_read n allowed ts g.1)
 

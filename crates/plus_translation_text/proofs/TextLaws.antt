@@ -12,6 +12,8 @@ use Rattle.plus_tree.specs.declared.terms.Use.{Use}
 use Rattle.plus_tree.specs.declared.trees.Schema.{Schema}
 use Rattle.plus_tree.specs.declared.trees.Init.{Init}
 use Rattle.plus_tree.specs.declared.trees.Init.TheVariants.{Holds, Absent, Value, At, AtNot}
+use Rattle.plus_tree.specs.declared.trees.Domain.{Domain}
+use Rattle.plus_tree.specs.declared.trees.Problem.{Problem}
 use Rattle.plus_types.specs.Faults.{Context, problem_context, use_faults, init_faults, initial_faults, valued_after, arguments_faults, declared_faults, fault_where, term_faults, argument_faults, params_of}
 use Rattle.plus_types.proofs.SoundLemmas.{left-none, right-none}
 use Rattle.plus_types.specs.declared.faults.Wrong.TheVariants.{Arity}
@@ -22,9 +24,12 @@ use Rattle.plus_reading.specs.Spells.{FitsDepth}
 use Rattle.plus_canonical.proofs.Forms.{AllOf}
 use Rattle.plus_translation.specs.Renamed.{bindings_in, effect_bindings}
 use Rattle.plus_translation.specs.Translated.{Due, steps_to, time_of, due_at, due_by, translated_domain, translated_problem}
-use Rattle.plus_translation_text.specs.Laws.{variables_of, TranslationReadsAgain, SpellsWithinItsDepth}
+use Rattle.plus_parser.specs.SpellsDomain.{Spells}
+use Rattle.plus_parser.specs.SpellsProblem.{SpellsProblem}
+use Rattle.plus_translation.specs.Laws.{CanBeTranslated}
+use Rattle.plus_translation_text.specs.Laws.{FitsText, variables_of, TranslationReadsAgain, SpellsWithinItsDepth}
 use Rattle.plus_translation_text.proofs.Good.{GoodTerm, GoodUse, GoodInit}
-use Rattle.plus_translation_text.proofs.Rooms.{tree_reads, task_reads}
+use Rattle.plus_translation_text.proofs.Rooms.{GoodTree, GoodTask, tree_reads, task_reads}
 use Rattle.plus_translation_text.proofs.SpelledGood.{tree_good, task_good}
 use Rattle.plus_translation_text.proofs.GoodTranslated.{GoodDue, Printable, translated_tree_good, translated_task_good}
 
@@ -70,8 +75,9 @@ few_variables (a ∷ more) h =
     let l = All-head (λ (a : Schema). variables_of a < 2 ^ 64) a more h in
     (omega (arith, l), few_variables more (All-tail (λ (a : Schema). variables_of a < 2 ^ 64) a more h))
 
-pub translation_reads_again : TranslationReadsAgain
-translation_reads_again text task d p q sd sp can fits =
+-- the translated trees are good
+pub translated_good : (text task : List ℕ) (d : Domain) (p : Problem) (q : Fraction) → Spells text d → SpellsProblem task p → CanBeTranslated d p q → FitsText d p q → GoodTree (translated_domain q d p) × GoodTask (translated_problem q d p)
+translated_good text task d p q sd sp can fits =
     let g = tree_good text d sd in
     let h = task_good task p sp in
     let t = pair-typed d p (no-type-fault d p can.typed) in
@@ -82,7 +88,11 @@ translation_reads_again text task d p q sd sp can fits =
       variables = few_variables d.events fits.variables;
       due = all_due q (problem_context d p) [] p.init t.init h.init fits.times;
     } in
-    (tree_reads (translated_domain q d p) (translated_tree_good q d p few g h), task_reads (translated_problem q d p) (translated_task_good q d p few g h))
+    (translated_tree_good q d p few g h, translated_task_good q d p few g h)
+
+pub translation_reads_again : TranslationReadsAgain
+translation_reads_again text task d p q sd sp can fits =
+    let g = translated_good text task d p q sd sp can fits in (tree_reads (translated_domain q d p) g.0, task_reads (translated_problem q d p) g.1)
 
 -- ---- the depth
 
