@@ -6,7 +6,8 @@ ghost use Rattle.plus_state.specs.Fits.{StateFits};
 ghost use Rattle.plus_state.specs.Changes.{RisesIn};
 ghost use Rattle.plus_state.specs.Asked.{AllFit};
 ghost use Rattle.plus_state.specs.Applies.{ChangesJointly};
-ghost use Rattle.plus_state.specs.Numbers.{event_numbers};
+ghost use Rattle.plus_state.specs.Numbers.{AreMembers, event_numbers};
+ghost use Rattle.plus_state.specs.Walk.{event_conditions, OthersFalse, OthersPass};
 ghost use Rattle.plus_cascade.specs.Steps.{condition_nodes};
 ghost use Rattle.plus_cascade.specs.Rounds.{ConditionStops, of_walk};
 
@@ -18,7 +19,7 @@ use plus_state::outcome::JointStop;
 use plus_state::problem::Ground;
 use plus_state::states::State;
 use plus_state::term::EventId;
-use plus_state::walk::{WalkStop, holding_of_all};
+use plus_state::walk::{WalkStop, holding_among, holding_of_all};
 use std::alloc::Global;
 
 // The stop of a walk as that of a round.
@@ -45,6 +46,29 @@ pub fn firing<Q: Exact>(
 {
     match holding_of_all(alloc, ground, state) {
         Ok(events) => Ok(events),
+        Err(stop) => Err(walk_stop(stop)),
+    }
+}
+
+// The events whose condition holds, in ground order, by a look at some of them, where of all others it
+// is known that they do not hold and that what they ask passes.
+pub fn firing_among<Q: Exact>(
+    alloc: Global,
+    ground: &Ground<Q>,
+    state: &State<Q>,
+    looked_at: &[EventId],
+) -> Result<Vec<EventId>, CascadeStop<Q>>
+    requires state { StateFits (length (ground.now.atoms.items)) (length (ground.now.fluents.items)) state.now }
+    requires members { AreMembers (length (ground.now.events.items)) (event_numbers looked_at.now) }
+    requires pass { OthersPass Q.fits (event_conditions (problem_of Q.value ground.now)) state.now (event_numbers looked_at.now) }
+    requires silent { OthersFalse (event_conditions (problem_of Q.value ground.now)) state.now (event_numbers looked_at.now) }
+    ensures { MatchResult result
+        (λ events. AllFit Q.fits (condition_nodes ((problem_of Q.value ground.now).events) state.now)
+        × (event_numbers events.items ≡ firing_of (problem_of Q.value ground.now) state.now))
+        (λ stop. ConditionStops Q.value Q.fits (condition_nodes ((problem_of Q.value ground.now).events) state.now) stop) }
+{
+    match holding_among(alloc, ground, state, looked_at) {
+        Ok(found) => Ok(found),
         Err(stop) => Err(walk_stop(stop)),
     }
 }

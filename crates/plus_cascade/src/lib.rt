@@ -13,4 +13,4 @@ pub mod rounds;
 mod tests;
 
 pub use cascade::{Cascade, begin};
-pub use rounds::{CascadeStop, DueRound, FiredRound, round, round_changes};
+pub use rounds::{CascadeStop, DueRound, FiredRound, round, round_changes, round_changes_among};

@@ -2,11 +2,16 @@
 ghost use Rattle.std.specs.Prelude.{◌≡◌, length, IfOk, IfSome};
 ghost use Rattle.plus_state.specs.View.{problem_of};
 ghost use Rattle.plus_state.specs.Fits.{StateFits};
+ghost use Rattle.plus_model.specs.Firing.{firing as firing_of};
+ghost use Rattle.plus_state.specs.Asked.{AllFit};
 ghost use Rattle.plus_state.specs.Changes.{RisesIn};
+ghost use Rattle.plus_state.specs.Numbers.{AreMembers, event_numbers};
+ghost use Rattle.plus_state.specs.Walk.{event_conditions, OthersFalse, OthersPass};
+ghost use Rattle.plus_cascade.specs.Steps.{condition_nodes};
 ghost use Rattle.plus_cascade.specs.Rounds.{Rounds, RoundChanges, of_joint, set_after};
 
 use crate::cascade::Cascade;
-use crate::firing::{changed_together, firing};
+use crate::firing::{changed_together, firing, firing_among};
 use plus_number::exact::Exact;
 use plus_state::changes::Changes;
 use plus_state::outcome::JointStop;
@@ -61,6 +66,33 @@ fn joint_stop<Q: Exact>(stop: JointStop<Q>) -> CascadeStop<Q>
     }
 }
 
+// The round in which these events fire, which are all that hold.
+fn fire<Q: Exact>(
+    alloc: Global,
+    cascade: &Cascade,
+    ground: &Ground<Q>,
+    state: &State<Q>,
+    events: Vec<EventId>,
+) -> Result<Option<DueRound<Q>>, CascadeStop<Q>>
+    requires state { StateFits (length (ground.now.atoms.items)) (length (ground.now.fluents.items)) state.now }
+    requires events { length cascade.now ≡ length (ground.now.events.items) }
+    requires pass { AllFit Q.fits (condition_nodes ((problem_of Q.value ground.now).events) state.now) }
+    requires all { event_numbers events.items ≡ firing_of (problem_of Q.value ground.now) state.now }
+    ensures told { RoundChanges Q.value Q.fits (problem_of Q.value ground.now) cascade.now state.now result }
+    ensures rises { IfOk result (λ o. IfSome o (λ r. RisesIn state.now r.changes)) }
+{
+    if events.is_empty() {
+        return Ok(None);
+    }
+    match cascade.first_fired(&events) {
+        Some(event) => Err(CascadeStop::Repeats(event)),
+        None => match changed_together(alloc, ground, &events, state) {
+            Err(stop) => Err(joint_stop(stop)),
+            Ok(changes) => Ok(Some(DueRound { events, changes })),
+        },
+    }
+}
+
 /// The round that is due: all events that hold in the state fire together, as one joint effect. None
 /// exactly where no event holds. The refusal is the first step that stops: the conditions of all events
 /// in ground order, then whether one that holds has fired, then the joint effect. Neither the state nor
@@ -76,16 +108,32 @@ pub fn round_changes<Q: Exact>(
     ensures told { RoundChanges Q.value Q.fits (problem_of Q.value ground.now) cascade.now state.now result }
     ensures rises { IfOk result (λ o. IfSome o (λ r. RisesIn state.now r.changes)) }
 {
-    let events = firing(alloc, ground, state)?;
-    if events.is_empty() {
-        return Ok(None);
+    match firing(alloc, ground, state) {
+        Err(stop) => Err(stop),
+        Ok(events) => fire(alloc, cascade, ground, state, events),
     }
-    match cascade.first_fired(&events) {
-        Some(event) => Err(CascadeStop::Repeats(event)),
-        None => match changed_together(alloc, ground, &events, state) {
-            Err(stop) => Err(joint_stop(stop)),
-            Ok(changes) => Ok(Some(DueRound { events, changes })),
-        },
+}
+
+/// The round that is due, by a look at some of the events, in ground order: of all others it is known
+/// that they do not hold and that what they ask passes. The answer is that of `round_changes`.
+pub fn round_changes_among<Q: Exact>(
+    alloc: Global,
+    cascade: &Cascade,
+    ground: &Ground<Q>,
+    state: &State<Q>,
+    looked_at: &[EventId],
+) -> Result<Option<DueRound<Q>>, CascadeStop<Q>>
+    requires state { StateFits (length (ground.now.atoms.items)) (length (ground.now.fluents.items)) state.now }
+    requires events { length cascade.now ≡ length (ground.now.events.items) }
+    requires members { AreMembers (length (ground.now.events.items)) (event_numbers looked_at.now) }
+    requires pass { OthersPass Q.fits (event_conditions (problem_of Q.value ground.now)) state.now (event_numbers looked_at.now) }
+    requires silent { OthersFalse (event_conditions (problem_of Q.value ground.now)) state.now (event_numbers looked_at.now) }
+    ensures told { RoundChanges Q.value Q.fits (problem_of Q.value ground.now) cascade.now state.now result }
+    ensures rises { IfOk result (λ o. IfSome o (λ r. RisesIn state.now r.changes)) }
+{
+    match firing_among(alloc, ground, state, looked_at) {
+        Err(stop) => Err(stop),
+        Ok(events) => fire(alloc, cascade, ground, state, events),
     }
 }
 

@@ -34,8 +34,8 @@ impl<Q: Drop> fmt::Debug for Stop<Q> {
     }
 }
 
-// The stop of a round.
-pub(crate) fn cascade_stop<Q: Exact>(stop: CascadeStop<Q>) -> Stop<Q>
+/// The stop of a round.
+pub fn cascade_stop<Q: Exact>(stop: CascadeStop<Q>) -> Stop<Q>
     ensures { result ≡ of_cascade stop }
 {
     match stop {
@@ -47,8 +47,8 @@ pub(crate) fn cascade_stop<Q: Exact>(stop: CascadeStop<Q>) -> Stop<Q>
     }
 }
 
-// The stop of settling.
-pub(crate) fn settle_stop<Q: Exact>(stop: SettleStop<Q>) -> Stop<Q>
+/// The stop of settling.
+pub fn settle_stop<Q: Exact>(stop: SettleStop<Q>) -> Stop<Q>
     ensures { result ≡ of_settle_stop stop }
 {
     match stop {
@@ -67,8 +67,8 @@ pub(crate) fn settle_stop<Q: Exact>(stop: SettleStop<Q>) -> Stop<Q>
     }
 }
 
-// The stop of a stretch.
-pub(crate) fn halt_stop<Q: Exact>(stop: Halt<Q>) -> Stop<Q>
+/// The stop of a stretch.
+pub fn halt_stop<Q: Exact>(stop: Halt<Q>) -> Stop<Q>
     ensures { result ≡ of_halt stop }
 {
     match stop {

@@ -7,6 +7,8 @@ ghost use Rattle.plus_model.specs.Trajectory.{is_below, literals};
 ghost use Rattle.plus_state.specs.View.{problem_of, action_of};
 ghost use Rattle.plus_state.specs.Changes.{patched, RisesIn, LeadsTo};
 ghost use Rattle.plus_state.specs.Fits.{StateFits, ActionFits};
+ghost use Rattle.plus_state.specs.Numbers.{AreMembers};
+ghost use Rattle.plus_state.specs.Walk.{event_conditions, OthersFalse, OthersPass};
 ghost use Rattle.plus_stretch.specs.Tests.{AllPass};
 ghost use Rattle.plus_timeline.specs.Serving.{Serves};
 ghost use Rattle.plus_timeline.specs.EntryStates.{IsReached};
@@ -24,7 +26,7 @@ use crate::entry::{EntryStates, Reached};
 use crate::literals::{are_there, bound, literal_changes};
 use crate::next::Next;
 use crate::stop::{Stop, cascade_stop, halt_stop, settle_stop};
-use plus_cascade::{Cascade, CascadeStop, DueRound, round_changes};
+use plus_cascade::{Cascade, CascadeStop, DueRound, round_changes, round_changes_among};
 use plus_crossing::rates::Rates;
 use plus_number::consts::zero;
 use plus_number::exact::Exact;
@@ -312,14 +314,15 @@ impl<Q: Exact> Timeline<Q> {
         })
     }
 
-    fn has_ended(&self) -> bool
+    /// Whether a call was refused, or the goal was tested.
+    pub fn has_ended(&self) -> bool
         ensures { result ≡ self.now.ended }
     {
         self.ended
     }
 
-    // Whether the last part is a running set; a further entry is allowed then.
-    fn is_running(&self) -> bool
+    /// Whether the last part is a running set; a further entry is allowed then.
+    pub fn is_running(&self) -> bool
         ensures runs { result ≡ true → self.now.now.running ≡ Some self.now.running }
         ensures rests { result ≡ false → self.now.now.running ≡ None }
         ensures room { result ≡ true → self.now.entries < self.now.most }
@@ -341,7 +344,8 @@ impl<Q: Exact> Timeline<Q> {
         self.most
     }
 
-    fn end(&mut self)
+    /// Ends the timeline: each later call is refused.
+    pub fn end(&mut self)
         ensures { self.new ≡ record (self.old) { ended = true } }
     {
         self.ended = true;
@@ -380,8 +384,8 @@ impl<Q: Exact> Timeline<Q> {
         }
     }
 
-    // The round that is due.
-    fn due(&self, ground: &Ground<Q>) -> Result<Option<DueRound<Q>>, CascadeStop<Q>>
+    /// A step of `advance`: the round that is due.
+    pub fn due(&self, ground: &Ground<Q>) -> Result<Option<DueRound<Q>>, CascadeStop<Q>>
         requires serves { Serves (problem_of Q.value ground.now) self.now }
         ensures told { DueTold Q.value Q.fits (problem_of Q.value ground.now) self.now.now.fired self.now.now.state result }
         ensures rises { IfOk result (λ o. IfSome o (λ r. RisesIn self.now.now.state r.changes)) }
@@ -389,8 +393,25 @@ impl<Q: Exact> Timeline<Q> {
         round_changes(self.alloc, &self.cascade, ground, self.state())
     }
 
-    // All events of the round fire.
-    fn put_round(&mut self, round: DueRound<Q>) -> Result<(), AllocError>
+    /// A step of `advance`: the round that is due, by a look at some of the events, in ground order. Of
+    /// all others it is known that they do not hold and that what they ask passes.
+    pub fn due_among(
+        &self,
+        ground: &Ground<Q>,
+        looked_at: &[EventId],
+    ) -> Result<Option<DueRound<Q>>, CascadeStop<Q>>
+        requires serves { Serves (problem_of Q.value ground.now) self.now }
+        requires members { AreMembers (length (ground.now.events.items)) (event_numbers looked_at.now) }
+        requires pass { OthersPass Q.fits (event_conditions (problem_of Q.value ground.now)) self.now.now.state (event_numbers looked_at.now) }
+        requires silent { OthersFalse (event_conditions (problem_of Q.value ground.now)) self.now.now.state (event_numbers looked_at.now) }
+        ensures told { DueTold Q.value Q.fits (problem_of Q.value ground.now) self.now.now.fired self.now.now.state result }
+        ensures rises { IfOk result (λ o. IfSome o (λ r. RisesIn self.now.now.state r.changes)) }
+    {
+        round_changes_among(self.alloc, &self.cascade, ground, self.state(), looked_at)
+    }
+
+    /// A step of `advance`: all events of the round that is due fire.
+    pub fn put_round(&mut self, round: DueRound<Q>) -> Result<(), AllocError>
         requires events { All (λ e. e < self.old.event_count) (event_numbers round.events.items) }
         requires rises { RisesIn self.old.now.state round.changes }
         ensures ok { OnOk result (self.new ≡ record (self.old) {
@@ -414,8 +435,8 @@ impl<Q: Exact> Timeline<Q> {
         Ok(())
     }
 
-    // Where no event holds: the time is reached, or the entry is closed.
-    fn rest(&mut self, ground: &Ground<Q>, until: Q) -> Result<Next<Q>, Stop<Q>>
+    /// A step of `advance` where no event holds: the time is reached, or the entry is closed.
+    pub fn rest(&mut self, ground: &Ground<Q>, until: Q) -> Result<Next<Q>, Stop<Q>>
         requires going { IsGoing self.old }
         requires serves { Serves (problem_of Q.value ground.now) self.old }
         requires moment { self.old.now.running ≡ None }
@@ -459,8 +480,8 @@ impl<Q: Exact> Timeline<Q> {
         self.acted = false;
     }
 
-    // Goes on along the running set, to the next entry.
-    fn pass(&mut self, ground: &Ground<Q>, until: Q) -> Result<Next<Q>, Stop<Q>>
+    /// A step of `advance`: goes on along the running set, to the next entry.
+    pub fn pass(&mut self, ground: &Ground<Q>, until: Q) -> Result<Next<Q>, Stop<Q>>
         requires going { IsGoing self.old }
         requires serves { Serves (problem_of Q.value ground.now) self.old }
         requires runs { self.old.now.running ≡ Some self.old.running }

@@ -1,4 +1,4 @@
-use Rattle.std.proofs.Common.{◌≡◌, ap, ◌∙◌}
+use Rattle.std.proofs.Common.{ap, ◌∙◌}
 use Rattle.plus_cascade.proofs.FiredLemmas.{next_number, no_number, growing_inside, growing_next, growing_end}
 use Rattle.plus_cascade.specs.Fired.{event_numbers, with_fired}
 use Rattle.plus_cascade.proofs.SetLemmas.{set_grows}

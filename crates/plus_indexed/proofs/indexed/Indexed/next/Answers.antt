@@ -1,0 +1,46 @@
+use Rattle.std.proofs.Common.{◌≡◌, ◌<◌, ap, refl, sym, subst}
+use Rattle.std.specs.Prelude.{Err, None, All}
+use Rattle.plus_state.specs.View.{problem_of}
+use Rattle.plus_state.specs.Numbers.{event_numbers}
+use Rattle.plus_stretch.specs.Tests.{AllPass}
+use Rattle.plus_timeline.specs.declared.stop.Stop.{Stop}
+use Rattle.plus_timeline.specs.Asked.{round_tests}
+use Rattle.plus_timeline.specs.Timeline.{TimelineView}
+use Rattle.plus_timeline.specs.Advance.{AdvanceTold}
+use Rattle.plus_timeline.proofs.Advancing.{round_refused, due_inside, none_holds}
+use Rattle.plus_indexed.specs.Indexed.{IndexedView}
+use Rattle.plus_indexed.proofs.Knowing.{fires_as, told_as}
+use Rattle.plus_indexed.proofs.indexed.Indexed.next.Goals as goal
+use Rattle.plus_indexed.proofs.indexed.Indexed.next.Goals.{in-Err-put_round, in-Ok}
+
+pub put_round-requires-clause-events : goal.put_round-requires-clause-events
+put_round-requires-clause-events g c =
+    let P = problem_of g.Q.Exact.value c.args.ground.now in
+    let line = ap (λ (v : IndexedView). v.line) c.self.view_is in
+    subst (λ (t : TimelineView). All (λ e. e < t.event_count) (event_numbers c.in-Ok-Some.round.events.items)) (sym line)
+    (due_inside g.Q.Exact.value g.Q.Exact.fits P c.args.self.now.line c.in-Ok-Some.round (sym c.requires.knows.serves.events) (rw c.in-Ok-Some.field-0-is at c.in-Ok-Some.ensures.told))
+
+pub rest-requires-clause-passed : goal.rest-requires-clause-passed
+rest-requires-clause-passed g c =
+    let P = problem_of g.Q.Exact.value c.args.ground.now in
+    let line = ap (λ (v : IndexedView). v.line) c.self.view_is in
+    subst (λ (t : TimelineView). AllPass g.Q.Exact.fits (round_tests P t.now.fired t.now.state)) (sym line)
+    (none_holds g.Q.Exact.value g.Q.Exact.fits P c.args.self.now.line (rw c.in-Ok-None.field-0-is at c.in-Ok-None.ensures.told)).0
+
+pub returns-in-Err-clause-told : goal.returns-in-Err-clause-told
+returns-in-Err-clause-told g c =
+    let P = problem_of g.Q.Exact.value c.args.ground.now in
+    let line = ap (λ (v : IndexedView). v.line) c.self.view_is in
+    let moment = subst (λ (t : TimelineView). t.now.running ≡ None) line (c.if-is_running.ensures.rests refl) in
+    let told = round_refused g.Q.Exact.value g.Q.Exact.fits P (g.Q.Exact.value c.args.until) c.args.self.now.line c.requires.going c.self.inside.timeline moment c.in-Err.stop c.in-Err.ensures.told in
+    subst (λ (s : Stop g.row.Q.Denot). AdvanceTold g.Q.Exact.value g.Q.Exact.fits P (g.Q.Exact.value c.args.until) c.args.self.now.line c.self.inside.timeline (Err s)) (sym c.cascade_stop.ensures) told
+
+pub returns-after-put_round-clause-told : goal.returns-after-put_round-clause-told
+returns-after-put_round-clause-told g c =
+    let P = problem_of g.Q.Exact.value c.args.ground.now in
+    let line = ap (λ (v : IndexedView). v.line) c.self.view_is in
+    elim c.match-put_round.branch [
+      | in-Err-put_round w ↦ told_as g.Q.Exact.value g.Q.Exact.fits P (g.Q.Exact.value c.args.until) c.args.self.now.line c.put_round.new.self _ _ w.result-is c.requires.going
+      | in-Ok w ↦ told_as g.Q.Exact.value g.Q.Exact.fits P (g.Q.Exact.value c.args.until) c.args.self.now.line c.put_round.new.self _ _ w.result-is
+          (fires_as g.Q.Exact.value g.Q.Exact.fits P (g.Q.Exact.value c.args.until) c.self.inside.timeline c.args.self.now.line c.put_round.new.self line c.requires.going (c.if-is_running.ensures.rests refl) c.in-Ok-Some.round (rw c.in-Ok-Some.field-0-is at c.in-Ok-Some.ensures.told) w.in-Ok.ensures.ok)
+    ]

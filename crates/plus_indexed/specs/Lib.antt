@@ -1,0 +1,5 @@
+pub mod Woken
+pub mod Indexed
+pub mod IndexedCode
+pub mod Waking
+pub mod Knows

@@ -1,0 +1,308 @@
+//! A timeline, and what is kept between its calls.
+ghost use Rattle.std.specs.Prelude.{◌≡◌, ◌≤◌, ℕ, true, false, List, Option, Some, None, option_map, IfOk, IfSome, OnOk, OnErr};
+ghost use Rattle.plus_state.specs.View.{problem_of, action_of};
+ghost use Rattle.plus_state.specs.Changes.{LeadsTo, RisesIn};
+ghost use Rattle.plus_state.specs.Fits.{StateFits, ActionFits};
+ghost use Rattle.plus_timeline.specs.Timeline.{begun, event_numbers, process_numbers};
+ghost use Rattle.plus_timeline.specs.Due.{DueTold};
+ghost use Rattle.plus_timeline.specs.Stops.{IsGoing};
+ghost use Rattle.plus_timeline.specs.Act.{ActTold};
+ghost use Rattle.plus_timeline.specs.Finish.{IsPaused, FinishTold, TakesNoMemory};
+ghost use Rattle.plus_timeline.specs.Advance.{IsAhead, AdvanceTold};
+ghost use Rattle.plus_indexed.specs.Knows.{Knows};
+ghost use Rattle.plus_indexed.specs.Waking.{WokenBy, StillWoken, NotedBy};
+
+use crate::waking::woken;
+use plus_cascade::{CascadeStop, DueRound};
+use plus_number::exact::Exact;
+use plus_reads::Index;
+use plus_state::changes::Changes;
+use plus_state::problem::{Action, Ground};
+use plus_state::states::State;
+use plus_state::term::{EventId, ProcessId};
+use plus_timeline::stop::cascade_stop;
+use plus_timeline::{Next, Stop, Timeline};
+use std::alloc::{AllocError, Global};
+use std::marker::Model;
+use std::rc::Rc;
+
+/// A timeline with an index of its problem, which its copies share, and with what is known of the
+/// present state.
+#[derive(Drop)]
+pub struct Indexed<Q: Exact> {
+    alloc: Global,
+    timeline: Timeline<Q>,
+    index: Rc<Index>,
+    // the events that are to be looked at where a round may be due; all of them where there is no list
+    waiting: Option<Vec<EventId>>,
+}
+
+impl<Q: Exact> Model for Indexed<Q> {
+    ghost use Rattle.std.specs.Prelude.{option_map};
+    ghost use Rattle.plus_state.specs.Numbers.{event_numbers};
+    ghost use Rattle.plus_indexed.specs.Indexed.{IndexedView};
+    ghost use Rattle.plus_indexed.specs.IndexedCode.{coded_indexed};
+
+    ghost Value = { IndexedView };
+
+    ghost coded = { coded_indexed };
+
+    ghost view = { λ i. record {
+      line = i.timeline;
+      kept = record {
+        index = i.index.value;
+        waiting = option_map (λ w. event_numbers w.items) i.waiting;
+      };
+    } };
+}
+
+fn copied(alloc: Global, events: &Option<Vec<EventId>>) -> Result<Option<Vec<EventId>>, AllocError>
+    ensures { IfOk result (λ o. option_map (λ w. event_numbers w.items) o ≡ option_map (λ w. event_numbers w.items) events.now) }
+{
+    match events {
+        Some(events) => Ok(Some(Vec::from_slice(alloc, events)?)),
+        None => Ok(None),
+    }
+}
+
+impl<Q: Exact> Indexed<Q> {
+    /// A timeline for this problem, and the index of it: the first entry, at time 0. `happenings`
+    /// entries are allowed.
+    pub fn begin(
+        alloc: Global,
+        ground: &Ground<Q>,
+        happenings: u64,
+    ) -> Result<Indexed<Q>, AllocError>
+        requires { 1 ≤ happenings }
+        ensures begun { IfOk result (λ t. t.line ≡ begun (problem_of Q.value ground.now) happenings) }
+        ensures knows { IfOk result (Knows Q.fits (problem_of Q.value ground.now)) }
+    {
+        let timeline = Timeline::begin(alloc, ground, happenings)?;
+        let index = Index::new(alloc, ground)?;
+        Ok(Indexed {
+            alloc,
+            timeline,
+            index: Rc::new(alloc, index)?,
+            waiting: None,
+        })
+    }
+
+    /// Does one thing, and says which, as `Timeline::advance` does. Only the events are looked at that
+    /// fired in the last round, and those that read something that was changed since they were looked at.
+    pub fn advance(&mut self, ground: &Ground<Q>, until: Q) -> Result<Next<Q>, Stop<Q>>
+        requires knows { IsGoing self.old.line → Knows Q.fits (problem_of Q.value ground.now) self.old }
+        requires ahead { IsGoing self.old.line →
+            IsAhead (self.old.line.now.running) (self.old.line.now.time) (Q.value until) }
+        ensures told { AdvanceTold Q.value Q.fits (problem_of Q.value ground.now) (Q.value until)
+            self.old.line self.new.line result }
+        ensures refused { OnErr result (self.new.line ≡ record (self.old.line) { ended = true }) }
+        ensures knows { OnOk result (Knows Q.fits (problem_of Q.value ground.now) self.new) }
+    {
+        if self.timeline.has_ended() {
+            return Err(Stop::Ended);
+        }
+        match self.next(ground, until) {
+            Ok(next) => {
+                let waiting = self.after(next);
+                self.keep(waiting);
+                Ok(next)
+            }
+            Err(stop) => {
+                self.timeline.end();
+                Err(stop)
+            }
+        }
+    }
+
+    /// Does an action that is due at the present time, as `Timeline::act` does.
+    pub fn act(&mut self, ground: &Ground<Q>, action: &Action<Q>, line: u32) -> Result<(), Stop<Q>>
+        requires knows { IsGoing self.old.line → Knows Q.fits (problem_of Q.value ground.now) self.old }
+        requires paused { IsGoing self.old.line → IsPaused self.old.line }
+        requires action { IsGoing self.old.line →
+            ActionFits (self.old.line.atoms) (self.old.line.fluents) (action_of Q.value action.now) }
+        ensures told { ActTold Q.value Q.fits (problem_of Q.value ground.now)
+            (action_of Q.value action.now) line self.old.line self.new.line result }
+        ensures refused { OnErr result (self.new.line ≡ record (self.old.line) { ended = true }) }
+        ensures knows { OnOk result (Knows Q.fits (problem_of Q.value ground.now) self.new) }
+    {
+        match self.timeline.act(ground, action, line) {
+            Ok(()) => {
+                let waiting = self.after_step();
+                self.keep(waiting);
+                Ok(())
+            }
+            Err(stop) => Err(stop),
+        }
+    }
+
+    /// Whether the goal holds. Afterwards the timeline has ended.
+    pub fn finish(&mut self, ground: &Ground<Q>) -> Result<(), Stop<Q>>
+        requires knows { IsGoing self.old.line → Knows Q.fits (problem_of Q.value ground.now) self.old }
+        requires paused { IsGoing self.old.line → IsPaused self.old.line }
+        ensures told { FinishTold Q.value Q.fits (problem_of Q.value ground.now) self.old.line result }
+        ensures memory { TakesNoMemory result }
+        ensures after { self.new.line ≡ record (self.old.line) { ended = true } }
+    {
+        self.timeline.finish(ground)
+    }
+
+    /// The present time.
+    pub fn time(&self) -> Q
+        ensures { Q.value result ≡ self.now.line.now.time }
+    {
+        self.timeline.time()
+    }
+
+    /// The present state.
+    pub fn state(&self) -> &State<Q>
+        ensures state { result.now ≡ self.now.line.now.state }
+        ensures fits { StateFits (self.now.line.atoms) (self.now.line.fluents) result.now }
+    {
+        self.timeline.state()
+    }
+
+    /// The state on arrival in the present entry, before its timed literals.
+    pub fn arrival(&self) -> &State<Q>
+        ensures state { result.now ≡ self.now.line.arrival }
+        ensures fits { StateFits (self.now.line.atoms) (self.now.line.fluents) result.now }
+    {
+        self.timeline.arrival()
+    }
+
+    /// The state before the last round, action or stretch, and the initial state where there was none.
+    pub fn before(&self) -> &State<Q>
+        ensures state { result.now ≡ self.now.line.before }
+        ensures fits { StateFits (self.now.line.atoms) (self.now.line.fluents) result.now }
+    {
+        self.timeline.before()
+    }
+
+    /// What the last round, action or stretch changed. It leads from the state before to the present one.
+    pub fn changes(&self) -> &Changes<Q>
+        ensures { LeadsTo self.now.line.before result.now self.now.line.now.state }
+    {
+        self.timeline.changes()
+    }
+
+    /// The events of the last round.
+    pub fn events(&self) -> &[EventId]
+        ensures { event_numbers result.now ≡ self.now.line.events }
+    {
+        self.timeline.events()
+    }
+
+    /// The last running set.
+    pub fn running(&self) -> &[ProcessId]
+        ensures { process_numbers result.now ≡ self.now.line.running }
+    {
+        self.timeline.running()
+    }
+
+    /// Whether the present entry has a timed literal.
+    pub fn has_literals(&self) -> bool
+        ensures { result ≡ self.now.line.literal }
+    {
+        self.timeline.has_literals()
+    }
+
+    /// A timeline that goes on in the same way, over the same index.
+    pub fn copy(&self, alloc: Global) -> Result<Indexed<Q>, AllocError>
+        ensures { IfOk result (λ t. t ≡ self.now) }
+    {
+        Ok(Indexed {
+            alloc,
+            timeline: self.timeline.copy(alloc)?,
+            index: self.index.clone()?,
+            waiting: copied(alloc, &self.waiting)?,
+        })
+    }
+}
+
+impl<Q: Exact> Indexed<Q> {
+    // The round that is due.
+    fn due(&self, ground: &Ground<Q>) -> Result<Option<DueRound<Q>>, CascadeStop<Q>>
+        requires knows { Knows Q.fits (problem_of Q.value ground.now) self.now }
+        ensures told { DueTold Q.value Q.fits (problem_of Q.value ground.now) self.now.line.now.fired self.now.line.now.state result }
+        ensures rises { IfOk result (λ o. IfSome o (λ r. RisesIn self.now.line.now.state r.changes)) }
+    {
+        match &self.waiting {
+            Some(events) => self.timeline.due_among(ground, events),
+            None => self.timeline.due(ground),
+        }
+    }
+
+    // Does one thing. A refusal changes nothing.
+    fn next(&mut self, ground: &Ground<Q>, until: Q) -> Result<Next<Q>, Stop<Q>>
+        requires going { IsGoing self.old.line }
+        requires knows { Knows Q.fits (problem_of Q.value ground.now) self.old }
+        requires ahead { IsAhead (self.old.line.now.running) (self.old.line.now.time) (Q.value until) }
+        ensures told { AdvanceTold Q.value Q.fits (problem_of Q.value ground.now) (Q.value until)
+            self.old.line self.new.line result }
+        ensures line { OnErr result (self.new.line ≡ self.old.line) }
+        ensures kept { self.new.kept ≡ self.old.kept }
+    {
+        if self.timeline.is_running() {
+            return self.timeline.pass(ground, until);
+        }
+        match self.due(ground) {
+            Err(stop) => Err(cascade_stop(stop)),
+            Ok(Some(round)) => match self.timeline.put_round(round) {
+                Err(_) => Err(Stop::Memory),
+                Ok(()) => Ok(Next::Round),
+            },
+            Ok(None) => self.timeline.rest(ground, until),
+        }
+    }
+
+    // Those that fired in the last round, and the readers of what it changed. None where memory is wanting.
+    fn after_round(&self) -> Option<Vec<EventId>>
+        ensures { IfSome result (λ w. WokenBy self.now (self.now.line.events) (event_numbers w.items)) }
+    {
+        woken(
+            self.alloc,
+            &self.index.events,
+            self.timeline.changes(),
+            self.timeline.events(),
+        )
+        .ok()
+    }
+
+    // Those that wait, and the readers of what the last step changed. None where memory is wanting, or
+    // where all wait.
+    fn after_step(&self) -> Option<Vec<EventId>>
+        ensures { IfSome result (λ w. StillWoken self.now (event_numbers w.items)) }
+    {
+        match &self.waiting {
+            Some(first) => woken(
+                self.alloc,
+                &self.index.events,
+                self.timeline.changes(),
+                first,
+            )
+            .ok(),
+            None => None,
+        }
+    }
+
+    // Those that wait after this part of the history.
+    fn after(&self, next: Next<Q>) -> Option<Vec<EventId>>
+        ensures { IfSome result (λ w. NotedBy next self.now (event_numbers w.items)) }
+    {
+        match next {
+            Next::Round => self.after_round(),
+            Next::Entry { .. } => self.after_step(),
+            Next::Run => Some(Vec::new(self.alloc)),
+            Next::There => Some(Vec::new(self.alloc)),
+        }
+    }
+
+    fn keep(&mut self, waiting: Option<Vec<EventId>>)
+        ensures { self.new ≡ record (self.old) {
+          kept = record (self.old.kept) {
+            waiting = option_map (λ w. event_numbers w.items) waiting;
+          };
+        } }
+    {
+        self.waiting = waiting;
+    }
+}

@@ -1,0 +1,13 @@
+//! A timeline with an index of what reads what: a call costs what moves, what is written and their
+//! readers, and not all events.
+//!
+//! Between calls it keeps which events need be looked at (those that wait). All others are known not to
+//! hold, and what they ask is known to pass, since nothing that they read has changed since they were
+//! looked at. So the answers are those of the timeline, word for word; but the ground form that is
+//! handed in must be of the problem that it was begun with.
+#![tactic(auto)]
+
+pub mod indexed;
+mod waking;
+
+pub use indexed::Indexed;
