@@ -1,0 +1,12 @@
+use Rattle.std.proofs.Common.{◌≡◌, take}
+use Rattle.plus_renaming.proofs.copies.+expression.Given as goal
+
+abbrev pub decreases-expression : goal.decreases-expression
+decreases-expression l = goal.size-expression l
+
+-- the operands so far
+abbrev pub invariant-sum : goal.invariant-sum
+invariant-sum l = l.copy.items ≡ take l.member-index l.member-items
+
+abbrev pub invariant-product : goal.invariant-product
+invariant-product l = l.copy.items ≡ take l.member-index l.member-items
