@@ -8,3 +8,4 @@ pub mod Puts
 pub mod Wrote
 pub mod Refusals
 pub mod Verdicts
+pub mod Plans

@@ -4,7 +4,7 @@ use Rattle.std.specs.Prelude.{ℕ, List, ◌++◌, codes, decimal}
 use Rattle.plus_report.specs.declared.refusals.Text.{Text}
 use Rattle.plus_report.specs.declared.refusals.Text.TheVariants as texts
 use Rattle.plus_report.specs.declared.refusals.Word.{Word}
-use Rattle.plus_report.specs.declared.refusals.Word.TheVariants.{Byte, Long, Unclosed, Form, UnknownType, UnknownName, Arity, WrongType, Twice, UnboundVariable, ShadowedVariable, TypeLoop, RateForm, DomainName, NameTaken, NotLevelTwo}
+use Rattle.plus_report.specs.declared.refusals.Word.TheVariants.{Byte, Long, Unclosed, Form, UnknownType, UnknownName, Arity, WrongType, Twice, UnboundVariable, ShadowedVariable, TypeLoop, RateForm, DomainName, NameTaken, NotLevelTwo, OffGrid}
 use Rattle.plus_report.specs.declared.refusals.Kinds.{Kinds}
 use Rattle.plus_report.specs.declared.refusals.Kinds.TheVariants.{Objects, Atoms, Fluents, Processes, Events, Actions, Nodes}
 use Rattle.plus_report.specs.declared.refusals.Early.{Early}
@@ -35,6 +35,7 @@ word_text RateForm = codes "rate form"
 word_text DomainName = codes "domain name"
 word_text NameTaken = codes "name taken"
 word_text NotLevelTwo = codes "not level two"
+word_text OffGrid = codes "off grid"
 
 abbrev pub kind_text : Kinds → List ℕ
 kind_text Objects = codes "objects"

@@ -6,6 +6,7 @@ mod labels;
 pub mod laws;
 mod listed;
 mod parts;
+mod plans;
 mod put;
 mod refusals;
 #[cfg(test)]
@@ -16,5 +17,6 @@ pub use parts::{
     write_act, write_act_changes, write_entry, write_entry_changes, write_literals,
     write_literals_changes, write_round, write_round_changes, write_run,
 };
+pub use plans::write_plan;
 pub use refusals::{Early, Kinds, Text, Word, write_early};
 pub use verdicts::{Verdict, write_verdict};

@@ -37,6 +37,7 @@ pub enum Word {
     DomainName,
     NameTaken,
     NotLevelTwo,
+    OffGrid,
 }
 
 /// What a ground problem has too many of.
@@ -128,6 +129,7 @@ fn word_of(word: Word) -> &'static [u8]
         Word::DomainName => b"domain name",
         Word::NameTaken => b"name taken",
         Word::NotLevelTwo => b"not level two",
+        Word::OffGrid => b"off grid",
     }
 }
 
