@@ -18,3 +18,4 @@ pub mod Beginning
 pub mod Calls
 pub mod PairLaws
 pub mod TreeLaws
+pub mod RowPlans

@@ -33,7 +33,7 @@ top_is q h = by q.top (lt_of (Is-whole (pos 0)) (Is-parts q) h)
             let f : pos 0 <ℤ negsuc n = subst (λ x. x <ℤ negsuc n) e (subst (λ y. (pos 0 *ℤ pos d) <ℤ y) (by_one (negsuc n)) l) in
             absurd (omega (arith, linear, f))
 
-whole_above : (n : ℕ) → 0 < n → whole (pos 0) <ℚ whole (pos n)
+pub whole_above : (n : ℕ) → 0 < n → whole (pos 0) <ℚ whole (pos n)
 whole_above n h = lt_by (Is-whole (pos 0)) (Is-whole (pos n)) (above n h)
   where
     above : (n : ℕ) → 0 < n → (pos 0 *ℤ pos 1) <ℤ (pos n *ℤ pos 1)

@@ -14,8 +14,11 @@ use Rattle.plus_tree.specs.Expr.{Expr, x_number, x_clock, x_fluent, x_product, n
 use Rattle.plus_tree.specs.Cond.{Cond, c_not, c_atom, c_compare}
 use Rattle.plus_tree.specs.Effect.{Effect}
 use Rattle.plus_printer.specs.Canon.{domain_text, problem_text}
+use Rattle.plus_steps.specs.Stepped.{Act, Tick}
+use Rattle.plus_steps.specs.Laws.{CallName}
 use Rattle.plus_translation.specs.Renamed.{nowhere, spelled}
 use Rattle.plus_translation.specs.Translated.{natural, leaf, writes, both, translated_domain, translated_problem}
+use Rattle.plus_translation.specs.Laws.{IsSteppedPlan, IsPlanOfTranslation}
 
 abbrev pub named : List ℕ → Use
 named name = record { head = spelled name; args = []; span = nowhere }
@@ -94,3 +97,29 @@ abbrev pub EarlyTexts : Type 0
 EarlyTexts =
     problem_text (translated_problem (whole (pos 1)) tank early_problem)
     ≡ codes "(define (problem tank1)\n (:domain tank)\n (:init (= (level) 0))\n (:goal (and (open) (not (and (open) (>= (level) 5)))))\n)\n"
+
+-- ---- plans
+
+abbrev pub call : List ℕ → CallName
+call name = (name, [])
+
+abbrev pub step : CallName
+step = call (codes "pp-step")
+
+-- In steps of 1 four of them are a plan of the translation with literals: the tank is open during the third. What they
+-- leave is a stepped plan of the tank.
+abbrev pub FourSteps : Type 0
+FourSteps =
+    IsPlanOfTranslation tank literal_problem (whole (pos 1)) (step ∷ step ∷ step ∷ step ∷ [])
+    × IsSteppedPlan tank literal_problem (whole (pos 1)) (Tick ∷ Tick ∷ Tick ∷ Tick ∷ [])
+
+-- two of them are none
+abbrev pub TwoSteps : Type 0
+TwoSteps = IsPlanOfTranslation tank literal_problem (whole (pos 1)) (step ∷ step ∷ []) → ⊥
+
+-- In steps of 1/2 the valve is opened, five steps fill the tank to 5, and a round of events closes it. What this leaves
+-- is a stepped plan, in which the round is no move.
+abbrev pub HalfSteps : Type 0
+HalfSteps =
+    IsPlanOfTranslation tank full_problem (over (pos 1) 2) (call (codes "open-valve") ∷ step ∷ step ∷ step ∷ step ∷ step ∷ call (codes "pp-fire") ∷ [])
+    × IsSteppedPlan tank full_problem (over (pos 1) 2) (Act (call (codes "open-valve")) ∷ Tick ∷ Tick ∷ Tick ∷ Tick ∷ Tick ∷ [])
