@@ -5,3 +5,4 @@ pub mod FreshWords
 pub mod GoodRenamed
 pub mod GoodTranslated
 pub mod TextLaws
+pub mod Counts

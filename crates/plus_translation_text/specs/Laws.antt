@@ -45,3 +45,10 @@ abbrev pub SpellsWithinItsDepth : Type 0
 SpellsWithinItsDepth =
     (depth : ℕ) (text : List ℕ) → NestsWithin depth text
     → ((d : Domain) → Spells text d → SpellsWithin depth text d) × ((p : Problem) → SpellsProblem text p → SpellsProblemWithin depth text p)
+
+-- A domain that a text spells has fewer than 2^64 events, and each fewer than 2^64 variables, where the text is shorter
+-- than 2^63 bytes, as each text in memory is.
+abbrev pub FewInText : Type 0
+FewInText =
+    (text : List ℕ) (d : Domain) → Spells text d → length text < 2 ^ 63
+    → (length d.events < 2 ^ 64) × All (λ (a : Schema). variables_of a < 2 ^ 64) d.events

@@ -1,5 +1,5 @@
 //! The laws, each the contract of a function with an empty body.
-ghost use Rattle.plus_translation_text.specs.Laws.{TranslationReadsAgain, SpellsWithinItsDepth};
+ghost use Rattle.plus_translation_text.specs.Laws.{TranslationReadsAgain, SpellsWithinItsDepth, FewInText};
 
 /// The canonical texts of a translated pair spell it again, but for spans.
 pub fn translation_reads_again()
@@ -9,4 +9,9 @@ pub fn translation_reads_again()
 /// A text that nests to a depth spells within that depth what it spells.
 pub fn spells_within_its_depth()
     ensures { SpellsWithinItsDepth }
+{}
+
+/// A domain that a text in memory spells has few events and variables.
+pub fn few_in_text()
+    ensures { FewInText }
 {}
