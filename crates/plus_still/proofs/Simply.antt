@@ -5,8 +5,8 @@ use Rattle.std.specs.Prelude.{Option, Some, None}
 use Rattle.plus_fraction.specs.Fraction.{Fraction, whole, ◌+ℚ◌, ◌-ℚ◌, ◌*ℚ◌}
 use Rattle.plus_fraction.proofs.Ring.{var, num, ◌⊕◌, ◌⊗◌}
 use Rattle.plus_fraction.proofs.FractionRing.{ringℚ}
-use Rattle.plus_model.specs.Terms.{Expression, Number, Fluent, Sum, Difference, Product, Quotient, Condition, Always, Never, Both, Either, Atom, Compare, State}
-use Rattle.plus_model.specs.Value.{value, fluent_of, is_zero}
+use Rattle.plus_model.specs.Terms.{Expression, Number, Fluent, Sum, Difference, Product, Quotient, Same, Condition, Always, Never, Both, Either, Atom, Compare, State}
+use Rattle.plus_model.specs.Value.{value, fluent_of, is_zero, passes}
 use Rattle.plus_model.specs.Firing.{is_in}
 use Rattle.plus_model.specs.Running.{names, moved}
 use Rattle.plus_model.specs.Piece.{Piece, Missing, Crooked, Straight, piece, on_pieces, straight_fluent, rate_of, product_piece, quotient_piece}
@@ -29,6 +29,9 @@ use Rattle.plus_crossing.specs.Next.{cross_sides, cross_asks}
 use Rattle.plus_crossing.proofs.Joins.{numbered_pass, numbered_back}
 use Rattle.plus_crossing.proofs.Steady.{IsLine, is_line, pieces_tell}
 use Rattle.plus_reads.proofs.Sets.{in_left, in_right, in_either}
+use Rattle.plus_fraction.proofs.Compared.{compared_refl}
+use Rattle.plus_reads.specs.Reads.{fluents_read}
+use Rattle.plus_reads.specs.Laws.{StandsStill}
 use Rattle.plus_reads.proofs.Frame.{SameFluents, same_live}
 use Rattle.plus_reads.proofs.Unmoved.{fluent_stays}
 use Rattle.plus_still.specs.Simple.{is_still, is_plain, is_simple}
@@ -251,3 +254,43 @@ simple_same k (Either c d) s rs x h =
 simple_same k (Atom a positive) s rs x h = refl
 simple_same k (Compare t l r positive) s rs x h =
     ap (numbered (suc k)) (sides_same (piece l (moved s rs x) rs) (piece l s rs) _ _ _ _ (plain_line l s rs x (first_and _ _ h)) (plain_asks l s rs x (first_and _ _ h)) (plain_asks r s rs x (second_and _ _ h)))
+
+-- ---- what stands still is simple
+zero_is : (r : Fraction) → r ≡ whole (pos 0) → is_zero r ≡ true
+zero_is r e = ap is_zero e ∙ ap (passes Same) (compared_refl (whole (pos 0)))
+
+and_both : (x y : Bool) → x ≡ true → y ≡ true → x && y ≡ true
+and_both x y e f = cc
+
+abbrev NamesStill : List ℕ → List Fraction → Type 0
+NamesStill fs rs = (f : ℕ) → is_in fs f ≡ true → rate_of rs f ≡ whole (pos 0)
+
+names_left : (xs ys : List ℕ) (rs : List Fraction) → NamesStill (xs ++ ys) rs → NamesStill xs rs
+names_left xs ys rs h f i = h f (in_left xs ys f i)
+
+names_right : (xs ys : List ℕ) (rs : List Fraction) → NamesStill (xs ++ ys) rs → NamesStill ys rs
+names_right xs ys rs h f i = h f (in_right xs ys f i)
+
+still_is : (e : Expression) (rs : List Fraction) → NamesStill (names e) rs → is_still e rs ≡ true
+still_is (Number x) rs h = refl
+still_is (Fluent f) rs h = zero_is (rate_of rs f) (h f (in_first f []))
+still_is (Sum a b) rs h = and_both _ _ (still_is a rs (names_left (names a) (names b) rs h)) (still_is b rs (names_right (names a) (names b) rs h))
+still_is (Difference a b) rs h = and_both _ _ (still_is a rs (names_left (names a) (names b) rs h)) (still_is b rs (names_right (names a) (names b) rs h))
+still_is (Product a b) rs h = and_both _ _ (still_is a rs (names_left (names a) (names b) rs h)) (still_is b rs (names_right (names a) (names b) rs h))
+still_is (Quotient a b) rs h = and_both _ _ (still_is a rs (names_left (names a) (names b) rs h)) (still_is b rs (names_right (names a) (names b) rs h))
+
+plain_is : (e : Expression) (rs : List Fraction) → NamesStill (names e) rs → is_plain e rs ≡ true
+plain_is (Number x) rs h = refl
+plain_is (Fluent f) rs h = refl
+plain_is (Sum a b) rs h = still_is (Sum a b) rs h
+plain_is (Difference a b) rs h = still_is (Difference a b) rs h
+plain_is (Product a b) rs h = still_is (Product a b) rs h
+plain_is (Quotient a b) rs h = still_is (Quotient a b) rs h
+
+pub still_simple : (c : Condition) (rs : List Fraction) → StandsStill c rs → is_simple c rs ≡ true
+still_simple Always rs h = refl
+still_simple Never rs h = refl
+still_simple (Both c d) rs h = and_both _ _ (still_simple c rs (names_left (fluents_read c) (fluents_read d) rs h)) (still_simple d rs (names_right (fluents_read c) (fluents_read d) rs h))
+still_simple (Either c d) rs h = and_both _ _ (still_simple c rs (names_left (fluents_read c) (fluents_read d) rs h)) (still_simple d rs (names_right (fluents_read c) (fluents_read d) rs h))
+still_simple (Atom a positive) rs h = refl
+still_simple (Compare t l r positive) rs h = and_both _ _ (plain_is l rs (names_left (names l) (names r) rs h)) (plain_is r rs (names_right (names l) (names r) rs h))

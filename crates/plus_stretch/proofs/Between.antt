@@ -20,15 +20,15 @@ list_pass fits whose condition j (d ∷ xs) s rs zero a g h =
 list_pass fits whose condition j (d ∷ xs) s rs (suc k) a g h = list_pass fits whose condition (suc j) xs s rs k a g (pass_right (Passes fits) (owned (whose j) (cross_asks 0 (condition d) s rs)) _ h)
 
 module _ (fits : Fraction → Type 0) (P : Problem) (s : State) (rs : List Fraction) where
-  event_pass : (k : ℕ) (e : Event) → slice_get P.events k ≡ Some e → AllPass fits (root_tests P s rs) → crossing.AllPass fits (cross_asks 0 e.condition s rs)
+  pub event_pass : (k : ℕ) (e : Event) → slice_get P.events k ≡ Some e → AllPass fits (root_tests P s rs) → crossing.AllPass fits (cross_asks 0 e.condition s rs)
   unfolding root_tests
   event_pass k e g h = list_pass fits event (λ (e : Event). e.condition) 0 P.events s rs k e g (pass_left (Passes fits) (root_tests_in event (λ (e : Event). e.condition) 0 P.events s rs) _ h)
 
-  process_pass : (k : ℕ) (p : Process) → slice_get P.processes k ≡ Some p → AllPass fits (root_tests P s rs) → crossing.AllPass fits (cross_asks 0 p.condition s rs)
+  pub process_pass : (k : ℕ) (p : Process) → slice_get P.processes k ≡ Some p → AllPass fits (root_tests P s rs) → crossing.AllPass fits (cross_asks 0 p.condition s rs)
   unfolding root_tests
   process_pass k p g h = list_pass fits process (λ (p : Process). p.condition) 0 P.processes s rs k p g (pass_right (Passes fits) (root_tests_in event (λ (e : Event). e.condition) 0 P.events s rs) _ h)
 
-none_next : (Q : Fraction → Type 0) (a b : Fraction) → ((x : Fraction) → a <ℚ x → x <ℚ b → Q x → ⊥) → IsNext Q a b None
+pub none_next : (Q : Fraction → Type 0) (a b : Fraction) → ((x : Fraction) → a <ℚ x → x <ℚ b → Q x → ⊥) → IsNext Q a b None
 unfolding IsNext
 none_next Q a b f = f
 

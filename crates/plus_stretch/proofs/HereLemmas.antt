@@ -1,19 +1,16 @@
 -- What is asked in a state on the way, in parts.
-use Rattle.std.proofs.Common.{◌≡◌, ◌≢◌, ℕ, ◌+◌, Bool, true, false, List, [], ◌∷◌, ◌++◌, ◌||◌, map, refl, ap, sym, subst, ◌∙◌, append_assoc, length, pos, if◌then◌else◌}
+use Rattle.std.proofs.Common.{◌≡◌, ◌≢◌, ℕ, Bool, true, false, List, [], ◌∷◌, ◌++◌, map, refl, ap, sym, subst, ◌∙◌, append_assoc, length, pos}
 use Rattle.std.proofs.lemmas.List.{append-nil}
 use Rattle.std.specs.Prelude.{Option, Some, None}
 use Rattle.plus_fraction.specs.Fraction.{Fraction, whole}
 use Rattle.plus_model.specs.Terms.{Event, State, Problem}
-use Rattle.plus_model.specs.Value.{holds}
 use Rattle.plus_model.specs.Firing.{firing}
 use Rattle.plus_model.specs.Running.{GoesOn}
 use Rattle.plus_state.specs.declared.term.Sign.{Sign}
-use Rattle.plus_state.specs.declared.term.Overflow.{Overflow}
 use Rattle.plus_state.specs.View.{overflow_of}
 use Rattle.plus_state.specs.Node.{Node}
 use Rattle.plus_state.specs.Asked.{node, result_of, NodeFits, AllFit, FirstUnfit}
 use Rattle.plus_state.specs.Tested.{Carries}
-use Rattle.plus_state.specs.Tests.{tests_of}
 use Rattle.plus_state.proofs.Testing.{pass_append, pass_one, fail_one, fail_left, fail_right, carry_pass, carry_fail}
 use Rattle.plus_cascade.specs.Steps.{condition_nodes}
 use Rattle.plus_state.specs.Fits.{StateFits}

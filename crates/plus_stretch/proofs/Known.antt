@@ -1,11 +1,11 @@
 -- What is known of events and processes that are not listed, where they stand still.
-use Rattle.std.proofs.Common.{◌≡◌, ℕ, ◌<◌, ◌≤◌, ◌+◌, zero, suc, Bool, true, false, List, [], ◌∷◌, length, refl, ap, sym, subst, ◌∙◌, pos, arith}
-use Rattle.std.specs.Prelude.{Option, Some, IsSomeAnd, slice_get, ◌↔◌}
+use Rattle.std.proofs.Common.{◌≡◌, ℕ, Bool, true, false, List, refl, sym, subst, ◌∙◌, pos}
+use Rattle.std.specs.Prelude.{Option, Some, IsSomeAnd, slice_get}
 use Rattle.plus_fraction.specs.Fraction.{Fraction, whole}
 use Rattle.plus_model.specs.Terms.{Condition, Event, Process, State, Problem}
 use Rattle.plus_model.specs.Value.{holds}
 use Rattle.plus_model.specs.Firing.{is_in}
-use Rattle.plus_model.specs.Running.{moved, JustAfter, RunsAfter, GoesOn}
+use Rattle.plus_model.specs.Running.{moved, JustAfter, GoesOn}
 use Rattle.plus_state.specs.Walk.{event_conditions, process_conditions, OthersFalse}
 use Rattle.plus_crossing.proofs.Straight.{soon_tells}
 use Rattle.plus_reads.proofs.Frame.{depends_on_reads}

@@ -7,9 +7,14 @@ pub mod Halts
 pub mod Places
 pub mod SoonLemmas
 pub mod Thinned
+pub mod Marks
 pub mod Collecting
+pub mod Marking
 pub mod HereLemmas
 pub mod CrossingLemmas
 pub mod Known
 pub mod AllListed
 pub mod SearchLemmas
+pub mod Skipping
+pub mod LookedLemmas
+pub mod WalkLemmas

@@ -1,17 +1,16 @@
 -- Events of a list, and numbers of events.
-use Rattle.std.proofs.Common.{◌≡◌, ℕ, ◌<◌, ◌≤◌, ◌+◌, zero, suc, List, [], ◌∷◌, length, map, drop, get_or, refl, ap, sym, subst, ◌∙◌, arith, drop-cons}
+use Rattle.std.proofs.Common.{◌≡◌, ℕ, ◌<◌, ◌≤◌, ◌+◌, zero, suc, List, [], ◌∷◌, length, map, drop, get_or, ap, sym, subst, ◌∙◌, arith, drop-cons}
 use Rattle.std.proofs.lemmas.List.{length-map, drop_all}
 use Rattle.std.specs.Prelude.{Some, slice_get}
-use Rattle.std.specs.List.{All}
 use Rattle.plus_fraction.specs.Fraction.{Fraction}
-use Rattle.plus_model.specs.Terms.{Event, Process, Problem}
+use Rattle.plus_model.specs.Terms.{Event, Process}
 use Rattle.plus_number.specs.declared.exact.Exact.{Ghosts}
 use Rattle.plus_state.specs.declared.term.EventId.{EventId}
 use Rattle.plus_state.specs.declared.problem.Event as code
 use Rattle.plus_state.specs.declared.problem.Ground.{Ground}
 use Rattle.plus_state.specs.View.{event_of, process_of, problem_of}
 use Rattle.plus_state.specs.Numbers.{event_numbers, AreMembers}
-use Rattle.plus_state.specs.Walk.{event_conditions}
+use Rattle.plus_state.specs.Walk.{event_conditions, process_conditions}
 use Rattle.plus_still.proofs.Listed.{Walked, walked_inside}
 
 -- the numbers from place i on
@@ -36,8 +35,17 @@ module _ {Q : Type 0} {E : Ghosts Q} (v : Q → Fraction) (g : Ground Q E) where
   pub event_members : (es : List ℕ) → AreMembers (length g.events.items) es → AreMembers (length (problem_of v g).events) es
   event_members es h = members_as _ _ es (sym (length-map g.events.items (event_of v))) h
 
+  pub event_members_back : (es : List ℕ) → AreMembers (length (problem_of v g).events) es → AreMembers (length g.events.items) es
+  event_members_back es h = members_as _ _ es (length-map g.events.items (event_of v)) h
+
+  pub process_members_back : (ps : List ℕ) → AreMembers (length (problem_of v g).processes) ps → AreMembers (length g.processes.items) ps
+  process_members_back ps h = members_as _ _ ps (length-map g.processes.items (process_of v)) h
+
   pub condition_members : (es : List ℕ) → AreMembers (length g.events.items) es → AreMembers (length (event_conditions (problem_of v g))) es
   condition_members es h = members_as _ _ es (sym (length-map (problem_of v g).events (λ (e : Event). e.condition))) (event_members es h)
+
+  pub process_condition_members : (ps : List ℕ) → AreMembers (length g.processes.items) ps → AreMembers (length (process_conditions (problem_of v g))) ps
+  process_condition_members ps h = members_as _ _ ps (sym (length-map (problem_of v g).processes (λ (p : Process). p.condition))) (members_as _ _ ps (sym (length-map g.processes.items (process_of v))) h)
 
   -- a listed number is a place in the code's list
   pub event_inside : (Here : ℕ → Type 0) (k : ℕ) (rest listed : List ℕ) → Walked Here (length (problem_of v g).events) (k ∷ rest) listed → k < length g.events.items

@@ -87,6 +87,10 @@ module _ (fits : Fraction → Type 0) (P : Problem) (t : Fraction) (s : State) (
       stop = λ m x. h.stop m (subst (λ (ts : List Test). FirstFailing fits ts m) (sym (crossing_quiet P t s R rs b (walk_tests P t s R rs len left) q)) (fail_right (Passes fits) _ _ m a x));
     }
 
+    pub walking_next_at : (a : AllPass fits (crossing_tests P t s R rs b [])) (q : IsQuietHere P (moved s rs b) R rs) → (walking_next a q).at ≡ b
+    unfolding walking_next
+    walking_next_at a q = refl
+
     pub there : Stretch P s R rs b
     there = stretch_to P s R rs h.at b h.searched between
 

@@ -17,6 +17,7 @@ use Rattle.plus_fraction.proofs.JustAfter.{one_above}
 use Rattle.plus_model.specs.Trajectory.{is_below}
 use Rattle.plus_model.proofs.Moments.{from_below}
 use Rattle.plus_stretch.specs.Crossings.{insert, rising_below, Among, RisesAbove}
+use Rattle.plus_stretch.specs.Marked.{AreAscending}
 use Rattle.plus_stretch.specs.Thinned.{Ascends, is_kept, thinned}
 use Rattle.plus_stretch.proofs.Rising.{to_below, insert_from, rising_are}
 use Rattle.plus_stretch.proofs.Roots.{among_right}
@@ -153,6 +154,11 @@ module _ {Q : Type 0} (v : Q → Fraction) where
   ascends : (y : Q) (ys : List Q) → ((i j : ℕ) (d : Q) → i ≤ j → j < length (y ∷ ys) → is_lt (compared (v (get_or (y ∷ ys) j d)) (v (get_or (y ∷ ys) i d))) ≡ false) → Ascends (v y) (map v ys)
   ascends y [] h = tt
   ascends y (z ∷ ys) h = (not_less (v z) (v y) (h 0 1 y (omega arith) (omega arith)), ascends z ys (λ i j d a b. h (suc i) (suc j) d (omega arith) (omega arith)))
+
+  -- a sorted list does not fall
+  pub all_ascend : (ys : List Q) → IsSortedBy (λ x y. is_lt (compared (v x) (v y))) ys → AreAscending (map v ys)
+  all_ascend [] h = tt
+  all_ascend (y ∷ ys) h = ascends y ys (sorted_far (λ x y. is_lt (compared (v x) (v y))) (ranks_by compared_total v) (y ∷ ys) h)
 
   sorted_is : (len : Fraction) (xs ys : List Q) → IsPermutation xs ys → ((i j : ℕ) (d : Q) → i ≤ j → j < length ys → is_lt (compared (v (get_or ys j d)) (v (get_or ys i d))) ≡ false) → thinned len None (map v ys) ≡ rising_below len (map v xs)
   sorted_is len xs [] p h =

@@ -1,5 +1,5 @@
 -- What is known, without a look at them, of events and processes that are not listed.
-use Rattle.std.specs.Prelude.{◌≡◌, ℕ, false, List, [], Some, slice_get}
+use Rattle.std.specs.Prelude.{◌≡◌, ◌↔◌, ℕ, true, false, List, [], Some, slice_get}
 use Rattle.plus_fraction.specs.Fraction.{Fraction}
 use Rattle.plus_model.specs.Terms.{Condition, Event, State, Problem}
 use Rattle.plus_model.specs.Firing.{is_in}
@@ -36,3 +36,9 @@ pub record OthersKnown (fits : Fraction → Type 0) (P : Problem) (R : List ℕ)
   pub silent : OthersFalse (event_conditions P) s events
   pub soon : OthersNotSoon fits P s rs events
   pub confirmed : OthersConfirmed fits P R s rs processes
+
+-- whatever lists have these members
+abbrev pub KnownFor : (Fraction → Type 0) → Problem → List ℕ → State → List Fraction → List ℕ → List ℕ → Type 0
+KnownFor fits P R s rs looked_events looked_processes =
+    (events processes : List ℕ) → ((k : ℕ) → is_in events k ≡ true ↔ is_in looked_events k ≡ true) → ((k : ℕ) → is_in processes k ≡ true ↔ is_in looked_processes k ≡ true)
+    → OthersKnown fits P R s rs events processes

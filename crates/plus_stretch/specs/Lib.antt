@@ -9,3 +9,5 @@ pub mod Collected
 pub mod Here
 pub mod Arrives
 pub mod Among
+pub mod Marked
+pub mod Skips

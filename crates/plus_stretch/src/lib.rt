@@ -2,10 +2,11 @@
 //! along lines, until an event holds, the set does not go on, or the given time comes.
 //!
 //! `reach_among` takes the roots of the live comparisons of the listed events and processes once, sorts
-//! those below the time asked for, and goes from one to the next. At each it visits each fluent that
-//! moves once, and takes the condition of each listed event twice and of each listed process once, up to
-//! the first root at which something begins. It copies no state: the state ahead is lent, and what it
-//! answers are changes. `reach` lists all events and all processes.
+//! them, and goes from one to the next below the time asked for. At each it visits each fluent that moves
+//! once, and takes the condition of each event that has the root twice and of each process that has it
+//! once, and of those whose conditions are not simple, up to the first root at which something begins.
+//! It copies no state: the state ahead is lent, and what it answers are changes. `reach` lists all events
+//! and all processes.
 #![tactic(auto)]
 
 pub mod arrival;
@@ -14,6 +15,8 @@ mod everyone;
 pub mod halt;
 pub mod laws;
 pub mod listing;
+pub mod looked;
+pub mod mark;
 pub mod search;
 pub mod soon;
 pub mod sorted;

@@ -1,17 +1,18 @@
-//! All roots along rates.
-ghost use Rattle.std.specs.Prelude.{◌≡◌, length, map};
+//! All roots along rates, with their owners.
+ghost use Rattle.std.specs.Prelude.{◌≡◌, ◌++◌, [], length, map, IfOk};
 ghost use Rattle.plus_state.specs.View.{problem_of};
 ghost use Rattle.plus_state.specs.Fits.{StateFits};
 ghost use Rattle.plus_state.specs.Numbers.{event_numbers, process_numbers, AreMembers};
 ghost use Rattle.plus_state.specs.Walk.{event_conditions, process_conditions};
-ghost use Rattle.plus_stretch.specs.Tests.{event, process};
-ghost use Rattle.plus_stretch.specs.Crossings.{all_roots};
+ghost use Rattle.plus_stretch.specs.Tests.{event, process, whose};
 ghost use Rattle.plus_stretch.specs.StretchTests.{root_tests};
 ghost use Rattle.plus_stretch.specs.Told.{Told, Never};
-ghost use Rattle.plus_stretch.specs.Collected.{of_roots, Collects};
+ghost use Rattle.plus_stretch.specs.Collected.{of_roots};
 ghost use Rattle.plus_stretch.specs.Among.{OthersHaveNoRoot};
+ghost use Rattle.plus_stretch.specs.Marked.{marks_of, MarksTold, AllMarked};
 
 use crate::halt::Halt;
+use crate::mark::Mark;
 use plus_crossing::listing::{RootsStop, roots_into};
 use plus_crossing::node::CondStop;
 use plus_crossing::rates::Rates;
@@ -19,8 +20,8 @@ use plus_number::exact::Exact;
 use plus_state::outcome::{Limit, Owner};
 use plus_state::problem::Ground;
 use plus_state::states::State;
-use plus_state::term::{EventId, ProcessId};
-use std::alloc::Global;
+use plus_state::term::{Cond, EventId, ProcessId};
+use std::alloc::{AllocError, Global};
 
 // The stop of a condition of this owner.
 fn root_halt<Q: Exact>(stop: RootsStop<Q>, owner: Owner) -> Halt<Q>
@@ -35,61 +36,81 @@ fn root_halt<Q: Exact>(stop: RootsStop<Q>, owner: Owner) -> Halt<Q>
     }
 }
 
+// Appends marks of these roots.
+fn mark_all<Q: Exact>(roots: &[Q], owner: Owner, into: &mut Vec<Mark<Q>>) -> Result<(), AllocError>
+    ensures { IfOk result (λ _. marks_of Q.value into.new.items ≡ marks_of Q.value into.old.items ++ map (λ r. (Q.value r, whose owner)) roots.now) }
+{
+    'each: for root in roots {
+        into.push(Mark { at: *root, owner })?;
+    }
+    Ok(())
+}
+
 // Appends the roots of these events, where no other event has one.
-fn event_roots<Q: Exact>(
+fn event_marks<Q: Exact>(
     ground: &Ground<Q>,
     state: &State<Q>,
     rates: &Rates<Q>,
     events: &[EventId],
-    into: &mut Vec<Q>,
+    roots: &mut Vec<Q>,
+    into: &mut Vec<Mark<Q>>,
 ) -> Result<(), Halt<Q>>
     requires state { StateFits (length (ground.now.atoms.items)) (length (ground.now.fluents.items)) state.now }
     requires rates { length rates.now ≡ length (state.now.fluents) }
     requires events { AreMembers (length (ground.now.events.items)) (event_numbers events.now) }
     requires others { OthersHaveNoRoot Q.fits (event_conditions (problem_of Q.value ground.now)) state.now rates.now (event_numbers events.now) }
-    ensures { Collects Q.value Q.fits event (λ e. e.condition) ((problem_of Q.value ground.now).events) state.now rates.now into.old.items into.new.items result }
+    ensures { MarksTold Q.value Q.fits event (λ e. e.condition) ((problem_of Q.value ground.now).events) state.now rates.now into.old.items into.new.items result }
 {
     'each: for id in events {
-        match roots_into(&ground.events[id.0 as usize].condition, state, rates, into) {
+        roots.clear();
+        match roots_into(&ground.events[id.0 as usize].condition, state, rates, roots) {
             Err(stop) => return Err(root_halt(stop, Owner::Event(*id))),
-            Ok(()) => {}
+            Ok(()) => match mark_all(roots, Owner::Event(*id), into) {
+                Err(_) => return Err(Halt::Memory),
+                Ok(()) => {}
+            },
         }
     }
     Ok(())
 }
 
 // Appends the roots of these processes, where no other process has one.
-fn process_roots<Q: Exact>(
+fn process_marks<Q: Exact>(
     ground: &Ground<Q>,
     state: &State<Q>,
     rates: &Rates<Q>,
     processes: &[ProcessId],
-    into: &mut Vec<Q>,
+    roots: &mut Vec<Q>,
+    into: &mut Vec<Mark<Q>>,
 ) -> Result<(), Halt<Q>>
     requires state { StateFits (length (ground.now.atoms.items)) (length (ground.now.fluents.items)) state.now }
     requires rates { length rates.now ≡ length (state.now.fluents) }
     requires processes { AreMembers (length (ground.now.processes.items)) (process_numbers processes.now) }
     requires others { OthersHaveNoRoot Q.fits (process_conditions (problem_of Q.value ground.now)) state.now rates.now (process_numbers processes.now) }
-    ensures { Collects Q.value Q.fits process (λ p. p.condition) ((problem_of Q.value ground.now).processes) state.now rates.now into.old.items into.new.items result }
+    ensures { MarksTold Q.value Q.fits process (λ p. p.condition) ((problem_of Q.value ground.now).processes) state.now rates.now into.old.items into.new.items result }
 {
     'each: for id in processes {
+        roots.clear();
         match roots_into(
             &ground.processes[id.0 as usize].condition,
             state,
             rates,
-            into,
+            roots,
         ) {
             Err(stop) => return Err(root_halt(stop, Owner::Process(*id))),
-            Ok(()) => {}
+            Ok(()) => match mark_all(roots, Owner::Process(*id), into) {
+                Err(_) => return Err(Halt::Memory),
+                Ok(()) => {}
+            },
         }
     }
     Ok(())
 }
 
 /// The moments above 0 at which the sides of a live comparison meet, when the fluents move at these
-/// rates: those of all events and then of all processes, in ground order and in the order of the text,
-/// by a look at the listed ones alone, where no other one has a root. The refusal is the first test
-/// that fails, or want of memory.
+/// rates, with their owners: those of all events and then of all processes, in ground order and in the
+/// order of the text, by a look at the listed ones alone, where no other one has a root. The refusal is
+/// the first test that fails, or want of memory.
 pub fn roots<Q: Exact>(
     alloc: Global,
     ground: &Ground<Q>,
@@ -97,7 +118,7 @@ pub fn roots<Q: Exact>(
     rates: &Rates<Q>,
     events: &[EventId],
     processes: &[ProcessId],
-) -> Result<Vec<Q>, Halt<Q>>
+) -> Result<Vec<Mark<Q>>, Halt<Q>>
     requires state { StateFits (length (ground.now.atoms.items)) (length (ground.now.fluents.items)) state.now }
     requires rates { length rates.now ≡ length (state.now.fluents) }
     requires events { AreMembers (length (ground.now.events.items)) (event_numbers events.now) }
@@ -105,10 +126,11 @@ pub fn roots<Q: Exact>(
     requires other_events { OthersHaveNoRoot Q.fits (event_conditions (problem_of Q.value ground.now)) state.now rates.now (event_numbers events.now) }
     requires other_processes { OthersHaveNoRoot Q.fits (process_conditions (problem_of Q.value ground.now)) state.now rates.now (process_numbers processes.now) }
     ensures { Told Q.value Q.fits (root_tests (problem_of Q.value ground.now) state.now rates.now)
-        (λ roots. map Q.value roots.items ≡ all_roots (problem_of Q.value ground.now) state.now rates.now) Never result }
+        (λ marks. AllMarked (problem_of Q.value ground.now) state.now rates.now (marks_of Q.value marks.items)) Never result }
 {
     let mut roots = Vec::new(alloc);
-    event_roots(ground, state, rates, events, &mut roots)?;
-    process_roots(ground, state, rates, processes, &mut roots)?;
-    Ok(roots)
+    let mut marks = Vec::new(alloc);
+    event_marks(ground, state, rates, events, &mut roots, &mut marks)?;
+    process_marks(ground, state, rates, processes, &mut roots, &mut marks)?;
+    Ok(marks)
 }

@@ -1,7 +1,7 @@
 //! From root to root along a running set.
-ghost use Rattle.std.specs.Prelude.{◌≡◌, [], ◌∷◌, Ok, length, map, IfOk, pos};
+ghost use Rattle.std.specs.Prelude.{◌≡◌, ◌≤◌, [], ◌∷◌, ◌++◌, Ok, length, map, drop, IfOk, IfSome, pos};
 ghost use Rattle.plus_fraction.specs.Fraction.{whole, ◌-ℚ◌, ◌<ℚ◌};
-ghost use Rattle.plus_model.specs.Running.{rates as rates_of, GoesOn};
+ghost use Rattle.plus_model.specs.Running.{rates as rates_of, moved, GoesOn};
 ghost use Rattle.plus_state.specs.View.{problem_of};
 ghost use Rattle.plus_state.specs.Fits.{StateFits};
 ghost use Rattle.plus_state.specs.Asked.{node};
@@ -15,15 +15,20 @@ ghost use Rattle.plus_stretch.specs.Laws.{AreLeft};
 ghost use Rattle.plus_stretch.specs.After.{NoneHoldsAfter};
 ghost use Rattle.plus_stretch.specs.Told.{Told, Never};
 ghost use Rattle.plus_stretch.specs.Here.{IsAlong};
-ghost use Rattle.plus_stretch.specs.Arrives.{IsArrived, WalkTold, StretchTold};
+ghost use Rattle.plus_stretch.specs.Arrives.{IsArrived, CrossingTold, WalkTold, StretchTold};
+ghost use Rattle.plus_stretch.specs.Among.{KnownFor};
+ghost use Rattle.plus_stretch.specs.Marked.{marks_of, roots_of, owning_events, owning_processes, AreOwners, AreAllMarked, AreAscending};
+ghost use Rattle.plus_stretch.specs.Skips.{OthersSimple};
 
 use crate::arrival::{Arrival, End};
 use crate::crossing::{at_root, move_ahead};
 use crate::everyone::everyone;
 use crate::halt::Halt;
 use crate::listing::roots;
+use crate::looked::{Looked, everywhere, looked_at};
+use crate::mark::Mark;
 use crate::soon::none_soon;
-use crate::sorted::rising;
+use crate::sorted::{rising, up_to};
 use plus_crossing::node::exact;
 use plus_number::exact::Exact;
 use plus_settle::settling::Running;
@@ -41,8 +46,59 @@ struct Span<Q> {
     length: Q,
 }
 
-// From one of these roots to the next, up to the first at which something begins, or to the end, by a look at these events
-// and processes, where all others stand still.
+// What happens at a root: by a look at the owners of the marks there, and at whatever is looked at everywhere, where it is
+// known what all others tell.
+fn cross<Q: Exact>(
+    alloc: Global,
+    ground: &Ground<Q>,
+    state: &State<Q>,
+    ahead: &mut State<Q>,
+    running: &Running<Q>,
+    time: Q,
+    root: Q,
+    marks: &[Mark<Q>],
+    everywhere: &Looked,
+) -> Result<Option<Arrival<Q>>, Halt<Q>>
+    requires state { StateFits (length (ground.now.atoms.items)) (length (ground.now.fluents.items)) state.now }
+    requires members { AreMembers (length (ground.now.processes.items)) (process_numbers running.now.members.items) }
+    requires rates { length (running.now.rates) ≡ length (state.now.fluents) }
+    requires along { IsAlong state.now running.now.rates ahead.old }
+    requires owners { AreOwners (problem_of Q.value ground.now) (marks_of Q.value marks.now) }
+    requires events { AreMembers (length (ground.now.events.items)) (event_numbers everywhere.now.events.items) }
+    requires processes { AreMembers (length (ground.now.processes.items)) (process_numbers everywhere.now.processes.items) }
+    requires others { KnownFor Q.fits (problem_of Q.value ground.now) (process_numbers running.now.members.items) (moved state.now running.now.rates (Q.value root)) running.now.rates
+        (event_numbers everywhere.now.events.items ++ owning_events (marks_of Q.value marks.now))
+        (process_numbers everywhere.now.processes.items ++ owning_processes (marks_of Q.value marks.now)) }
+    ensures told { CrossingTold Q.value Q.fits (problem_of Q.value ground.now) (Q.value time) state.now (process_numbers running.now.members.items) running.now.rates (Q.value root) result }
+    ensures along { IsAlong state.now running.now.rates ahead.new }
+    ensures arrived { IfOk result (λ o. IfSome o (IsArrived state.now ahead.new)) }
+{
+    match looked_at(alloc, marks, everywhere) {
+        Err(_) => Err(Halt::Memory),
+        Ok(looked) => at_root(
+            alloc,
+            ground,
+            state,
+            ahead,
+            running,
+            time,
+            root,
+            &looked.events,
+            &looked.processes,
+        ),
+    }
+}
+
+// The marks behind so many.
+fn behind<Q: Exact>(marks: &[Mark<Q>], count: usize) -> &[Mark<Q>]
+    requires { count ≤ length marks.now }
+    ensures { marks_of Q.value result.now ≡ drop count (marks_of Q.value marks.now) }
+{
+    &marks[count..]
+}
+
+// From one of these roots to the next, up to the first at which something begins, or to the end. At each only the owners of the
+// marks there are looked at, and those whose conditions are not simple.
 fn walk<Q: Exact>(
     alloc: Global,
     ground: &Ground<Q>,
@@ -51,8 +107,8 @@ fn walk<Q: Exact>(
     running: &Running<Q>,
     span: Span<Q>,
     roots: &[Q],
-    events: &[EventId],
-    processes: &[ProcessId],
+    marks: &[Mark<Q>],
+    everywhere: &Looked,
 ) -> Result<Arrival<Q>, Halt<Q>>
     requires state { StateFits (length (ground.now.atoms.items)) (length (ground.now.fluents.items)) state.now }
     requires members { AreMembers (length (ground.now.processes.items)) (process_numbers running.now.members.items) }
@@ -65,11 +121,12 @@ fn walk<Q: Exact>(
     requires length { Q.value span.length ≡ Q.value span.until -ℚ Q.value span.from }
     requires roots { AreLeft (problem_of Q.value ground.now) state.now running.now.rates (whole (pos 0)) (Q.value span.length) (map Q.value roots.now) }
     requires along { IsAlong state.now running.now.rates ahead.old }
-    requires events { AreMembers (length (ground.now.events.items)) (event_numbers events.now) }
-    requires processes { AreMembers (length (ground.now.processes.items)) (process_numbers processes.now) }
-    requires other_events { OthersStill Q.fits (event_conditions (problem_of Q.value ground.now)) state.now running.now.rates (event_numbers events.now) }
-    requires silent { OthersFalse (event_conditions (problem_of Q.value ground.now)) state.now (event_numbers events.now) }
-    requires other_processes { OthersStill Q.fits (process_conditions (problem_of Q.value ground.now)) state.now running.now.rates (process_numbers processes.now) }
+    requires marked { AreAllMarked (problem_of Q.value ground.now) state.now running.now.rates (marks_of Q.value marks.now) }
+    requires ascending { AreAscending (roots_of (marks_of Q.value marks.now)) }
+    requires events { AreMembers (length (ground.now.events.items)) (event_numbers everywhere.now.events.items) }
+    requires processes { AreMembers (length (ground.now.processes.items)) (process_numbers everywhere.now.processes.items) }
+    requires simple_events { OthersSimple (event_conditions (problem_of Q.value ground.now)) running.now.rates (event_numbers everywhere.now.events.items) }
+    requires simple_processes { OthersSimple (process_conditions (problem_of Q.value ground.now)) running.now.rates (process_numbers everywhere.now.processes.items) }
     ensures told { WalkTold Q.value Q.fits (problem_of Q.value ground.now) (Q.value span.until) (Q.value span.from) state.now (process_numbers running.now.members.items) running.now.rates (Q.value span.length) (map Q.value roots.now) result }
     ensures along { IsAlong state.now running.now.rates ahead.new }
     ensures arrived { IfOk result (IsArrived state.now ahead.new) }
@@ -79,14 +136,25 @@ fn walk<Q: Exact>(
         until,
         length,
     } = span;
+    let mut rest = marks;
     'each: for root in roots {
-        match at_root(
-            alloc, ground, state, ahead, running, from, *root, events, processes,
+        let count = up_to(rest, *root);
+        match cross(
+            alloc,
+            ground,
+            state,
+            ahead,
+            running,
+            from,
+            *root,
+            &rest[..count],
+            everywhere,
         ) {
             Err(halt) => return Err(halt),
             Ok(Some(arrival)) => return Ok(arrival),
             Ok(None) => {}
         }
+        rest = behind(rest, count);
     }
     match move_ahead(alloc, state, ahead, &running.rates, length) {
         Err(halt) => Err(halt),
@@ -113,7 +181,8 @@ fn time_left<Q: Exact>(time: Q, until: Q) -> Result<Q, Halt<Q>>
 /// event holds or the set does not go on. The rates are those of its members in the state, and they go
 /// on in it; the time asked for is later. Only the listed events and processes are looked at: no other
 /// one reads a fluent that moves, what each other one asks in the state passes, and no other event holds
-/// in it. The refusal is the first test that fails, in this order: the events just after the state, up
+/// in it. At a root only the events and processes are looked at that have it, and those whose conditions
+/// ask more than their truth on the way. The refusal is the first test that fails, in this order: the events just after the state, up
 /// to the first that holds; the time that is left; the roots of all events and all processes; then root
 /// by root below the time asked for, from the least, the moment, the fluents that move, all events, the
 /// processes just after up to the first that differs, and the events just after up to the first that
@@ -149,24 +218,27 @@ pub fn reach_among<Q: Exact>(
 {
     none_soon(ground, state, &running.rates, time, events)?;
     let length = time_left(time, until)?;
-    let all = roots(alloc, ground, state, &running.rates, events, processes)?;
-    match rising(alloc, all, length) {
+    let mut marks = roots(alloc, ground, state, &running.rates, events, processes)?;
+    match rising(alloc, &mut marks, length) {
         Err(_) => Err(Halt::Memory),
-        Ok(different) => walk(
-            alloc,
-            ground,
-            state,
-            ahead,
-            running,
-            Span {
-                from: time,
-                until,
-                length,
-            },
-            &different,
-            events,
-            processes,
-        ),
+        Ok(different) => match everywhere(alloc, ground, &running.rates, events, processes) {
+            Err(_) => Err(Halt::Memory),
+            Ok(looked) => walk(
+                alloc,
+                ground,
+                state,
+                ahead,
+                running,
+                Span {
+                    from: time,
+                    until,
+                    length,
+                },
+                &different,
+                &marks,
+                &looked,
+            ),
+        },
     }
 }
 

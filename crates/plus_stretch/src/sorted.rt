@@ -1,8 +1,12 @@
-//! Roots in order, each once.
-ghost use Rattle.std.specs.Prelude.{◌≡◌, [], ◌∷◌, ◌++◌, map, None, option_map, IfOk, if◌then◌else◌};
+//! Roots in order.
+ghost use Rattle.std.specs.Prelude.{◌≡◌, ◌≤◌, [], ◌∷◌, ◌++◌, length, map, None, option_map, IfOk, if◌then◌else◌};
+ghost use Rattle.plus_fraction.specs.Fraction.{Fraction};
+ghost use Rattle.plus_stretch.specs.Tests.{Whose};
 ghost use Rattle.plus_stretch.specs.Crossings.{rising_below};
+ghost use Rattle.plus_stretch.specs.Marked.{roots_of, marks_of, IsMarked, AreAscending, UpTo};
 ghost use Rattle.plus_stretch.specs.Thinned.{is_kept as is_kept_of, thinned};
 
+use crate::mark::Mark;
 use plus_crossing::crossings::is_below;
 use plus_number::exact::Exact;
 use std::alloc::{AllocError, Global};
@@ -27,23 +31,44 @@ fn append_if<Q: Exact>(into: &mut Vec<Q>, root: Q, keep: bool) -> Result<(), All
 }
 
 // The roots below the bound, of roots that do not fall, each once.
-fn thin<Q: Exact>(alloc: Global, sorted: &[Q], bound: Q) -> Result<Vec<Q>, AllocError>
-    ensures { IfOk result (λ xs. map Q.value xs.items ≡ thinned (Q.value bound) None (map Q.value sorted.now)) }
+fn thin<Q: Exact>(alloc: Global, sorted: &[Mark<Q>], bound: Q) -> Result<Vec<Q>, AllocError>
+    ensures { IfOk result (λ xs. map Q.value xs.items ≡ thinned (Q.value bound) None (map (λ m. Q.value m.at) sorted.now)) }
 {
     let mut roots = Vec::new(alloc);
     let mut before: Option<Q> = None;
-    'each: for root in sorted {
-        append_if(&mut roots, *root, is_kept(before, *root, bound))?;
-        before = Some(*root);
+    'each: for mark in sorted {
+        append_if(&mut roots, mark.at, is_kept(before, mark.at, bound))?;
+        before = Some(mark.at);
     }
     Ok(roots)
 }
 
-/// The different roots below a bound, from the least.
-pub fn rising<Q: Exact>(alloc: Global, mut roots: Vec<Q>, bound: Q) -> Result<Vec<Q>, AllocError>
-    ensures { IfOk result (λ xs. map Q.value xs.items ≡ rising_below (Q.value bound) (map Q.value roots.items)) }
+/// Sorts marks by their roots; the different roots below a bound, from the least.
+pub fn rising<Q: Exact>(
+    alloc: Global,
+    marks: &mut Vec<Mark<Q>>,
+    bound: Q,
+) -> Result<Vec<Q>, AllocError>
+    ensures different { IfOk result (λ xs. map Q.value xs.items ≡ rising_below (Q.value bound) (roots_of (marks_of Q.value marks.old.items))) }
+    ensures kept { (x : Fraction) (w : Whose) → IsMarked x w (marks_of Q.value marks.old.items) → IsMarked x w (marks_of Q.value marks.new.items) }
+    ensures no_other { (x : Fraction) (w : Whose) → IsMarked x w (marks_of Q.value marks.new.items) → IsMarked x w (marks_of Q.value marks.old.items) }
+    ensures ascending { AreAscending (roots_of (marks_of Q.value marks.new.items)) }
 {
-    roots.sort_unstable_by(|a, b| a.order(*b));
-    let rising = thin(alloc, &roots, bound)?;
-    Ok(rising)
+    marks.sort_unstable_by(|a, b| a.at.order(b.at));
+    thin(alloc, marks, bound)
+}
+
+/// How many of these marks, whose roots do not fall, have a root that is not above this one.
+pub fn up_to<Q: Exact>(marks: &[Mark<Q>], root: Q) -> usize
+    ensures first { UpTo (Q.value root) (roots_of (marks_of Q.value marks.now)) result }
+    ensures within { result ≤ length marks.now }
+{
+    let mut count = 0;
+    'each: for mark in marks {
+        if is_below(root, mark.at) {
+            return count;
+        }
+        count += 1;
+    }
+    count
 }

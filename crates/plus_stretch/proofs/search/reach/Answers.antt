@@ -1,6 +1,4 @@
-use Rattle.std.proofs.Common.{◌≡◌, length}
 use Rattle.plus_state.specs.View.{problem_of}
-use Rattle.plus_state.specs.Numbers.{event_numbers, process_numbers, numbers_from}
 use Rattle.plus_stretch.proofs.SearchLemmas.{along_start}
 use Rattle.plus_stretch.proofs.AllListed.{all_events_still, all_events_silent, all_processes_still, all_events, all_processes}
 use Rattle.plus_stretch.proofs.search.reach.Goals as goal
