@@ -114,6 +114,6 @@ typed_bare d p = both_empty _ _ _ _ (declarations_empty d) (both_empty _ _ _ _ (
 pub spans_mean_nothing : SpansMeanNothing
 spans_mean_nothing d d' p p' e f = record {
   typed = sym (typed_bare d p) ∙ ap₂ is_well_typed e f ∙ typed_bare d' p';
-  ground = sym (ground_bare d p) ∙ ap₂ expanded e f ∙ ground_bare d' p';
+  problem = sym (ground_bare d p) ∙ ap₂ expanded e f ∙ ground_bare d' p';
   calls = λ name args. sym (called_bare d p name args) ∙ ap₂ (λ x y. called_of x y name args) e f ∙ called_bare d' p' name args;
 }

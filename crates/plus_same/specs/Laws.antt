@@ -10,7 +10,7 @@ use Rattle.plus_canonical.specs.Same.{SameDomain, SameProblem}
 
 pub record MeansTheSame (d : Domain) (p : Problem) (d' : Domain) (p' : Problem) : Type 0 where
   pub typed : is_well_typed d p ≡ is_well_typed d' p'
-  pub ground : expanded d p ≡ expanded d' p'
+  pub problem : expanded d p ≡ expanded d' p'
   pub calls : (name : List ℕ) (args : List (List ℕ)) → called_of d p name args ≡ called_of d' p' name args
 
 abbrev pub SpansMeanNothing : Type 0

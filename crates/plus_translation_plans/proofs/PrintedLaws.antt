@@ -26,7 +26,7 @@ same_calls meant other e goal s (call ∷ calls) h =
 
 same_plans : (d d' : Domain) (p p' : Problem) → MeansTheSame d p d' p' → (calls : List CallName) → IsNumericPlan d p calls → IsNumericPlan d' p' calls
 same_plans d d' p p' m calls h =
-    subst (λ (g : GroundProblem). NumericPlan (called_in_pair d' p') g.goal g.initial calls) m.ground
+    subst (λ (g : GroundProblem). NumericPlan (called_in_pair d' p') g.goal g.initial calls) m.problem
     (same_calls (called_in_pair d p) (called_in_pair d' p') (λ call. m.calls call.0 call.1) (expanded d p).goal (expanded d p).initial calls h)
 
 pub printed_plans : PrintedPlans
