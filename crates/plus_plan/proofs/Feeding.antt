@@ -1,22 +1,13 @@
 -- A text that is fed in pieces: where its first line ends, and what stands behind it.
-use Rattle.std.proofs.Common.{◌≡◌, ℕ, suc, ◌+◌, ◌-◌, ◌<◌, ◌≤◌, ◌⊎◌, Bool, true, false, cond, List, [], ◌∷◌, ◌++◌, length, take, drop, refl, sym, ap, ◌∙◌, arith, zero, add-one, eqb, eq-eqb, length-append, Result, Ok, Err}
-use Rattle.std.specs.Prelude.{◌==◌, ◌&&◌, ◌||◌, not, min, nat_lt, slice_range, Option, None, Some}
+use Rattle.std.proofs.Common.{◌≡◌, ℕ, suc, ◌+◌, ◌<◌, ◌≤◌, Bool, true, false, cond, List, [], ◌∷◌, ◌++◌, length, take, refl, sym, ap, ◌∙◌, arith, zero, eqb, eq-eqb}
+use Rattle.std.specs.Prelude.{◌==◌, not, min, nat_lt}
 use Rattle.std.specs.List.{prefix_len}
-use Rattle.std.proofs.lemmas.List.{append-nil, length-take-le}
-use Rattle.std.proofs.lemmas.List.Sums.{prefix_len-le-length}
+use Rattle.std.proofs.lemmas.List.{length-take-le}
 use Rattle.std.proofs.lemmas.List.Folds.{prefix_len-append}
-use Rattle.std.proofs.lemmas.Bool.{ltb-true, ltb-false, lt-ltb, le-ltb, cond-true}
-use Rattle.plus_plan.specs.declared.forms.Line.{Line}
-use Rattle.plus_plan.specs.declared.forms.PlanForm.{PlanForm}
-use Rattle.plus_plan.specs.declared.faults.PlanFault.{PlanFault}
-use Rattle.plus_plan.specs.declared.faults.PlanFault.TheVariants as faults
-use Rattle.plus_plan.specs.Cut.{with_front, lines_of, goes_on, line_end, line_from, next_line}
-use Rattle.plus_plan.specs.Lines.{read_line, numbered}
+use Rattle.std.proofs.lemmas.Bool.{ltb-true, ltb-false, cond-true}
+use Rattle.plus_plan.specs.Cut.{with_front, lines_of, goes_on, line_end}
 use Rattle.plus_plan.specs.Spells.{line_limit}
-use Rattle.plus_plan.specs.Pending.{Pending}
 use Rattle.plus_plan.specs.Held.{EndsAt}
-use Rattle.plus_plan.specs.Pieces.{has_lf, is_due, IsIdle, MayFollow, lines_with}
-use Rattle.plus_plan.proofs.Cutting.{cut_at, line_end-le}
 
 min_byte : (n k m : ℕ) (t : Bool) → m ≡ min n k → cond t (1 + m) 0 ≡ min (suc n) (cond t (1 + k) 0)
 min_byte n k m true e = omega arith

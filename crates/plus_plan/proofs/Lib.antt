@@ -10,3 +10,4 @@ pub mod Stops
 pub mod Places
 pub mod Feeding
 pub mod Nexts
+pub mod Cuttings

@@ -1,10 +1,10 @@
 -- What waits in a reader: whether a line is due, and which it is.
-use Rattle.std.proofs.Common.{◌≡◌, ℕ, suc, ◌+◌, ◌-◌, ◌<◌, ◌≤◌, ◌⊎◌, inl, inr, Bool, true, false, cond, List, [], ◌∷◌, ◌++◌, length, take, drop, refl, sym, ap, ◌∙◌, subst, arith, length-append, Result, Ok, Err}
-use Rattle.std.specs.Prelude.{◌&&◌, ◌||◌, min, nat_lt, slice_range, Option, None, Some, MatchResult, IfOk, IfErr}
+use Rattle.std.proofs.Common.{◌≡◌, eqb-true, ℕ, suc, ◌+◌, ◌-◌, ◌<◌, ◌≤◌, ◌⊎◌, inl, inr, Bool, true, false, cond, List, [], ◌∷◌, ◌++◌, length, take, drop, refl, sym, ap, ◌∙◌, arith, length-append, Result, Ok, Err}
+use Rattle.std.specs.Prelude.{◌==◌, not, ◌&&◌, ◌||◌, nat_lt, None, MatchResult, IfOk, IfErr}
 use Rattle.std.specs.List.{prefix_len}
 use Rattle.std.proofs.lemmas.List.{append-nil, length-take-le, take_all}
 use Rattle.std.proofs.lemmas.List.Sums.{prefix_len-le-length}
-use Rattle.std.proofs.lemmas.Bool.{ltb-true, ltb-false, lt-ltb, le-ltb, cond-true}
+use Rattle.std.proofs.lemmas.Bool.{ltb-true, ltb-false, lt-ltb, cond-true}
 use Rattle.plus_plan.specs.declared.forms.Line.{Line}
 use Rattle.plus_plan.specs.declared.forms.PlanForm.{PlanForm}
 use Rattle.plus_plan.specs.declared.faults.PlanFault.{PlanFault}
@@ -15,9 +15,9 @@ use Rattle.plus_plan.specs.Spells.{line_limit}
 use Rattle.plus_plan.specs.Answers.{RefusedAs}
 use Rattle.plus_plan.specs.Pending.{Pending}
 use Rattle.plus_plan.specs.Held.{EndsAt}
-use Rattle.plus_plan.specs.Pieces.{has_lf, is_due, IsIdle, MayFollow, lines_with, IsNext, IsRefusedNext}
+use Rattle.plus_plan.specs.Pieces.{AtLine, has_lf, is_due, IsIdle, MayFollow, lines_with, IsNext, IsRefusedNext}
 use Rattle.plus_plan.proofs.Cutting.{cut_at}
-use Rattle.plus_plan.proofs.OneLine.{read_spelled, has_bottom, placed_ok}
+use Rattle.plus_plan.proofs.OneLine.{read_spelled, has_bottom}
 use Rattle.plus_plan.proofs.Places.{fault_is}
 use Rattle.plus_plan.proofs.Feeding.{prefix_len-front, first_whole, last_line}
 
@@ -103,6 +103,38 @@ first_line_of r h (long lt) short more may = long_first h.0 h.1
         let all : length (line_from r.rest 0) ≡ length r.rest = ap length (line_is_all r.rest e) in
         absurd (omega arith)
 
+lf_end : (b : ℕ) (bs : List ℕ) (t : Bool) → (b == 10) ≡ t → (prefix_len goes_on bs + 1 ≡ length bs → AtLine bs) → cond (not t) (1 + prefix_len goes_on bs) 0 + 1 ≡ suc (length bs) → AtLine (b ∷ bs)
+lf_end b [] true h again e = (let is : b ≡ 10 = eqb-true b 10 h in inr ([], ap (λ x. x ∷ []) is))
+lf_end b (c ∷ cs) true h again e = absurd (omega arith)
+lf_end b bs false h again e = behind (again (omega arith))
+  where
+    behind : AtLine bs → AtLine (b ∷ bs)
+    behind (inl n) = (let none : length bs ≡ 0 = ap length n in absurd (omega arith))
+    behind (inr x) = inr (b ∷ x.0, ap (λ (t : List ℕ). b ∷ t) x.1)
+
+-- bytes whose first line has its LF at their end
+whole_end : (bytes : List ℕ) → prefix_len goes_on bytes + 1 ≡ length bytes → AtLine bytes
+whole_end [] e = inl refl
+whole_end (b ∷ bs) e = lf_end b bs (b == 10) refl (whole_end bs) e
+
+ends_whole : (r : Pending) (whole : Bool) → EndsAt whole (length r.rest) r.rest → line_end r.rest 0 < length r.rest → AtLine r.rest
+ends_whole r true e lt = whole_end r.rest (omega arith)
+ends_whole r false e lt = absurd (omega arith)
+
+-- the line that is due has its LF, unless the text has ended or it is too long
+due_ends : (r : Pending) → HoldsOne r → IsDue r → r.closed ≡ false → AtLine r.rest ⊎ ((line_end r.rest 0 ≡ length r.rest) × (line_limit < length r.rest))
+due_ends r h (ended lt) c = inl (ends_whole r h.0 h.1 lt)
+due_ends r h (last closed lt) c = absurd (let no : false ≡ true = sym c ∙ closed in cc no)
+due_ends r h (long lt) c = long_ends h.0 h.1
+  where
+    long_ends : (whole : Bool) → EndsAt whole (length r.rest) r.rest → AtLine r.rest ⊎ ((line_end r.rest 0 ≡ length r.rest) × (line_limit < length r.rest))
+    long_ends true e = inl (whole_end r.rest (omega arith))
+    long_ends false e = inr (e, lt)
+
+short_ends : (r : Pending) → AtLine r.rest ⊎ ((line_end r.rest 0 ≡ length r.rest) × (line_limit < length r.rest)) → length (line_from r.rest 0) ≤ line_limit → AtLine r.rest
+short_ends r (inl at) le = at
+short_ends r (inr e) le = (let all : length (line_from r.rest 0) ≡ length r.rest = ap length (line_is_all r.rest e.0) in let lt = e.1 in absurd (omega arith))
+
 -- what is read is the line that is next
 pub is_next : (r : Pending) (line : Line) → r.fault ≡ None → HoldsOne r → IsDue r → read_line r.form r.number (line_from r.rest 0) ≡ Ok line → IsNext r line
 is_next r line ok h due read =
@@ -113,6 +145,7 @@ is_next r line ok h due read =
       spelled = spelled;
       bottom = has_bottom r.form r.number line spelled.0 spelled.2;
       some = due_some r due;
+      ends = λ c. short_ends r (due_ends r h due c) spelled.3;
       first = λ more may.
           ap (numbered r.form r.number) (first_line_of r h due spelled.3 more may)
           ∙ ap (λ (read : Result Line PlanFault). read ∷ numbered r.form (r.number + 1) (lines_of more)) read;
@@ -127,10 +160,11 @@ long_behind form n bytes more e lt =
     let some : 0 < length (bytes ++ more) = omega (arith, length-append bytes more) in
     let size : length (line_from (bytes ++ more) 0) ≡ prefix_len goes_on (bytes ++ more) = first_size (bytes ++ more) in
     let long_one : line_limit < length (line_from (bytes ++ more) 0) = omega arith in
-    let long_two : line_limit < length (line_from bytes 0) = rw (line_is_all bytes e) lt in
-    (numbered form (n + 1) (lines_of (drop (next_line (bytes ++ more) 0) (bytes ++ more))),
+    let long_two : line_limit < length (line_from bytes 0) = rw (line_is_all bytes e) lt in (
+      numbered form (n + 1) (lines_of (drop (next_line (bytes ++ more) 0) (bytes ++ more))),
       ap (numbered form n) (cut_at (bytes ++ more) 0 some)
-      ∙ ap (λ (read : Result Line PlanFault). read ∷ numbered form (n + 1) (lines_of (drop (next_line (bytes ++ more) 0) (bytes ++ more)))) (long_read form n (line_from (bytes ++ more) 0) long_one ∙ sym (long_read form n (line_from bytes 0) long_two)))
+          ∙ ap (λ (read : Result Line PlanFault). read ∷ numbered form (n + 1) (lines_of (drop (next_line (bytes ++ more) 0) (bytes ++ more)))) (long_read form n (line_from (bytes ++ more) 0) long_one ∙ sym (long_read form n (line_from bytes 0) long_two)),
+    )
 
 behind_first : (r : Pending) (more : List ℕ) → lines_of (r.rest ++ more) ≡ line_from r.rest 0 ∷ lines_of more → (behind : List (Result Line PlanFault)) × (lines_with r more ≡ read_line r.form r.number (line_from r.rest 0) ∷ behind)
 behind_first r more e = (numbered r.form (r.number + 1) (lines_of more), ap (numbered r.form r.number) e)
@@ -150,6 +184,7 @@ is_refused_next r e h due read = record {
   read = read;
   why = fault_is r.form r.number (line_from r.rest 0) e read;
   some = due_some r due;
+  ends = due_ends r h due;
   first = refused_first r h due;
 }
 

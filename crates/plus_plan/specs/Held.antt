@@ -1,5 +1,5 @@
 -- What a reader of plan lines keeps in its buffer: one line, or the beginning of one.
-use Rattle.std.specs.Prelude.{◌≡◌, ℕ, suc, ◌+◌, ◌≤◌, Bool, true, false, List, length, take}
+use Rattle.std.specs.Prelude.{◌≡◌, ℕ, ◌+◌, ◌≤◌, Bool, true, false, List, length, take}
 use Rattle.plus_plan.specs.declared.pieces.PlanReader.TheInside.{Inside}
 use Rattle.plus_plan.specs.Cut.{line_end}
 use Rattle.plus_plan.specs.Spells.{line_limit}

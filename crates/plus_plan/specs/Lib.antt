@@ -11,3 +11,4 @@ pub mod Pending
 pub mod Pieces
 pub mod Held
 pub mod TimeValue
+pub mod Given

@@ -1,5 +1,5 @@
 -- A plan text that comes in pieces: what a reader of its lines holds, and what one call makes of it.
-use Rattle.std.specs.Prelude.{◌≡◌, ℕ, ◌+◌, ◌-◌, ◌<◌, ◌≤◌, Bool, true, false, ◌&&◌, ◌||◌, List, [], ◌∷◌, ◌++◌, length, min, nat_lt, if◌then◌else◌, Option, Some, None, Result, Ok, Err}
+use Rattle.std.specs.Prelude.{◌≡◌, ℕ, ◌+◌, ◌-◌, ◌<◌, ◌≤◌, ◌⊎◌, Bool, true, false, ◌&&◌, ◌||◌, List, [], ◌∷◌, ◌++◌, length, min, nat_lt, if◌then◌else◌, Some, None, Result, Ok}
 use Rattle.plus_plan.specs.declared.forms.Line.{Line}
 use Rattle.plus_plan.specs.declared.forms.PlanForm.{PlanForm}
 use Rattle.plus_plan.specs.declared.faults.PlanFault.{PlanFault}
@@ -35,6 +35,10 @@ abbrev pub at_end : Pending → Pending
 at_end r = record r { closed = true }
 
 -- ---- giving a line
+
+-- the bytes end where a line ends: there are none, or the last is an LF
+abbrev pub AtLine : List ℕ → Type 0
+AtLine bytes = (bytes ≡ []) ⊎ (front : List ℕ) × (bytes ≡ front ++ 10 ∷ [])
 
 -- these bytes may come behind what was taken: none, where the text has ended
 abbrev pub MayFollow : Pending → List ℕ → Type 0
@@ -72,6 +76,7 @@ pub record IsNext (r : Pending) (line : Line) : Type 0 where
   pub bottom : HasBottom line
   -- it is the first of the lines that wait, whatever comes behind them, and the others are those of what comes
   pub some : 0 < length r.rest
+  pub ends : r.closed ≡ false → AtLine r.rest
   pub first : (more : List ℕ) → MayFollow r more → lines_with r more ≡ Ok line ∷ numbered r.form (r.number + 1) (lines_of more)
 
 -- the reader that refused a line with this fault keeps it; for want of memory the line waits
@@ -85,6 +90,8 @@ pub record IsRefusedNext (r : Pending) (e : PlanFault) : Type 0 where
   pub read : RefusedAs e (read_line r.form r.number (line_from r.rest 0))
   pub why : IsFault r.form r.number (line_from r.rest 0) e
   pub some : 0 < length r.rest
+  -- it has its LF, unless the text has ended or it is too long already
+  pub ends : r.closed ≡ false → AtLine r.rest ⊎ ((line_end r.rest 0 ≡ length r.rest) × (line_limit < length r.rest))
   -- it is the first of the lines that wait, whatever comes behind them
   pub first :
       (more : List ℕ) → MayFollow r more

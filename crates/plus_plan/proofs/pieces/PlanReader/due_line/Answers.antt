@@ -1,4 +1,4 @@
-use Rattle.std.proofs.Common.{◌≡◌, ap}
+use Rattle.std.proofs.Common.{ap}
 use Rattle.plus_plan.specs.Pending.{Pending}
 use Rattle.plus_plan.proofs.Nexts.{held_one, next_is, refused_is}
 use Rattle.plus_plan.proofs.pieces.PlanReader.due_line.Goals as goal

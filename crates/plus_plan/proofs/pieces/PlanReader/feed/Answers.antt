@@ -1,5 +1,4 @@
-use Rattle.std.proofs.Common.{◌≡◌, ◌∙◌, length, arith}
-use Rattle.plus_plan.specs.Spells.{line_limit}
+use Rattle.std.proofs.Common.{arith}
 use Rattle.plus_plan.proofs.Feeding.{held_fed}
 use Rattle.plus_plan.proofs.pieces.PlanReader.feed.Goals as goal
 
