@@ -6,3 +6,4 @@ pub mod ChoicesLemmas
 pub mod CouplingLemmas
 pub mod SettlesLemmas
 pub mod AmongLemmas
+pub mod ShortLemmas

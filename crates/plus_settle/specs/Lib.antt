@@ -5,3 +5,4 @@ pub mod Confirms
 pub mod Settles
 pub mod Laws
 pub mod Among
+pub mod Uncoupled

@@ -13,6 +13,7 @@ mod coupling;
 pub mod laws;
 pub mod net;
 pub mod settling;
+pub mod settling_among;
 pub mod stops;
 #[cfg(test)]
 mod tests;
@@ -22,4 +23,5 @@ pub use choices::holding;
 pub use confirms::goes_on;
 pub use net::net_rates;
 pub use settling::{Running, settle};
+pub use settling_among::settle_among;
 pub use stops::{GoStop, RateStop, SettleStop};

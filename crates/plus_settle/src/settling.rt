@@ -1,12 +1,13 @@
 //! Settling.
-ghost use Rattle.std.specs.Prelude.{◌≡◌, length, IfOk};
-ghost use Rattle.plus_model.specs.Running.{rates as rates_of};
+ghost use Rattle.std.specs.Prelude.{◌≡◌, Ok, length, IfOk};
+ghost use Rattle.plus_model.specs.Running.{holding as holding_of, rates as rates_of};
 ghost use Rattle.plus_state.specs.View.{problem_of};
 ghost use Rattle.plus_state.specs.Fits.{StateFits};
+ghost use Rattle.plus_state.specs.Asked.{AllFit};
 ghost use Rattle.plus_settle.specs.Steps.{AllPass};
 ghost use Rattle.plus_settle.specs.Rates.{rates_steps};
 ghost use Rattle.plus_settle.specs.Members.{process_numbers, AreMembers};
-ghost use Rattle.plus_settle.specs.Settles.{of_rate, OwnRates, Confirmed, own_then, SettleAnswers};
+ghost use Rattle.plus_settle.specs.Settles.{condition_nodes, of_rate, OwnRates, Confirmed, own_then, SettleAnswers};
 
 use crate::choices::{chosen, holding, settle_stop};
 use crate::confirms::first_other;
@@ -50,7 +51,7 @@ fn rate_stop<Q: Exact>(stop: RateStop<Q>) -> SettleStop<Q>
 }
 
 // The net rates under these processes.
-fn own_rates<Q: Exact>(
+pub fn own_rates<Q: Exact>(
     alloc: Global,
     ground: &Ground<Q>,
     members: &[ProcessId],
@@ -91,6 +92,31 @@ fn confirmed<Q: Exact>(
     }
 }
 
+// The running set, by the rates of those that hold: those that hold just after at these rates, which must
+// confirm themselves.
+pub fn settle_from<Q: Exact>(
+    alloc: Global,
+    ground: &Ground<Q>,
+    present: &[ProcessId],
+    state: &State<Q>,
+    first: &Rates<Q>,
+) -> Result<Running<Q>, SettleStop<Q>>
+    requires state { StateFits (length (ground.now.atoms.items)) (length (ground.now.fluents.items)) state.now }
+    requires pass { AllFit Q.fits (condition_nodes ((problem_of Q.value ground.now).processes) state.now) }
+    requires present { process_numbers present.now ≡ holding_of (problem_of Q.value ground.now) state.now }
+    requires size { length first.now ≡ length (state.now.fluents) }
+    requires rated { AllPass Q.fits (rates_steps (problem_of Q.value ground.now) state.now (process_numbers present.now)) }
+    requires first { rates_of (problem_of Q.value ground.now) state.now (process_numbers present.now) ≡ Ok first.now }
+    ensures told { SettleAnswers Q.value Q.fits (problem_of Q.value ground.now) state.now result }
+    ensures members { IfOk result (λ r. AreMembers (length (ground.now.processes.items)) (process_numbers r.members.items)) }
+    ensures size { IfOk result (λ r. length r.rates ≡ length (ground.now.fluents.items)) }
+{
+    let members = chosen(alloc, ground, state, first)?;
+    let rates = own_rates(alloc, ground, &members, state)?;
+    confirmed(ground, &members, state, &rates)?;
+    Ok(Running { members, rates })
+}
+
 /// The running set of a state and its net rates. The processes that hold in the state give rates, those
 /// that hold just after it at these rates are the set, and it must confirm itself: at its own rates
 /// exactly its members hold just after. No rate of a member may read a fluent that moves. The refusal
@@ -109,8 +135,5 @@ pub fn settle<Q: Exact>(
 {
     let present = holding(alloc, ground, state)?;
     let first = own_rates(alloc, ground, &present, state)?;
-    let members = chosen(alloc, ground, state, &first)?;
-    let rates = own_rates(alloc, ground, &members, state)?;
-    confirmed(ground, &members, state, &rates)?;
-    Ok(Running { members, rates })
+    settle_from(alloc, ground, &present, state, &first)
 }

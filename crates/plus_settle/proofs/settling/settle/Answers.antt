@@ -1,9 +1,8 @@
-use Rattle.std.proofs.Common.{◌∙◌}
 use Rattle.std.proofs.lemmas.List.{length-map}
 use Rattle.std.proofs.lemmas.Result.{err_from_is_err_and}
 use Rattle.plus_state.specs.View.{process_of, problem_of}
-use Rattle.plus_settle.proofs.ChoicesLemmas.{holding_members, soon_members}
-use Rattle.plus_settle.proofs.SettlesLemmas.{holding_stop, first_stop, chosen_stop, second_stop, last_stop, settles}
+use Rattle.plus_settle.proofs.ChoicesLemmas.{holding_members}
+use Rattle.plus_settle.proofs.SettlesLemmas.{holding_stop, first_stop}
 use Rattle.plus_settle.proofs.settling.settle.Goals as goal
 
 pub returns-in_err-present-clause-told : goal.returns-in_err-present-clause-told
@@ -21,45 +20,11 @@ returns-in_err-first-clause-told g c =
     let t = rw c.deref.ensures.value at c.in_err-first.ensures.told in
     rw (p.1, p.2) (first_stop g.Q.Exact.value _ (problem_of g.Q.Exact.value c.args.ground.now) _ _ c.in_err-first.field-0.0 c.in_ok-present.ensures.0 c.in_ok-present.ensures.1 t.0 t.1)
 
-pub returns-in_err-members-clause-told : goal.returns-in_err-members-clause-told
-returns-in_err-members-clause-told g c =
-    let p = err_from_is_err_and c.from_residual-in_err-members.result c.from_residual-in_err-members.ensures.1 in
-    let t = rw c.deref.ensures.value at c.in_ok-first.ensures.told in
-    rw (p.1, p.2) (chosen_stop g.Q.Exact.value _ (problem_of g.Q.Exact.value c.args.ground.now) _ _ _ c.in_ok-present.ensures.0 c.in_ok-present.ensures.1 t.0 t.1 c.in_err-members.field-0.0 c.in_err-members.ensures)
+pub settle_from-requires-clause-present : goal.settle_from-requires-clause-present
+settle_from-requires-clause-present g c = rw c.deref-2.ensures.value c.in_ok-present.ensures.1
 
-pub own_rates-requires-2-clause-members : goal.own_rates-requires-2-clause-members
-own_rates-requires-2-clause-members g c =
-    rw c.deref-2.ensures.value (soon_members (problem_of g.Q.Exact.value c.args.ground.now) c.args.state.now c.in_ok-first.first _ _ (length-map c.args.ground.now.processes.items (process_of g.Q.Exact.value)) c.in_ok-members.ensures.1)
+pub settle_from-requires-clause-rated : goal.settle_from-requires-clause-rated
+settle_from-requires-clause-rated g c = rw c.deref-2.ensures.value (rw c.deref.ensures.value at c.in_ok-first.ensures.told).0
 
-pub returns-in_err-rates-clause-told : goal.returns-in_err-rates-clause-told
-returns-in_err-rates-clause-told g c =
-    let p = err_from_is_err_and c.from_residual-in_err-rates.result c.from_residual-in_err-rates.ensures.1 in
-    let t = rw c.deref.ensures.value at c.in_ok-first.ensures.told in
-    let u = rw c.deref-2.ensures.value at c.in_err-rates.ensures.told in
-    rw (p.1, p.2) (second_stop g.Q.Exact.value _ (problem_of g.Q.Exact.value c.args.ground.now) _ _ _ c.in_ok-present.ensures.0 c.in_ok-present.ensures.1 t.0 t.1 _ c.in_ok-members.ensures.0 c.in_ok-members.ensures.1 c.in_ok-members.ensures.2 c.in_err-rates.field-0.0 u.0 u.1)
-
-pub confirmed-requires-clause-members : goal.confirmed-requires-clause-members
-confirmed-requires-clause-members g c =
-    rw c.deref-3.ensures.value (soon_members (problem_of g.Q.Exact.value c.args.ground.now) c.args.state.now c.in_ok-first.first _ _ (length-map c.args.ground.now.processes.items (process_of g.Q.Exact.value)) c.in_ok-members.ensures.1)
-
-pub returns-in_err-confirmed-clause-told : goal.returns-in_err-confirmed-clause-told
-returns-in_err-confirmed-clause-told g c =
-    let p = err_from_is_err_and c.from_residual-in_err-confirmed.result c.from_residual-in_err-confirmed.ensures.1 in
-    let t = rw c.deref.ensures.value at c.in_ok-first.ensures.told in
-    let u = rw c.deref-2.ensures.value at c.in_ok-rates.ensures.told in
-    let x = rw c.deref-3.ensures.value at c.in_err-confirmed.ensures in
-    rw (p.1, p.2) (last_stop g.Q.Exact.value _ (problem_of g.Q.Exact.value c.args.ground.now) _ _ _ c.in_ok-present.ensures.0 c.in_ok-present.ensures.1 t.0 t.1 _ c.in_ok-members.ensures.0 c.in_ok-members.ensures.1 c.in_ok-members.ensures.2 _ u.0 u.1 c.in_err-confirmed.field-0.0 x.0 x.1)
-
-pub returns-clause-told : goal.returns-clause-told
-returns-clause-told g c =
-    let t = rw c.deref.ensures.value at c.in_ok-first.ensures.told in
-    let u = rw c.deref-2.ensures.value at c.in_ok-rates.ensures.told in
-    let x = rw c.deref-3.ensures.value at c.in_ok-confirmed.ensures in
-    settles g.Q.Exact.value _ (problem_of g.Q.Exact.value c.args.ground.now) _ _ _ c.in_ok-present.ensures.0 c.in_ok-present.ensures.1 t.0 t.1 _ c.in_ok-members.ensures.0 c.in_ok-members.ensures.1 c.in_ok-members.ensures.2 _ u.0 u.1 x.0 x.1 x.2
-
-pub returns-clause-members : goal.returns-clause-members
-returns-clause-members g c =
-    soon_members (problem_of g.Q.Exact.value c.args.ground.now) c.args.state.now c.in_ok-first.first _ _ (length-map c.args.ground.now.processes.items (process_of g.Q.Exact.value)) c.in_ok-members.ensures.1
-
-pub returns-clause-size : goal.returns-clause-size
-returns-clause-size g c = c.in_ok-rates.ensures.size ∙ c.requires.state.fluents_fit
+pub settle_from-requires-clause-first : goal.settle_from-requires-clause-first
+settle_from-requires-clause-first g c = rw c.deref-2.ensures.value (rw c.deref.ensures.value at c.in_ok-first.ensures.told).1

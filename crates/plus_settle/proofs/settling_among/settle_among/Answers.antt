@@ -1,0 +1,57 @@
+use Rattle.std.proofs.Common.{◌≡◌, ◌∙◌, ℕ, List, length, refl, sym, subst}
+use Rattle.std.proofs.lemmas.List.{length-map}
+use Rattle.std.proofs.lemmas.Result.{err_from_is_err_and}
+use Rattle.plus_state.specs.Numbers.{AreMembers}
+use Rattle.plus_state.specs.View.{process_of, problem_of}
+use Rattle.plus_crossing.specs.Rated.{moving_of}
+use Rattle.plus_reads.specs.Tables.{ReadAny}
+use Rattle.plus_settle.specs.Members.{process_numbers}
+use Rattle.plus_settle.proofs.ChoicesLemmas.{holding_members}
+use Rattle.plus_settle.proofs.MembersLemmas.{are_members}
+use Rattle.plus_settle.proofs.SettlesLemmas.{first_stop}
+use Rattle.plus_settle.proofs.ShortLemmas.{others_confirmed, short_stop, short_way, short_members}
+use Rattle.plus_settle.proofs.settling_among.settle_among.Goals as goal
+
+pub own_rates-requires-clause-members : goal.own_rates-requires-clause-members
+own_rates-requires-clause-members g c =
+    holding_members (problem_of g.Q.Exact.value c.args.ground.now) c.args.state.now _ _ (length-map c.args.ground.now.processes.items (process_of g.Q.Exact.value)) c.requires.present
+
+pub returns-in_err-first-clause-told : goal.returns-in_err-first-clause-told
+returns-in_err-first-clause-told g c =
+    let p = err_from_is_err_and c.from_residual.result c.from_residual.ensures.1 in
+    let t = c.in_err-first.ensures.told in
+    rw (p.1, p.2) (first_stop g.Q.Exact.value _ (problem_of g.Q.Exact.value c.args.ground.now) _ _ c.in_err-first.field-0.0 c.requires.pass c.requires.present t.0 t.1)
+
+pub first_other_among-requires-clause-members : goal.first_other_among-requires-clause-members
+first_other_among-requires-clause-members g c =
+    holding_members (problem_of g.Q.Exact.value c.args.ground.now) c.args.state.now _ _ (length-map c.args.ground.now.processes.items (process_of g.Q.Exact.value)) c.requires.present
+
+pub first_other_among-requires-clause-others : goal.first_other_among-requires-clause-others
+first_other_among-requires-clause-others g c =
+    let P = problem_of g.Q.Exact.value c.args.ground.now in
+    let r = subst (λ (xs : List _). ReadAny c.args.readers.now (moving_of c.in_ok-first.first) (process_numbers xs)) (sym c.deref.ensures.value) c.in-Ok.ensures in
+    others_confirmed g.Q.Exact.fits P c.args.state.now c.args.readers.now (process_numbers c.args.present.now) c.in_ok-first.first (process_numbers c.deref.result.now) g.met.Q.Exact.zero_fits c.requires.pass c.requires.present c.requires.readers r
+
+pub uncoupled-requires-clause-members : goal.uncoupled-requires-clause-members
+uncoupled-requires-clause-members g c =
+    holding_members (problem_of g.Q.Exact.value c.args.ground.now) c.args.state.now _ _ (length-map c.args.ground.now.processes.items (process_of g.Q.Exact.value)) c.requires.present
+
+pub returns-in-Err-first_other_among-clause-told : goal.returns-in-Err-first_other_among-clause-told
+returns-in-Err-first_other_among-clause-told g c =
+    let P = problem_of g.Q.Exact.value c.args.ground.now in
+    let t = c.in_ok-first.ensures.told in
+    rw c.settle_stop.ensures (short_stop g.Q.Exact.value g.Q.Exact.fits P c.args.state.now (process_numbers c.args.present.now) c.in_ok-first.first c.requires.pass c.requires.present t.0 t.1 c.in-Err-first_other_among.stop c.in-Err-first_other_among.ensures)
+
+pub returns-in-Ok-None-clause-told : goal.returns-in-Ok-None-clause-told
+returns-in-Ok-None-clause-told g c =
+    let P = problem_of g.Q.Exact.value c.args.ground.now in
+    let t = c.in_ok-first.ensures.told in
+    let h = rw c.in-Ok-None.field-0-is at c.in-Ok-None.ensures in
+    let n = holding_members P c.args.state.now (length P.processes) (process_numbers c.args.present.now) refl c.requires.present in
+    short_way g.Q.Exact.value g.Q.Exact.fits P c.args.state.now (process_numbers c.args.present.now) c.in_ok-first.first c.requires.pass c.requires.present t.0 t.1 n h.0 h.1 h.2 c.uncoupled.result c.uncoupled.ensures
+
+pub returns-in-Ok-None-clause-members : goal.returns-in-Ok-None-clause-members
+returns-in-Ok-None-clause-members g c =
+    let P = problem_of g.Q.Exact.value c.args.ground.now in
+    short_members P (process_numbers c.args.present.now) c.in_ok-first.first _ c.uncoupled.result c.uncoupled.ensures
+    (holding_members P c.args.state.now _ _ (length-map c.args.ground.now.processes.items (process_of g.Q.Exact.value)) c.requires.present)

@@ -1,0 +1,89 @@
+//! Settling, where it is known which processes hold and who reads what.
+ghost use Rattle.std.specs.Prelude.{◌≡◌, length, IfOk};
+ghost use Rattle.plus_model.specs.Running.{holding as holding_of};
+ghost use Rattle.plus_state.specs.View.{problem_of};
+ghost use Rattle.plus_state.specs.Fits.{StateFits};
+ghost use Rattle.plus_state.specs.Asked.{AllFit};
+ghost use Rattle.plus_state.specs.Walk.{process_conditions};
+ghost use Rattle.plus_reads.specs.Tables.{AreBelow, Covers, ReadAny};
+ghost use Rattle.plus_crossing.specs.Rated.{moving_of};
+ghost use Rattle.plus_settle.specs.Members.{process_numbers, AreMembers};
+ghost use Rattle.plus_settle.specs.Settles.{condition_nodes, SettleAnswers};
+ghost use Rattle.plus_settle.specs.Uncoupled.{Uncoupled};
+
+use crate::among::first_other_among;
+use crate::choices::settle_stop;
+use crate::coupling::first_coupled;
+use crate::settling::{Running, own_rates, settle_from};
+use crate::stops::SettleStop;
+use plus_crossing::rates::Rates;
+use plus_number::exact::Exact;
+use plus_reads::Readers;
+use plus_reads::touched::readers_by;
+use plus_state::problem::Ground;
+use plus_state::states::State;
+use plus_state::term::ProcessId;
+use std::alloc::{AllocError, Global};
+
+// The processes that read a fluent that moves.
+fn readers_of_moving<Q: Exact>(
+    alloc: Global,
+    readers: &Readers,
+    rates: &Rates<Q>,
+) -> Result<Vec<ProcessId>, AllocError>
+    ensures { IfOk result (λ listed. ReadAny readers.now (moving_of rates.now) (process_numbers listed.items)) }
+{
+    let moving = rates.moving(alloc)?;
+    let listed = readers_by(alloc, readers, &moving)?;
+    Ok(listed)
+}
+
+// The set of these members, which go on at these rates, where none of them reads a moving fluent.
+fn uncoupled<Q: Exact>(
+    alloc: Global,
+    ground: &Ground<Q>,
+    members: &[ProcessId],
+    rates: Rates<Q>,
+) -> Result<Running<Q>, SettleStop<Q>>
+    requires members { AreMembers (length (ground.now.processes.items)) (process_numbers members.now) }
+    requires rates { length rates ≡ length (ground.now.fluents.items) }
+    ensures { Uncoupled (problem_of Q.value ground.now) (process_numbers members.now) rates result }
+{
+    match first_coupled(ground, members, &rates) {
+        Some(pair) => Err(SettleStop::Coupled(pair.0, pair.1)),
+        None => match Vec::from_slice(alloc, members) {
+            Err(_) => Err(SettleStop::Memory),
+            Ok(members) => Ok(Running { members, rates }),
+        },
+    }
+}
+
+/// The running set of a state and its net rates, as `settle`, where these are the processes that hold
+/// in it and what their conditions ask is known to pass. Only the processes are looked at that read a
+/// fluent that moves: where those that hold go on at their own rates, they are the running set.
+pub fn settle_among<Q: Exact>(
+    alloc: Global,
+    ground: &Ground<Q>,
+    present: &[ProcessId],
+    state: &State<Q>,
+    readers: &Readers,
+) -> Result<Running<Q>, SettleStop<Q>>
+    requires state { StateFits (length (ground.now.atoms.items)) (length (ground.now.fluents.items)) state.now }
+    requires pass { AllFit Q.fits (condition_nodes ((problem_of Q.value ground.now).processes) state.now) }
+    requires present { process_numbers present.now ≡ holding_of (problem_of Q.value ground.now) state.now }
+    requires readers { Covers (process_conditions (problem_of Q.value ground.now)) readers.now }
+    requires below { AreBelow (length (process_conditions (problem_of Q.value ground.now))) readers.now }
+    ensures told { SettleAnswers Q.value Q.fits (problem_of Q.value ground.now) state.now result }
+    ensures members { IfOk result (λ r. AreMembers (length (ground.now.processes.items)) (process_numbers r.members.items)) }
+    ensures size { IfOk result (λ r. length r.rates ≡ length (ground.now.fluents.items)) }
+{
+    let first = own_rates(alloc, ground, present, state)?;
+    match readers_of_moving(alloc, readers, &first) {
+        Err(_) => Err(SettleStop::Memory),
+        Ok(listed) => match first_other_among(ground, present, state, &first, &listed) {
+            Err(stop) => Err(settle_stop(stop)),
+            Ok(Some(_)) => settle_from(alloc, ground, present, state, &first),
+            Ok(None) => uncoupled(alloc, ground, present, first),
+        },
+    }
+}
