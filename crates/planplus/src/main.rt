@@ -4,6 +4,7 @@
 mod command;
 #[cfg(test)]
 mod edge_tests;
+mod explain;
 mod files;
 mod happenings;
 pub mod laws;
@@ -27,7 +28,9 @@ ghost use Rattle.std.specs.Process.{exit_status};
 ghost use Rattle.planplus.specs.Command.{command_of};
 ghost use Rattle.planplus.specs.Headline.{IsAnswer, EndsWith};
 
+use explain::explain;
 use files::shelf_for;
+use plus_explain::{Ending, Kept};
 use plus_io::{Shelf, Sink};
 use run::run;
 use screen::StdSink;
@@ -65,14 +68,21 @@ fn conclude<S: Shelf, O: Sink>(
     run(alloc, words, shelf, out).exit_code()
 }
 
-// Carries out the words over their files and the standard output.
-fn perform<R: Files + Print>(rt: &R, alloc: Global, words: &[String]) -> ExitCode
+// Carries out the words over their files and the standard output, and says on the standard error why
+// they were answered so.
+fn perform<R: Files + Print + Eprint>(rt: &R, alloc: Global, words: &[String]) -> ExitCode
     // Words that are no command end so, unless the output failed or there was no memory.
     ensures { command_of (map string_bytes words.now) ≡ None →
         (exit_status result ≡ 4) ⊎ (exit_status result ≡ 6) ⊎ (exit_status result ≡ 7) }
 {
     match shelf_for(rt, alloc, words) {
-        Ok(mut shelf) => conclude(alloc, words, &mut shelf, &mut StdSink::new(rt)),
+        Ok(shelf) => {
+            let mut shelf = Kept::new(alloc, shelf);
+            let mut out = Ending::new(alloc, StdSink::new(rt));
+            let code = conclude(alloc, words, &mut shelf, &mut out);
+            explain(rt, alloc, words, &shelf, &out, code);
+            code
+        }
         Err(_) => ExitCode::from(NO_MEMORY),
     }
 }

@@ -1,0 +1,21 @@
+; A kettle must not get hotter than 80. The event holds at every moment after the mark is reached, and not at it: it has no
+; first moment.
+(define (domain kettle)
+ (:predicates (on) (spoilt))
+ (:functions (temperature))
+ (:action switch-on
+  :parameters ()
+  :precondition (not (on))
+  :effect (on))
+ (:action switch-off
+  :parameters ()
+  :precondition (on)
+  :effect (not (on)))
+ (:process heat
+  :parameters ()
+  :precondition (on)
+  :effect (increase (temperature) (* #t 30)))
+ (:event too-hot
+  :parameters ()
+  :precondition (and (not (spoilt)) (> (temperature) 80))
+  :effect (spoilt)))
