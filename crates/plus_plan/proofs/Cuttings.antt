@@ -123,7 +123,7 @@ goes_on_with form text lines r g more may =
 
 -- ---- a line is given
 
-ends_given : (given rest : List ℕ) → AtLine rest → 0 < length rest → AtLine (given ++ rest)
+pub ends_given : (given rest : List ℕ) → AtLine rest → 0 < length rest → AtLine (given ++ rest)
 ends_given given rest (inl e) lt = (let none : length rest ≡ 0 = ap length e in absurd (omega arith))
 ends_given given rest (inr e) lt = inr (given ++ e.0, ap (λ (t : List ℕ). given ++ t) e.1 ∙ sym (append_assoc given e.0 (10 ∷ [])))
 

@@ -131,7 +131,7 @@ due_ends r h (long lt) c = long_ends h.0 h.1
     long_ends true e = inl (whole_end r.rest (omega arith))
     long_ends false e = inr (e, lt)
 
-short_ends : (r : Pending) → AtLine r.rest ⊎ ((line_end r.rest 0 ≡ length r.rest) × (line_limit < length r.rest)) → length (line_from r.rest 0) ≤ line_limit → AtLine r.rest
+pub short_ends : (r : Pending) → AtLine r.rest ⊎ ((line_end r.rest 0 ≡ length r.rest) × (line_limit < length r.rest)) → length (line_from r.rest 0) ≤ line_limit → AtLine r.rest
 short_ends r (inl at) le = at
 short_ends r (inr e) le = (let all : length (line_from r.rest 0) ≡ length r.rest = ap length (line_is_all r.rest e.0) in let lt = e.1 in absurd (omega arith))
 

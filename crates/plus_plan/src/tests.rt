@@ -1,4 +1,4 @@
-use crate::{Line, PlanFault, PlanForm, Time, line_at, time_value};
+use crate::{Line, PlanFault, PlanForm, PlanReader, Time, line_at, time_value};
 use plus_number::exact::Exact;
 use plus_tree::{Call, Span};
 use std::test::*;
@@ -218,4 +218,30 @@ fn values_of_times(rt: HostRuntime) {
         };
         assert_eq!(rt; got, want);
     }
+}
+
+#[test]
+fn lines_in_pieces(rt: HostRuntime) -> Result<(), Fail> {
+    let alloc = rt.alloc();
+    let mut reader = PlanReader::new(alloc, PlanForm::Timed)?;
+    // Up to and with the LF, and none behind it.
+    assert_eq!(rt; reader.feed(b"1: (a"), 5);
+    assert_eq!(rt; reader.feed(b") [2]\n2: @end"), 6);
+    assert_eq!(rt; reader.feed(b"2: @end"), 0);
+    reader.close();
+    assert!(rt; matches!(reader.next_line(), Ok(Some(Line::Act { line: 1, .. }))));
+    assert!(rt; matches!(reader.next_line(), Ok(None)));
+    // The last line needs no LF.
+    let mut reader = PlanReader::new(alloc, PlanForm::Timed)?;
+    assert_eq!(rt; reader.feed(b"2: @end"), 7);
+    assert!(rt; matches!(reader.next_line(), Ok(None)));
+    reader.close();
+    assert!(rt; matches!(reader.next_line(), Ok(Some(Line::End { line: 1, .. }))));
+    // A line of 4,097 bytes is too long without its LF, and that is kept.
+    let longer = vec![in alloc; b' '; 5000]?;
+    let mut reader = PlanReader::new(alloc, PlanForm::Timed)?;
+    assert_eq!(rt; reader.feed(&longer), 4097);
+    assert!(rt; matches!(reader.next_line(), Err(PlanFault::LineTooLong { line: 1 })));
+    assert!(rt; matches!(reader.next_line(), Err(PlanFault::LineTooLong { line: 1 })));
+    Ok(())
 }
