@@ -1,0 +1,12 @@
+pub mod Level
+pub mod Cut
+pub mod Calls
+pub mod Tests
+pub mod Asked
+pub mod Verdicts
+pub mod Answers
+pub mod Playing
+pub mod Telling
+pub mod Streaming
+pub mod Refusing
+pub mod Laws

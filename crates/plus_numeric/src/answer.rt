@@ -1,0 +1,30 @@
+//! What is answered on a plan that is none.
+
+/// What kind of refusal it is.
+#[derive(Clone, Copy, Debug, PartialEq, Eq)]
+pub enum Kind {
+    /// The plan breaks a rule.
+    Invalid,
+    /// A limit of the program is reached before the plan can be judged.
+    Beyond,
+    /// A text goes beyond the language of plans without time, or a line is none of a plan.
+    BadText,
+}
+
+/// A plan that is refused, and the line that says why.
+#[derive(Debug, Drop)]
+pub struct Refused {
+    pub kind: Kind,
+    pub line: Vec<u8>,
+}
+
+/// Why no plan is told.
+#[derive(Debug, Drop)]
+pub enum Stop {
+    /// The pair or the plan is refused.
+    Refused(Refused),
+    /// The shelf failed.
+    ReadFault,
+    /// Memory is wanting.
+    NoMemory,
+}

@@ -1,0 +1,7 @@
+use Rattle.std.proofs.Common.{◌≡◌, ◌++◌}
+use Rattle.std.specs.List.{flat_map}
+use Rattle.plus_trial.specs.Farm.{tanks, object_text}
+use Rattle.plus_trial.proofs.farm.put_objects.Given as goal
+
+abbrev pub invariant-tanks : goal.invariant-tanks
+invariant-tanks l = l.text.items ≡ l.initial.text.items ++ flat_map object_text (tanks l.before)

@@ -1,0 +1,11 @@
+//! The trial: a farm of tanks as three texts that are made in memory, and the line that sums its check up.
+#![tactic(auto)]
+
+mod farm;
+mod summary;
+#[cfg(test)]
+mod tests;
+mod text;
+
+pub use farm::{domain_text, plan_text, problem_text};
+pub use summary::{Summary, Word, summary_text};
