@@ -1,0 +1,15 @@
+pub mod Growing
+pub mod Waiting
+pub mod Valid
+pub mod Asking
+pub mod Ready
+pub mod Ending
+pub mod Rounds
+pub mod Steps
+pub mod Carries
+pub mod Ticks
+pub mod Walks
+pub mod PlaceLemmas
+pub mod TakenLemmas
+pub mod DecidingLemmas
+pub mod WorldLemmas

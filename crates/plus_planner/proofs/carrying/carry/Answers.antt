@@ -1,0 +1,21 @@
+use Rattle.std.proofs.Common.{subst}
+use Rattle.plus_state.specs.View.{problem_of}
+use Rattle.plus_planner.specs.Standing.{Steps}
+use Rattle.plus_planner.proofs.Carries.{along_step, along_done}
+use Rattle.plus_planner.proofs.carrying.carry.Goals as goal
+
+pub returns-in-Some : goal.returns-in-Some
+returns-in-Some g c =
+    let fits = g.Q.Exact.fits in
+    let P = problem_of g.Q.Exact.value c.args.ground.now in
+    let u = g.Q.Exact.value c.args.until in
+    along_done fits P u c.args.timeline.now c.steps.timeline c.step.new.timeline c.in-Some.fate c.steps.invariant
+    (subst (Steps fits P u c.steps.timeline c.step.new.timeline) c.in-Some.is c.in_ok-fate.ensures)
+
+pub steps-preserved : goal.steps-preserved
+steps-preserved g c =
+    let fits = g.Q.Exact.fits in
+    let P = problem_of g.Q.Exact.value c.args.ground.now in
+    let u = g.Q.Exact.value c.args.until in
+    along_step fits P u c.args.timeline.now c.steps.timeline c.step.new.timeline c.steps.invariant
+    (subst (Steps fits P u c.steps.timeline c.step.new.timeline) c.in-None.is c.in_ok-fate.ensures)

@@ -1,0 +1,10 @@
+use Rattle.std.proofs.Common.{ap, sym, ◌∙◌}
+use Rattle.plus_planner.specs.Places.{taken_after}
+use Rattle.plus_planner.proofs.deciding.go.Goals as goal
+
+pub returns-in_ok-push-in-Alive : goal.returns-in_ok-push-in-Alive
+returns-in_ok-push-in-Alive g c = record {
+  new = c.carry.new.timeline;
+  carried = c.in_ok-fate.ensures;
+  after = c.in_ok-push-in-Alive.ensures.items ∙ sym (ap (λ f. taken_after f c.args.taken.now.items c.args.decision c.carry.new.timeline) c.in-Alive.is);
+}

@@ -1,0 +1,68 @@
+//! Carries a timeline on to a time.
+ghost use Rattle.std.specs.Prelude.{◌≡◌, ◌≢◌, Some, IfOk};
+ghost use Rattle.plus_state.specs.View.{problem_of};
+ghost use Rattle.plus_planner.specs.Standing.{CanReach, Carried, Steps, fate_by, refused_by};
+
+use plus_number::exact::Exact;
+use plus_search::Fate;
+use plus_state::problem::Ground;
+use plus_timeline::{Next, Stop, Timeline};
+use std::alloc::AllocError;
+
+// The answer of a step as a fate, where it is the last.
+fn done<Q: Exact>(next: Next<Q>) -> Option<Fate>
+    ensures { result ≡ fate_by next }
+{
+    match next {
+        Next::Round => None,
+        Next::Run => None,
+        Next::Entry { .. } => None,
+        Next::There => Some(Fate::Alive),
+    }
+}
+
+/// The fate by a refusal of a timeline that had not ended.
+pub fn refused<Q: Exact>(stop: Stop<Q>) -> Result<Fate, AllocError>
+    requires { stop ≢ Stop.Ended }
+    ensures { IfOk result (λ fate. refused_by stop ≡ Some fate) }
+{
+    match stop {
+        Stop::Breach(_) => Ok(Fate::Broken),
+        Stop::Limit(_) => Ok(Fate::Beyond),
+        Stop::Ended => unreachable!(),
+        Stop::Memory => Err(AllocError),
+    }
+}
+
+// Takes one step toward a time, and says what it comes to, where it is the last.
+fn step<Q: Exact>(
+    timeline: &mut Timeline<Q>,
+    ground: &Ground<Q>,
+    until: Q,
+) -> Result<Option<Fate>, AllocError>
+    requires { CanReach (problem_of Q.value ground.now) (Q.value until) timeline.old }
+    ensures { IfOk result (Steps Q.fits (problem_of Q.value ground.now) (Q.value until) timeline.old timeline.new) }
+{
+    match timeline.advance(ground, until) {
+        Ok(next) => Ok(done(next)),
+        Err(stop) => Ok(Some(refused(stop)?)),
+    }
+}
+
+/// Carries a timeline on to a time, until nothing is due there: it comes there, or a breach or a limit
+/// stands on the way.
+pub fn carry<Q: Exact>(
+    timeline: &mut Timeline<Q>,
+    ground: &Ground<Q>,
+    until: Q,
+) -> Result<Fate, AllocError>
+    requires { CanReach (problem_of Q.value ground.now) (Q.value until) timeline.old }
+    ensures { IfOk result (Carried Q.fits (problem_of Q.value ground.now) (Q.value until) timeline.old timeline.new) }
+{
+    'steps: loop {
+        match step(timeline, ground, until)? {
+            Some(fate) => return Ok(fate),
+            None => {}
+        }
+    }
+}

@@ -1,0 +1,127 @@
+//! One decision more.
+ghost use Rattle.std.specs.Prelude.{◌≡◌, ◌<◌, suc, map, length, IfOk, IfSome, OnOk};
+ghost use Rattle.plus_fraction.specs.Fraction.{◌+ℚ◌};
+ghost use Rattle.plus_state.specs.View.{problem_of, action_of};
+ghost use Rattle.plus_state.specs.Fits.{ActionFits};
+ghost use Rattle.plus_planner.specs.Standing.{CanReach};
+ghost use Rattle.plus_planner.specs.Places.{now_in, base_in, task_from, StandsBehind, ActFails, Goes, ActEnds, WaitEnds, CanTry, Walks};
+
+use crate::carrying::{carry, refused};
+use crate::places::{Place, Taken};
+use plus_number::exact::Exact;
+use plus_search::Fate;
+use plus_state::problem::{Action, Ground};
+use plus_state::truth::holds;
+use plus_timeline::Timeline;
+use std::alloc::{AllocError, Global};
+
+// The fate of an action whose condition does not hold, or is not known to. It is asked before a
+// timeline is copied, since most tries end here.
+fn refuses<Q: Exact>(action: &Action<Q>, timeline: &Timeline<Q>) -> Option<Fate>
+    requires { ActionFits (timeline.now.atoms) (timeline.now.fluents) (action_of Q.value action.now) }
+    ensures { IfSome result (ActFails Q.fits timeline.now.now.acted (action_of Q.value action.now) timeline.now.now.state) }
+{
+    match holds(&action.condition, timeline.state()) {
+        Ok(true) => None,
+        Ok(false) => Some(Fate::Broken),
+        Err(_) => Some(Fate::Beyond),
+    }
+}
+
+// Carries a timeline to a time. Where it comes there, the decision is taken.
+fn go<Q: Exact>(
+    ground: &Ground<Q>,
+    taken: &mut Vec<Taken<Q>>,
+    mut timeline: Timeline<Q>,
+    time: Q,
+    decision: u32,
+) -> Result<Fate, AllocError>
+    requires { CanReach (problem_of Q.value ground.now) (Q.value time) timeline }
+    ensures { IfOk result (Goes Q.fits (problem_of Q.value ground.now) (Q.value time) timeline decision
+        taken.old.items taken.new.items) }
+{
+    let fate = carry(&mut timeline, ground, time)?;
+    match fate {
+        Fate::Alive => taken.push(Taken { decision, timeline })?,
+        Fate::Broken => {}
+        Fate::Beyond => {}
+    }
+    Ok(fate)
+}
+
+// Does an action at the present time.
+fn act<Q: Exact>(
+    alloc: Global,
+    ground: &Ground<Q>,
+    action: &Action<Q>,
+    place: &mut Place<Q>,
+    decision: u32,
+) -> Result<Fate, AllocError>
+    requires { CanTry (problem_of Q.value ground.now) (action_of Q.value action.now)
+        (now_in place.old.start place.old.taken.items) }
+    ensures ends { IfOk result (ActEnds Q.fits (problem_of Q.value ground.now) (action_of Q.value action.now)
+        decision (now_in place.old.start place.old.taken.items) place.old.taken.items place.new.taken.items) }
+    ensures start { OnOk result (place.new.start ≡ place.old.start) }
+{
+    let now = place.now();
+    if let Some(fate) = refuses(action, now) {
+        return Ok(fate);
+    }
+    let mut timeline = now.copy(alloc)?;
+    let time = timeline.time();
+    match timeline.act(ground, action, 1) {
+        Ok(()) => go(ground, &mut place.taken, timeline, time, decision),
+        Err(stop) => refused(stop),
+    }
+}
+
+// Waits for one interval. After a wait the timeline of the last action is carried on to the later time:
+// a moment at which nothing was decided is entered only where something happens there.
+fn wait<Q: Exact>(
+    alloc: Global,
+    ground: &Ground<Q>,
+    interval: Q,
+    place: &mut Place<Q>,
+    decision: u32,
+) -> Result<Fate, AllocError>
+    requires { CanReach (problem_of Q.value ground.now)
+        ((now_in place.old.start place.old.taken.items).now.time +ℚ Q.value interval)
+        (base_in decision place.old.start place.old.taken.items) }
+    ensures ends { IfOk result (WaitEnds Q.fits (problem_of Q.value ground.now)
+        ((now_in place.old.start place.old.taken.items).now.time +ℚ Q.value interval) decision
+        (base_in decision place.old.start place.old.taken.items) place.old.taken.items place.new.taken.items) }
+    ensures start { OnOk result (place.new.start ≡ place.old.start) }
+{
+    match place.now().time().add(interval) {
+        Err(_) => Ok(Fate::Beyond),
+        Ok(time) => {
+            let timeline = place.base(decision).copy(alloc)?;
+            go(ground, &mut place.taken, timeline, time, decision)
+        }
+    }
+}
+
+/// Takes a decision where it can be taken: the action with this number, or else a wait. Otherwise the place
+/// stands where it stood.
+pub fn decide<Q: Exact>(
+    alloc: Global,
+    ground: &Ground<Q>,
+    actions: &[Action<Q>],
+    interval: Q,
+    place: &mut Place<Q>,
+    decision: u32,
+) -> Result<Fate, AllocError>
+    requires stands { StandsBehind Q.fits (task_from (problem_of Q.value ground.now)
+        (map (action_of Q.value) actions.now) (Q.value interval)) place.old.start place.old.taken.items }
+    requires within { decision < suc (length actions.now) }
+    ensures { IfOk result (Walks Q.fits (task_from (problem_of Q.value ground.now)
+        (map (action_of Q.value) actions.now) (Q.value interval)) place.old.start place.new.start
+        place.old.taken.items place.new.taken.items decision) }
+{
+    let number = decision as usize;
+    if number < actions.len() {
+        act(alloc, ground, &actions[number], place, decision)
+    } else {
+        wait(alloc, ground, interval, place, decision)
+    }
+}

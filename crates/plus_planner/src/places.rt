@@ -1,0 +1,47 @@
+//! Where a walk over decisions stands.
+
+use plus_number::exact::Exact;
+use plus_timeline::Timeline;
+
+/// A decision that was taken, and the timeline after it.
+#[derive(Drop)]
+pub struct Taken<Q: Exact> {
+    pub decision: u32,
+    pub timeline: Timeline<Q>,
+}
+
+/// The timeline at the beginning, and what was decided since.
+#[derive(Drop)]
+pub struct Place<Q: Exact> {
+    pub start: Timeline<Q>,
+    pub taken: Vec<Taken<Q>>,
+}
+
+impl<Q: Exact> Place<Q> {
+    ghost use Rattle.std.specs.Prelude.{◌≡◌};
+    ghost use Rattle.plus_planner.specs.Places.{now_in, base_in};
+
+    /// The timeline after the last decision.
+    pub fn now(&self) -> &Timeline<Q>
+        ensures { result.now ≡ now_in self.now.start self.now.taken.items }
+    {
+        match self.taken.last() {
+            Some(last) => &last.timeline,
+            None => &self.start,
+        }
+    }
+
+    /// The timeline after the last action, with which each decision below this number is one; or at the
+    /// beginning, where there is none.
+    pub fn base(&self, actions: u32) -> &Timeline<Q>
+        ensures { result.now ≡ base_in actions self.now.start self.now.taken.items }
+    {
+        let mut base = &self.start;
+        for taken in &self.taken {
+            if taken.decision < actions {
+                base = &taken.timeline;
+            }
+        }
+        base
+    }
+}
