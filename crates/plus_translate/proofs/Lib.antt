@@ -1,0 +1,12 @@
+pub mod DepthLemmas
+pub mod DueLemmas
+pub mod FiresLemmas
+pub mod FlowLemmas
+pub mod FoundLemmas
+pub mod GuardLemmas
+pub mod OneFault
+pub mod PartLemmas
+pub mod PieceLemmas
+pub mod PlacedLemmas
+pub mod QuotientLemmas
+pub mod TranslateLemmas

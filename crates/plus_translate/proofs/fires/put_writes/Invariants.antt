@@ -1,0 +1,8 @@
+use Rattle.std.proofs.Common.{◌≡◌, ◌++◌, map, take}
+use Rattle.plus_translate.specs.Placed.{shown}
+use Rattle.plus_translate.specs.Fires.{fires_of}
+use Rattle.plus_translate.proofs.fires.put_writes.Given as goal
+
+-- the writes so far
+abbrev pub invariant-writes : goal.invariant-writes
+invariant-writes l = l.into.items ≡ l.initial.into.items ++ map (fires_of l.cond) (map shown (take l.write-index l.writes))

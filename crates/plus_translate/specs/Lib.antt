@@ -1,0 +1,9 @@
+pub mod Atoms
+pub mod Dues
+pub mod Fires
+pub mod Found
+pub mod Grid
+pub mod Parts
+pub mod Placed
+pub mod Single
+pub mod Translates

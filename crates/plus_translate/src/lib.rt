@@ -1,0 +1,22 @@
+//! The translation of a pair in steps of one length into a pair without processes and events.
+//!
+//! `translate` gives the trees of the definition, or refuses: a name of the pair begins as those that the
+//! translation adds, a timed literal is no whole number of steps away, or the text would nest too deep.
+#![tactic(auto)]
+
+mod depth;
+mod domain;
+pub mod due;
+pub mod fault;
+mod fires;
+mod flows;
+mod found;
+mod grid;
+mod guards;
+mod initial;
+mod pieces;
+pub mod placed;
+pub mod translation;
+
+pub use fault::TransFault;
+pub use translation::translate;
