@@ -1,0 +1,2 @@
+pub mod LiftLemmas
+pub mod TimeLemmas
