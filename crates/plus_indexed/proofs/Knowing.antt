@@ -1,8 +1,8 @@
 -- What is known after each accepted call.
-use Rattle.std.proofs.Common.{◌≡◌, ℕ, ◌<◌, false, List, [], ap, sym, subst, ◌∙◌, length}
+use Rattle.std.proofs.Common.{◌≡◌, ℕ, ◌<◌, false, List, [], refl, ap, sym, subst, ◌∙◌, length}
 use Rattle.std.proofs.lemmas.List.{length-map}
 use Rattle.std.proofs.lemmas.List.Elements.{All-nil}
-use Rattle.std.specs.Prelude.{Option, Some, None, Result, Ok, Err, IfSome, IfOk, option_map, Vec}
+use Rattle.std.specs.Prelude.{Option, Some, None, Result, Ok, Err, IfSome, IfOk, IsSomeAnd, option_map, Vec}
 use Rattle.std.specs.Result.{result_ok}
 use Rattle.std.specs.declared.alloc.AllocError.{AllocError}
 use Rattle.std.specs.declared.alloc.Global.{Global}
@@ -13,7 +13,7 @@ use Rattle.plus_timeline.specs.declared.stop.Stop.{Stop}
 use Rattle.plus_timeline.specs.Due.{DueTold}
 use Rattle.plus_timeline.proofs.Advancing.{fires}
 use Rattle.plus_fraction.specs.Fraction.{Fraction}
-use Rattle.plus_model.specs.Terms.{Action, Event, State, Problem}
+use Rattle.plus_model.specs.Terms.{Action, Event, Process, State, Problem}
 use Rattle.plus_model.specs.Value.{holds}
 use Rattle.plus_model.specs.Firing.{firing}
 use Rattle.plus_model.specs.Running.{IsRising}
@@ -21,24 +21,39 @@ use Rattle.plus_model.proofs.Decide.{rising-numbers}
 use Rattle.plus_model.specs.Trajectory.{least}
 use Rattle.plus_state.specs.Changes.{Changes, patched, LeadsTo}
 use Rattle.plus_state.specs.Numbers.{AreMembers}
-use Rattle.plus_state.specs.Walk.{event_conditions}
+use Rattle.plus_state.specs.Walk.{event_conditions, process_conditions, OthersFalse}
+use Rattle.plus_reads.specs.Tables.{ReadAny}
+use Rattle.plus_crossing.specs.Rated.{moving_of}
+use Rattle.plus_still.specs.Others.{OthersStill}
+use Rattle.plus_settle.proofs.ShortLemmas.{stands_by}
 use Rattle.plus_reads.specs.Quiet.{OthersQuiet}
 use Rattle.plus_reads.specs.Indexing.{Indexes}
 use Rattle.plus_reads.specs.declared.index.Index.{Index}
+use Rattle.plus_reads.specs.declared.readers.Readers.{Readers}
 use Rattle.plus_reads.proofs.Unchanged.{quiet_stays}
 use Rattle.plus_cascade.proofs.SetLemmas.{firing_all}
 use Rattle.plus_timeline.specs.declared.next.Next.{Next}
 use Rattle.plus_timeline.specs.declared.next.Next.TheVariants.{Round, Run, Entry, There}
 use Rattle.plus_timeline.specs.Timeline.{TimelineView, begun, event_numbers}
+use Rattle.plus_number.specs.declared.exact.Exact.{Ghosts}
+use Rattle.plus_state.specs.declared.problem.Ground.{Ground}
+use Rattle.plus_state.specs.View.{process_of, problem_of}
 use Rattle.plus_timeline.specs.Serving.{Serves}
 use Rattle.plus_timeline.specs.Act.{DoesAct}
 use Rattle.plus_timeline.specs.Advance.{AdvanceTold}
 use Rattle.plus_timeline.proofs.Serving.{begun_serves, advance_serves, act_serves}
 use Rattle.plus_indexed.specs.Indexed.{IndexedView, Kept}
-use Rattle.plus_indexed.specs.Woken.{AreWoken}
-use Rattle.plus_indexed.specs.Waking.{StillWoken, NotedBy}
-use Rattle.plus_indexed.specs.Knows.{Wait, Knows}
-use Rattle.plus_indexed.proofs.Quieting.{moment_quiet}
+use Rattle.plus_indexed.specs.Woken.{AreWoken, AddsReaders}
+use Rattle.plus_indexed.specs.Waking.{StillWoken, EventsAfter, ProcessesWoken, ProcessesAfter}
+use Rattle.plus_indexed.specs.Knows.{Wait, MayHold, IsAtRest, Knows}
+use Rattle.plus_indexed.proofs.Quieting.{moment_quiet, closing_rests}
+use Rattle.plus_indexed.proofs.Present.{may_hold_after}
+
+no_run : (o : Option (List ℕ)) (R : List ℕ) → o ≡ None → o ≡ Some R → ⊥
+no_run o R e f = cc
+
+none_some : {A : Type 0} (x : A) → None ≡ Some x → ⊥
+none_some x e = cc
 
 firing_rises : (P : Problem) (s : State) → IsRising 0 (firing P s)
 unfolding firing
@@ -65,11 +80,11 @@ module _ (fits : Fraction → Type 0) (P : Problem) where
     rising = subst (IsRising 0) (sym e) (firing_rises P s);
   }
 
-  module _ {Q : Type 0} (value : Q → Fraction) (u : Fraction) (old mid : IndexedView) (k : Knows fits P old) (same : mid.kept ≡ old.kept) where
+  module _ {Q : Type 0} (value : Q → Fraction) (u : Fraction) (old mid : IndexedView) (k : Knows fits P old) (kept : mid.kept ≡ record old.kept { processes = mid.kept.processes }) (may : (w : List ℕ) → mid.kept.processes ≡ Some w → MayHold fits P old.line.now.state w) where
     index_same : Indexes P mid.kept.index
-    index_same = subst (λ (x : Kept). Indexes P x.index) (sym same) k.index
+    index_same = subst (Indexes P) (sym (ap (λ (x : Kept). x.index) kept)) k.index
 
-    noted : (next : Next Q) (w : List ℕ) → AdvanceTold value fits P u old.line mid.line (Ok next) → NotedBy next mid w → Wait fits P mid.line.now.state w
+    noted : (next : Next Q) (w : List ℕ) → AdvanceTold value fits P u old.line mid.line (Ok next) → EventsAfter next mid w → Wait fits P mid.line.now.state w
     noted Round w told n =
         let d = told.does in
         let e : mid.line.events ≡ d.fired = ap (λ (v : TimelineView). v.events) d.is in
@@ -85,42 +100,77 @@ module _ (fits : Fraction → Type 0) (P : Problem) where
     noted (Entry t) w told n =
         let d = told.does in
         let b : mid.line.before ≡ old.line.now.state = ap (λ (v : TimelineView). v.before) d.is in
-        let old_waited : old.kept.waiting ≡ Some n.before = ap (λ (x : Kept). x.waiting) (sym same) ∙ n.waited in
-        wait_after mid.kept.index old.line.now.state mid.line.now.state n.by.changes n.before w index_same (subst (λ (s : State). LeadsTo s n.by.changes mid.line.now.state) b n.by.leads) n.by.woken (k.waits n.before old_waited)
+        let old_waited : old.kept.events ≡ Some n.before = ap (λ (x : Kept). x.events) (sym kept) ∙ n.waited in
+        wait_after mid.kept.index old.line.now.state mid.line.now.state n.by.changes n.before w index_same (subst (λ (s : State). LeadsTo s n.by.changes mid.line.now.state) b n.by.leads) n.by.woken (k.events n.before old_waited)
     noted There w told n =
         let d = told.does in
         let s : mid.line.now.state ≡ old.line.now.state = ap (λ (v : TimelineView). v.now.state) d.is in
         subst (λ (x : State). Wait fits P x w) (sym s)
         (none_wait old.line.now.state w n (moment_quiet fits P old.line.most old.line.entries (least old.line.now.time u P.timed) old.line.now [] d.moment told.pass (sym d.still)))
 
-    pub advance_knows : (next : Next Q) (waiting : Option (List ℕ)) → AdvanceTold value fits P u old.line mid.line (Ok next) → ((w : List ℕ) → waiting ≡ Some w → NotedBy next mid w) → Knows fits P (record mid { kept = record mid.kept { waiting = waiting } })
-    advance_knows next waiting told n = record {
+    -- processes after a step to which changes lead
+    woken_hold : (w : List ℕ) → mid.line.before ≡ old.line.now.state → ProcessesWoken mid w → MayHold fits P mid.line.now.state w
+    woken_hold w b n =
+        may_hold_after fits P mid.kept.index old.line.now.state mid.line.now.state n.changes n.before w index_same (subst (λ (s : State). LeadsTo s n.changes mid.line.now.state) b n.leads) n.woken (may n.before n.were)
+
+    noted_processes : (next : Next Q) (w : List ℕ) → AdvanceTold value fits P u old.line mid.line (Ok next) → ProcessesAfter next mid w → MayHold fits P mid.line.now.state w
+    noted_processes Round w told n = woken_hold w (ap (λ (v : TimelineView). v.before) told.does.is) n
+    noted_processes Run w told n = subst (λ (x : State). MayHold fits P x w) (sym (ap (λ (v : TimelineView). v.now.state) told.does.is)) (may w n)
+    noted_processes (Entry t) w told n = woken_hold w (ap (λ (v : TimelineView). v.before) told.does.is) n
+    noted_processes There w told n = subst (λ (x : State). MayHold fits P x w) (sym (ap (λ (v : TimelineView). v.now.state) told.does.is)) (may w n)
+
+    rested : (next : Next Q) → AdvanceTold value fits P u old.line mid.line (Ok next) → (R : List ℕ) → mid.line.now.running ≡ Some R → IsAtRest fits P mid.line.now.state
+    rested Round told R e = absurd (no_run mid.line.now.running R (ap (λ (v : TimelineView). v.now.running) told.does.is) e)
+    rested Run told R e =
+        let d = told.does in
+        let b = least old.line.now.time u P.timed in
+        let s : mid.line.now.state ≡ old.line.now.state = ap (λ (v : TimelineView). v.now.state) d.is in
+        subst (IsAtRest fits P) (sym s) (record {
+          events = moment_quiet fits P old.line.most old.line.entries b old.line.now [] d.moment told.pass (sym d.may.still);
+          processes = closing_rests fits P old.line.most old.line.entries b old.line.now d.moment d.may.still d.may.later told.pass;
+        })
+    rested (Entry t) told R e = absurd (no_run mid.line.now.running R (ap (λ (v : TimelineView). v.now.running) told.does.is) e)
+    rested There told R e = absurd (no_run mid.line.now.running R (ap (λ (v : TimelineView). v.now.running) told.does.is ∙ told.does.moment) e)
+
+    pub advance_knows : (next : Next Q) (es ps : Option (List ℕ)) → AdvanceTold value fits P u old.line mid.line (Ok next) → ((w : List ℕ) → es ≡ Some w → EventsAfter next mid w) → ((w : List ℕ) → ps ≡ Some w → ProcessesAfter next mid w) → Knows fits P (record mid { kept = record mid.kept { events = es; processes = ps } })
+    advance_knows next es ps told n m = record {
       serves = advance_serves value P u old.line mid.line next told.does k.serves;
       index = index_same;
-      waits = λ w e. noted next w told (n w e);
+      events = λ w e. noted next w told (n w e);
+      processes = λ w e. noted_processes next w told (m w e);
+      rests = rested next told;
     }
 
   module _ (old mid : IndexedView) (k : Knows fits P old) (same : mid.kept ≡ old.kept) where
-    pub act_knows : (action : Action) (waiting : Option (List ℕ)) → DoesAct P action old.line mid.line → ((w : List ℕ) → waiting ≡ Some w → StillWoken mid w) → Knows fits P (record mid { kept = record mid.kept { waiting = waiting } })
-    act_knows action waiting d n = record {
-      serves = act_serves P action old.line mid.line d k.serves;
-      index = subst (λ (x : Kept). Indexes P x.index) (sym same) k.index;
-      waits = λ w e. (
-          let x = n w e in
-          let b : mid.line.before ≡ old.line.now.state = ap (λ (v : TimelineView). v.before) d.is in
-          let old_waited : old.kept.waiting ≡ Some x.before = ap (λ (y : Kept). y.waiting) (sym same) ∙ x.waited in
-          wait_after mid.kept.index old.line.now.state mid.line.now.state x.by.changes x.before w (subst (λ (y : Kept). Indexes P y.index) (sym same) k.index) (subst (λ (s : State). LeadsTo s x.by.changes mid.line.now.state) b x.by.leads) x.by.woken (k.waits x.before old_waited)
-          );
-    }
+    acted_index : Indexes P mid.kept.index
+    acted_index = subst (λ (x : Kept). Indexes P x.index) (sym same) k.index
 
-  none_some : {A : Type 0} (x : A) → None ≡ Some x → ⊥
-  none_some x e = cc
+    pub act_knows : (action : Action) (es ps : Option (List ℕ)) → DoesAct P action old.line mid.line → ((w : List ℕ) → es ≡ Some w → StillWoken mid w) → ((w : List ℕ) → ps ≡ Some w → ProcessesWoken mid w) → Knows fits P (record mid { kept = record mid.kept { events = es; processes = ps } })
+    act_knows action es ps d n m =
+        let b : mid.line.before ≡ old.line.now.state = ap (λ (v : TimelineView). v.before) d.is in
+        record {
+          serves = act_serves P action old.line mid.line d k.serves;
+          index = acted_index;
+          events = λ w e. (
+              let x = n w e in
+              let old_waited : old.kept.events ≡ Some x.before = ap (λ (y : Kept). y.events) (sym same) ∙ x.waited in
+              wait_after mid.kept.index old.line.now.state mid.line.now.state x.by.changes x.before w acted_index (subst (λ (s : State). LeadsTo s x.by.changes mid.line.now.state) b x.by.leads) x.by.woken (k.events x.before old_waited)
+              );
+          processes = λ w e. (
+              let x = m w e in
+              let old_waited : old.kept.processes ≡ Some x.before = ap (λ (y : Kept). y.processes) (sym same) ∙ x.were in
+              may_hold_after fits P mid.kept.index old.line.now.state mid.line.now.state x.changes x.before w acted_index (subst (λ (s : State). LeadsTo s x.changes mid.line.now.state) b x.leads) x.woken (k.processes x.before old_waited)
+              );
+          rests = λ R e. absurd (no_run mid.line.now.running R (ap (λ (v : TimelineView). v.now.running) d.is) e);
+        }
 
-  pub begun_knows : (line : TimelineView) (i : Index) (most : ℕ) → line ≡ begun P most → Indexes P i → Knows fits P (record { line = line; kept = record { index = i; waiting = None } })
+  pub begun_knows : (line : TimelineView) (i : Index) (most : ℕ) → line ≡ begun P most → Indexes P i → Knows fits P (record { line = line; kept = record { index = i; events = None; processes = None } })
   begun_knows line i most e x = record {
     serves = subst (Serves P) (sym e) (begun_serves P most);
     index = x;
-    waits = λ w n. absurd (none_some w n);
+    events = λ w n. absurd (none_some w n);
+    processes = λ w n. absurd (none_some w n);
+    rests = λ R n. absurd (no_run line.now.running R (ap (λ (v : TimelineView). v.now.running) e) n);
   }
 
 -- ---- what the calls ask for, by the code's fields
@@ -131,19 +181,19 @@ pub of_numbers : (R : List ℕ → Type 0) (o : Option (Vec EventId Global)) →
 of_numbers R None h ns e = cc
 of_numbers R (Some w) h ns e = let k : event_numbers w.items ≡ ns = cc in subst R k h
 
-pub wait_at : (fits : Fraction → Type 0) (P : Problem) (line : TimelineView) (i : Index) (o : Option (Vec EventId Global)) (es : Vec EventId Global) (xs : List EventId) → Knows fits P (record { line = line; kept = record { index = i; waiting = numbers o } }) → o ≡ Some es → xs ≡ es.items → Wait fits P line.now.state (event_numbers xs)
-wait_at fits P line i o es xs k e f = k.waits (event_numbers xs) (ap numbers e ∙ ap (λ (ys : List EventId). Some (event_numbers ys)) (sym f))
+pub wait_at : (fits : Fraction → Type 0) (P : Problem) (line : TimelineView) (i : Index) (o : Option (Vec EventId Global)) (ps : Option (List ℕ)) (es : Vec EventId Global) (xs : List EventId) → Knows fits P (record { line = line; kept = record { index = i; events = numbers o; processes = ps } }) → o ≡ Some es → xs ≡ es.items → Wait fits P line.now.state (event_numbers xs)
+wait_at fits P line i o ps es xs k e f = k.events (event_numbers xs) (ap numbers e ∙ ap (λ (ys : List EventId). Some (event_numbers ys)) (sym f))
 
-pub still_by : (line : TimelineView) (i j : Index) (o : Option (Vec EventId Global)) (es : Vec EventId Global) (xs : List EventId) (c : Changes) (r : Result (Vec EventId Global) AllocError) (got : Option (Vec EventId Global)) → o ≡ Some es → xs ≡ es.items → j ≡ i → LeadsTo line.before c line.now.state → IfOk r (λ events. AreWoken j.events c (event_numbers xs) (event_numbers events.items)) → got ≡ result_ok r → IfSome got (λ w. StillWoken (record { line = line; kept = record { index = i; waiting = numbers o } }) (event_numbers w.items))
-still_by line i j o es xs c (Ok events) got e f g l h k =
-    subst (λ (x : Option (Vec EventId Global)). IfSome x (λ w. StillWoken (record { line = line; kept = record { index = i; waiting = numbers o } }) (event_numbers w.items))) (sym k)
+pub still_by : (line : TimelineView) (i j : Index) (o : Option (Vec EventId Global)) (ps : Option (List ℕ)) (es : Vec EventId Global) (xs : List EventId) (c : Changes) (r : Result (Vec EventId Global) AllocError) (got : Option (Vec EventId Global)) → o ≡ Some es → xs ≡ es.items → j ≡ i → LeadsTo line.before c line.now.state → IfOk r (λ events. AreWoken j.events c (event_numbers xs) (event_numbers events.items)) → got ≡ result_ok r → IfSome got (λ w. StillWoken (record { line = line; kept = record { index = i; events = numbers o; processes = ps } }) (event_numbers w.items))
+still_by line i j o ps es xs c (Ok events) got e f g l h k =
+    subst (λ (x : Option (Vec EventId Global)). IfSome x (λ w. StillWoken (record { line = line; kept = record { index = i; events = numbers o; processes = ps } }) (event_numbers w.items))) (sym k)
     (record {
       before = event_numbers xs;
       waited = ap numbers e ∙ ap (λ (ys : List EventId). Some (event_numbers ys)) (sym f);
       by = record { changes = c; leads = l; woken = subst (λ (x : Index). AreWoken x.events c (event_numbers xs) (event_numbers events.items)) g h };
     })
-still_by line i j o es xs c (Err x) got e f g l h k =
-    subst (λ (x : Option (Vec EventId Global)). IfSome x (λ w. StillWoken (record { line = line; kept = record { index = i; waiting = numbers o } }) (event_numbers w.items))) (sym k) tt
+still_by line i j o ps es xs c (Err x) got e f g l h k =
+    subst (λ (x : Option (Vec EventId Global)). IfSome x (λ w. StillWoken (record { line = line; kept = record { index = i; events = numbers o; processes = ps } }) (event_numbers w.items))) (sym k) tt
 
 pub fires_as : {Q : Type 0} (value : Q → Fraction) (fits : Fraction → Type 0) (P : Problem) (u : Fraction) (T L new : TimelineView) → T ≡ L → L.ended ≡ false → T.now.running ≡ None → (r : DueRound Q) → DueTold value fits P L.now.fired L.now.state (Ok (Some r)) → new ≡ record T { now = view_after T.now (Rounds (event_numbers r.events.items) (patched T.now.state r.changes)); before = T.now.state; events = event_numbers r.events.items; answer = Some Round; acted = false } → AdvanceTold value fits P u L new (Ok Round)
 fires_as value fits P u T L new e g m r d n =
@@ -152,3 +202,38 @@ fires_as value fits P u T L new e g m r d n =
 
 pub told_as : {Q : Type 0} (value : Q → Fraction) (fits : Fraction → Type 0) (P : Problem) (u : Fraction) (old new : TimelineView) (r s : Result (Next Q) (Stop Q)) → r ≡ s → AdvanceTold value fits P u old new s → AdvanceTold value fits P u old new r
 told_as value fits P u old new r s e h = subst (AdvanceTold value fits P u old new) (sym e) h
+
+-- what stands still along a running set
+pub events_still : (fits : Fraction → Type 0) (P : Problem) (s : State) (rs : List Fraction) (i : Index) (listed : List ℕ) → Indexes P i → IsAtRest fits P s → ReadAny i.events (moving_of rs) listed → OthersStill fits (event_conditions P) s rs listed
+events_still fits P s rs i listed x q r = record { stand = stands_by (event_conditions P) i.events rs listed x.events r; pass = λ k c g n. q.events.pass k c g refl }
+
+pub events_silent : (fits : Fraction → Type 0) (P : Problem) (s : State) (listed : List ℕ) → IsAtRest fits P s → OthersFalse (event_conditions P) s listed
+events_silent fits P s listed q k c g n = q.events.silent k c g refl
+
+pub processes_still : (fits : Fraction → Type 0) (P : Problem) (s : State) (rs : List Fraction) (i : Index) (listed : List ℕ) → Indexes P i → IsAtRest fits P s → ReadAny i.processes (moving_of rs) listed → OthersStill fits (process_conditions P) s rs listed
+processes_still fits P s rs i listed x q r = record { stand = stands_by (process_conditions P) i.processes rs listed x.processes r; pass = λ k c g n. q.processes k c g refl }
+
+pub all_process_conditions : {Q : Type 0} {E : Ghosts Q} (v : Q → Fraction) (g : Ground Q E) → length (process_conditions (problem_of v g)) ≡ length g.processes.items
+all_process_conditions v g = length-map (problem_of v g).processes (λ (p : Process). p.condition) ∙ length-map g.processes.items (process_of v)
+
+-- the processes that wait after a step, by the code's fields
+pub woken_by : (v : IndexedView) (waiting result : Option (List ℕ)) (t : Readers) (c : Changes) → waiting ≡ v.kept.processes → t ≡ v.kept.index.processes → LeadsTo v.line.before c v.line.now.state → IfSome result (λ after. IsSomeAnd waiting (λ before. AddsReaders t c before after)) → (w : List ℕ) → result ≡ Some w → ProcessesWoken v w
+woken_by v None None t c p q l h w e = absurd (none_some w e)
+woken_by v (Some b) None t c p q l h w e = absurd (none_some w e)
+woken_by v None (Some a) t c p q l h w e = absurd h
+woken_by v (Some b) (Some a) t c p q l h w e =
+    let k : a ≡ w = cc in
+    record {
+      before = b;
+      were = sym p;
+      changes = c;
+      leads = l;
+      woken = subst (λ (x : List ℕ). AddsReaders v.kept.index.processes c b x) k (subst (λ (x : Readers). AddsReaders x c b a) q h);
+    }
+
+-- where what is kept stays
+pub kept_same : (old new : Kept) → new ≡ old → new ≡ record old { processes = new.processes }
+kept_same old new e = e ∙ ap (λ (x : Kept). record old { processes = x.processes }) (sym e)
+
+pub may_still : (fits : Fraction → Type 0) (P : Problem) (old : IndexedView) (new : Kept) → Knows fits P old → new ≡ old.kept → (w : List ℕ) → new.processes ≡ Some w → MayHold fits P old.line.now.state w
+may_still fits P old new k e w h = k.processes w (ap (λ (x : Kept). x.processes) (sym e) ∙ h)

@@ -1,2 +1,4 @@
 pub mod Quieting
+pub mod Present
 pub mod Knowing
+pub mod Resting

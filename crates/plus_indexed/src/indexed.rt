@@ -1,26 +1,40 @@
 //! A timeline, and what is kept between its calls.
-ghost use Rattle.std.specs.Prelude.{◌≡◌, ◌≤◌, ℕ, true, false, List, Option, Some, None, option_map, IfOk, IfSome, OnOk, OnErr};
+ghost use Rattle.std.specs.Prelude.{◌≡◌, ◌≤◌, ◌<◌, [], ℕ, true, false, List, Option, Some, None, option_map, IfOk, IfSome, OnOk, OnErr, MatchResult};
+ghost use Rattle.plus_fraction.specs.Fraction.{◌<ℚ◌, ◌≤ℚ◌};
+ghost use Rattle.plus_model.specs.Firing.{firing};
+ghost use Rattle.plus_model.specs.Running.{holding as holding_of};
+ghost use Rattle.plus_state.specs.Asked.{AllFit};
 ghost use Rattle.plus_state.specs.View.{problem_of, action_of};
 ghost use Rattle.plus_state.specs.Changes.{LeadsTo, RisesIn};
 ghost use Rattle.plus_state.specs.Fits.{StateFits, ActionFits};
+ghost use Rattle.plus_reads.specs.Tables.{ReadAny};
+ghost use Rattle.plus_crossing.specs.Rated.{moving_of};
+ghost use Rattle.plus_settle.specs.Settles.{condition_nodes, ConditionStops};
+ghost use Rattle.plus_stretch.specs.Tests.{AllPass};
+ghost use Rattle.plus_timeline.specs.Asked.{round_tests};
 ghost use Rattle.plus_timeline.specs.Timeline.{begun, event_numbers, process_numbers};
 ghost use Rattle.plus_timeline.specs.Due.{DueTold};
 ghost use Rattle.plus_timeline.specs.Stops.{IsGoing};
 ghost use Rattle.plus_timeline.specs.Act.{ActTold};
 ghost use Rattle.plus_timeline.specs.Finish.{IsPaused, FinishTold, TakesNoMemory};
 ghost use Rattle.plus_timeline.specs.Advance.{IsAhead, AdvanceTold};
-ghost use Rattle.plus_indexed.specs.Knows.{Knows};
-ghost use Rattle.plus_indexed.specs.Waking.{WokenBy, StillWoken, NotedBy};
+ghost use Rattle.plus_indexed.specs.Knows.{MayHold, Knows};
+ghost use Rattle.plus_indexed.specs.Settling.{SettledTold};
+ghost use Rattle.plus_indexed.specs.Waking.{WokenBy, StillWoken, EventsAfter, ProcessesWoken, ProcessesAfter};
 
+use crate::settled::{Settled, present_among};
+use crate::waiting::{Waiting, still_waiting};
 use crate::waking::woken;
 use plus_cascade::{CascadeStop, DueRound};
 use plus_number::exact::Exact;
 use plus_reads::Index;
+use plus_reads::touched::readers_by;
+use plus_settle::{Running, SettleStop, holding, settle_among};
 use plus_state::changes::Changes;
 use plus_state::problem::{Action, Ground};
 use plus_state::states::State;
 use plus_state::term::{EventId, ProcessId};
-use plus_timeline::stop::cascade_stop;
+use plus_timeline::stop::{cascade_stop, settle_stop};
 use plus_timeline::{Next, Stop, Timeline};
 use std::alloc::{AllocError, Global};
 use std::marker::Model;
@@ -33,8 +47,10 @@ pub struct Indexed<Q: Exact> {
     alloc: Global,
     timeline: Timeline<Q>,
     index: Rc<Index>,
-    // the events that are to be looked at where a round may be due; all of them where there is no list
-    waiting: Option<Vec<EventId>>,
+    // the events that are to be looked at where a round may be due, and the processes where the entry is
+    // closed; all of them where there is no list
+    events: Option<Vec<EventId>>,
+    processes: Option<Waiting>,
 }
 
 impl<Q: Exact> Model for Indexed<Q> {
@@ -51,16 +67,32 @@ impl<Q: Exact> Model for Indexed<Q> {
       line = i.timeline;
       kept = record {
         index = i.index.value;
-        waiting = option_map (λ w. event_numbers w.items) i.waiting;
+        events = option_map (λ w. event_numbers w.items) i.events;
+        processes = i.processes;
       };
     } };
 }
 
-fn copied(alloc: Global, events: &Option<Vec<EventId>>) -> Result<Option<Vec<EventId>>, AllocError>
+fn copied_events(
+    alloc: Global,
+    events: &Option<Vec<EventId>>,
+) -> Result<Option<Vec<EventId>>, AllocError>
     ensures { IfOk result (λ o. option_map (λ w. event_numbers w.items) o ≡ option_map (λ w. event_numbers w.items) events.now) }
 {
     match events {
         Some(events) => Ok(Some(Vec::from_slice(alloc, events)?)),
+        None => Ok(None),
+    }
+}
+
+fn copied_processes(
+    alloc: Global,
+    processes: &Option<Waiting>,
+) -> Result<Option<Waiting>, AllocError>
+    ensures { IfOk result (λ o. o ≡ processes.now) }
+{
+    match processes {
+        Some(processes) => Ok(Some(processes.copy(alloc)?)),
         None => Ok(None),
     }
 }
@@ -83,12 +115,15 @@ impl<Q: Exact> Indexed<Q> {
             alloc,
             timeline,
             index: Rc::new(alloc, index)?,
-            waiting: None,
+            events: None,
+            processes: None,
         })
     }
 
-    /// Does one thing, and says which, as `Timeline::advance` does. Only the events are looked at that
-    /// fired in the last round, and those that read something that was changed since they were looked at.
+    /// Does one thing, and says which, as `Timeline::advance` does. Where a round may be due only the
+    /// events are looked at that fired in the last one, and those that read something that was changed
+    /// since they were looked at; where the entry is closed only the processes that held, and those that
+    /// read something that was changed or that moves; along a running set only the readers of what moves.
     pub fn advance(&mut self, ground: &Ground<Q>, until: Q) -> Result<Next<Q>, Stop<Q>>
         requires knows { IsGoing self.old.line → Knows Q.fits (problem_of Q.value ground.now) self.old }
         requires ahead { IsGoing self.old.line →
@@ -103,8 +138,7 @@ impl<Q: Exact> Indexed<Q> {
         }
         match self.next(ground, until) {
             Ok(next) => {
-                let waiting = self.after(next);
-                self.keep(waiting);
+                self.wake(next);
                 Ok(next)
             }
             Err(stop) => {
@@ -127,8 +161,7 @@ impl<Q: Exact> Indexed<Q> {
     {
         match self.timeline.act(ground, action, line) {
             Ok(()) => {
-                let waiting = self.after_step();
-                self.keep(waiting);
+                self.wake_by_step();
                 Ok(())
             }
             Err(stop) => Err(stop),
@@ -213,7 +246,8 @@ impl<Q: Exact> Indexed<Q> {
             alloc,
             timeline: self.timeline.copy(alloc)?,
             index: self.index.clone()?,
-            waiting: copied(alloc, &self.waiting)?,
+            events: copied_events(alloc, &self.events)?,
+            processes: copied_processes(alloc, &self.processes)?,
         })
     }
 }
@@ -225,7 +259,7 @@ impl<Q: Exact> Indexed<Q> {
         ensures told { DueTold Q.value Q.fits (problem_of Q.value ground.now) self.now.line.now.fired self.now.line.now.state result }
         ensures rises { IfOk result (λ o. IfSome o (λ r. RisesIn self.now.line.now.state r.changes)) }
     {
-        match &self.waiting {
+        match &self.events {
             Some(events) => self.timeline.due_among(ground, events),
             None => self.timeline.due(ground),
         }
@@ -239,10 +273,12 @@ impl<Q: Exact> Indexed<Q> {
         ensures told { AdvanceTold Q.value Q.fits (problem_of Q.value ground.now) (Q.value until)
             self.old.line self.new.line result }
         ensures line { OnErr result (self.new.line ≡ self.old.line) }
-        ensures kept { self.new.kept ≡ self.old.kept }
+        ensures kept { self.new.kept ≡ record (self.old.kept) { processes = self.new.kept.processes } }
+        ensures processes { (w : List ℕ) → self.new.kept.processes ≡ Some w →
+            MayHold Q.fits (problem_of Q.value ground.now) self.old.line.now.state w }
     {
         if self.timeline.is_running() {
-            return self.timeline.pass(ground, until);
+            return self.pass(ground, until);
         }
         match self.due(ground) {
             Err(stop) => Err(cascade_stop(stop)),
@@ -250,7 +286,106 @@ impl<Q: Exact> Indexed<Q> {
                 Err(_) => Err(Stop::Memory),
                 Ok(()) => Ok(Next::Round),
             },
-            Ok(None) => self.timeline.rest(ground, until),
+            Ok(None) => self.rest(ground, until),
+        }
+    }
+
+    // Where no event holds: the time is reached, or the entry is closed.
+    fn rest(&mut self, ground: &Ground<Q>, until: Q) -> Result<Next<Q>, Stop<Q>>
+        requires going { IsGoing self.old.line }
+        requires knows { Knows Q.fits (problem_of Q.value ground.now) self.old }
+        requires moment { self.old.line.now.running ≡ None }
+        requires still { firing (problem_of Q.value ground.now) self.old.line.now.state ≡ [] }
+        requires passed { AllPass Q.fits (round_tests (problem_of Q.value ground.now) self.old.line.now.fired self.old.line.now.state) }
+        requires ahead { self.old.line.now.time ≤ℚ Q.value until }
+        ensures told { AdvanceTold Q.value Q.fits (problem_of Q.value ground.now) (Q.value until)
+            self.old.line self.new.line result }
+        ensures line { OnErr result (self.new.line ≡ self.old.line) }
+        ensures kept { self.new.kept ≡ record (self.old.kept) { processes = self.new.kept.processes } }
+        ensures processes { (w : List ℕ) → self.new.kept.processes ≡ Some w →
+            MayHold Q.fits (problem_of Q.value ground.now) self.old.line.now.state w }
+    {
+        match self.timeline.must_close(ground, until) {
+            Err(stop) => Err(stop),
+            Ok(false) => {
+                self.timeline.arrive();
+                Ok(Next::There)
+            }
+            Ok(true) => match self.settled(ground) {
+                Err(stop) => Err(settle_stop(stop)),
+                Ok(settled) => {
+                    let Settled { present, running } = settled;
+                    self.processes = Waiting::of(self.alloc, &present).ok();
+                    self.timeline.run(running);
+                    Ok(Next::Run)
+                }
+            },
+        }
+    }
+
+    // The processes that hold in the present state.
+    fn present(&self, ground: &Ground<Q>) -> Result<Vec<ProcessId>, SettleStop<Q>>
+        requires knows { Knows Q.fits (problem_of Q.value ground.now) self.now }
+        ensures { MatchResult result
+            (λ present. AllFit Q.fits (condition_nodes ((problem_of Q.value ground.now).processes) self.now.line.now.state)
+            × (process_numbers present.items ≡ holding_of (problem_of Q.value ground.now) self.now.line.now.state))
+            (λ stop. ConditionStops Q.value Q.fits (condition_nodes ((problem_of Q.value ground.now).processes) self.now.line.now.state) stop) }
+    {
+        match &self.processes {
+            Some(waiting) => match waiting.in_order(self.alloc) {
+                Err(_) => Err(SettleStop::Memory),
+                Ok(listed) => present_among(self.alloc, ground, self.timeline.state(), &listed),
+            },
+            None => holding(self.alloc, ground, self.timeline.state()),
+        }
+    }
+
+    // The running set of the present state, and the processes that hold in it.
+    fn settled(&self, ground: &Ground<Q>) -> Result<Settled<Q>, SettleStop<Q>>
+        requires knows { Knows Q.fits (problem_of Q.value ground.now) self.now }
+        ensures { SettledTold Q.value Q.fits (problem_of Q.value ground.now) self.now.line.now.state result }
+    {
+        match self.present(ground) {
+            Err(stop) => Err(stop),
+            Ok(present) => match settle_among(
+                self.alloc,
+                ground,
+                &present,
+                self.timeline.state(),
+                &self.index.processes,
+            ) {
+                Err(stop) => Err(stop),
+                Ok(running) => Ok(Settled { present, running }),
+            },
+        }
+    }
+
+    // The events and the processes that read a fluent that moves.
+    fn readers(&self) -> Result<(Vec<EventId>, Vec<ProcessId>), AllocError>
+        ensures events { IfOk result (λ l. ReadAny self.now.kept.index.events (moving_of self.now.line.rates) (event_numbers l.0.items)) }
+        ensures processes { IfOk result (λ l. ReadAny self.now.kept.index.processes (moving_of self.now.line.rates) (process_numbers l.1.items)) }
+    {
+        let moving = self.timeline.rates().moving(self.alloc)?;
+        let events = readers_by(self.alloc, &self.index.events, &moving)?;
+        let processes = readers_by(self.alloc, &self.index.processes, &moving)?;
+        Ok((events, processes))
+    }
+
+    // Goes on along the running set, to the next entry.
+    fn pass(&mut self, ground: &Ground<Q>, until: Q) -> Result<Next<Q>, Stop<Q>>
+        requires going { IsGoing self.old.line }
+        requires knows { Knows Q.fits (problem_of Q.value ground.now) self.old }
+        requires runs { self.old.line.now.running ≡ Some self.old.line.running }
+        requires room { self.old.line.entries < self.old.line.most }
+        requires later { self.old.line.now.time <ℚ Q.value until }
+        ensures told { AdvanceTold Q.value Q.fits (problem_of Q.value ground.now) (Q.value until)
+            self.old.line self.new.line result }
+        ensures line { OnErr result (self.new.line ≡ self.old.line) }
+        ensures kept { self.new.kept ≡ self.old.kept }
+    {
+        match self.readers() {
+            Err(_) => Err(Stop::Memory),
+            Ok((events, processes)) => self.timeline.pass_among(ground, until, &events, &processes),
         }
     }
 
@@ -267,12 +402,12 @@ impl<Q: Exact> Indexed<Q> {
         .ok()
     }
 
-    // Those that wait, and the readers of what the last step changed. None where memory is wanting, or
-    // where all wait.
+    // The events that wait, and the readers of what the last step changed. None where memory is wanting,
+    // or where all wait.
     fn after_step(&self) -> Option<Vec<EventId>>
         ensures { IfSome result (λ w. StillWoken self.now (event_numbers w.items)) }
     {
-        match &self.waiting {
+        match &self.events {
             Some(first) => woken(
                 self.alloc,
                 &self.index.events,
@@ -284,25 +419,62 @@ impl<Q: Exact> Indexed<Q> {
         }
     }
 
-    // Those that wait after this part of the history.
-    fn after(&self, next: Next<Q>) -> Option<Vec<EventId>>
-        ensures { IfSome result (λ w. NotedBy next self.now (event_numbers w.items)) }
+    // Notes who waits after this part of the history.
+    fn wake(&mut self, next: Next<Q>)
+        ensures kept { self.new ≡ record (self.old) {
+          kept = record (self.old.kept) {
+            events = self.new.kept.events;
+            processes = self.new.kept.processes;
+          };
+        } }
+        ensures events { (w : List ℕ) → self.new.kept.events ≡ Some w → EventsAfter next self.old w }
+        ensures processes { (w : List ℕ) → self.new.kept.processes ≡ Some w → ProcessesAfter next self.old w }
     {
         match next {
-            Next::Round => self.after_round(),
-            Next::Entry { .. } => self.after_step(),
-            Next::Run => Some(Vec::new(self.alloc)),
-            Next::There => Some(Vec::new(self.alloc)),
+            Next::Round => {
+                let events = self.after_round();
+                self.note(events);
+            }
+            Next::Entry { .. } => self.wake_by_step(),
+            Next::Run => self.none_waits(),
+            Next::There => self.none_waits(),
         }
     }
 
-    fn keep(&mut self, waiting: Option<Vec<EventId>>)
-        ensures { self.new ≡ record (self.old) {
+    // Those wait besides that read what the last step changed.
+    fn wake_by_step(&mut self)
+        ensures kept { self.new ≡ record (self.old) {
           kept = record (self.old.kept) {
-            waiting = option_map (λ w. event_numbers w.items) waiting;
+            events = self.new.kept.events;
+            processes = self.new.kept.processes;
           };
         } }
+        ensures events { (w : List ℕ) → self.new.kept.events ≡ Some w → StillWoken self.old w }
+        ensures processes { (w : List ℕ) → self.new.kept.processes ≡ Some w → ProcessesWoken self.old w }
     {
-        self.waiting = waiting;
+        let events = self.after_step();
+        self.note(events);
+    }
+
+    // These events wait, and besides the processes that read what the last step changed.
+    fn note(&mut self, events: Option<Vec<EventId>>)
+        ensures kept { self.new ≡ record (self.old) {
+          kept = record (self.old.kept) {
+            events = option_map (λ w. event_numbers w.items) events;
+            processes = self.new.kept.processes;
+          };
+        } }
+        ensures woken { (w : List ℕ) → self.new.kept.processes ≡ Some w → ProcessesWoken self.old w }
+    {
+        self.events = events;
+        let waiting = self.processes.take();
+        self.processes = still_waiting(waiting, &self.index.processes, self.timeline.changes());
+    }
+
+    // No event waits.
+    fn none_waits(&mut self)
+        ensures { self.new ≡ record (self.old) { kept = record (self.old.kept) { events = Some [] } } }
+    {
+        self.events = Some(Vec::new(self.alloc));
     }
 }

@@ -11,7 +11,7 @@
 
 pub mod arrival;
 pub mod crossing;
-mod everyone;
+pub mod everyone;
 pub mod halt;
 pub mod laws;
 pub mod listing;

@@ -15,3 +15,4 @@ pub mod Advance
 pub mod Act
 pub mod Finish
 pub mod Laws
+pub mod Closing

@@ -5,6 +5,9 @@ ghost use Rattle.plus_model.specs.Running.{rates as rates_of, GoesOn};
 ghost use Rattle.plus_state.specs.Changes.{patched, Within, RisesIn, LeadsTo};
 ghost use Rattle.plus_state.specs.Fits.{StateFits};
 ghost use Rattle.plus_state.specs.View.{problem_of};
+ghost use Rattle.plus_state.specs.Numbers.{event_numbers};
+ghost use Rattle.plus_state.specs.Walk.{event_conditions, process_conditions, OthersFalse};
+ghost use Rattle.plus_still.specs.Others.{OthersStill};
 ghost use Rattle.plus_settle.specs.Members.{process_numbers, AreMembers};
 ghost use Rattle.plus_timeline.specs.EntryStates.{IsReached};
 ghost use Rattle.plus_timeline.specs.Reaching.{ReachTold};
@@ -14,6 +17,7 @@ use plus_settle::settling::Running;
 use plus_state::changes::Changes;
 use plus_state::problem::Ground;
 use plus_state::states::State;
+use plus_state::term::{EventId, ProcessId};
 use plus_state::trail::Trail;
 use plus_stretch::arrival::Arrival;
 use plus_stretch::halt::Halt;
@@ -138,6 +142,8 @@ impl<Q: Exact> EntryStates<Q> {
         running: &Running<Q>,
         time: Q,
         until: Q,
+        events: &[EventId],
+        processes: &[ProcessId],
     ) -> Result<Reached<Q>, Halt<Q>>
         requires state { StateFits (length (ground.now.atoms.items)) (length (ground.now.fluents.items)) self.old.state }
         requires members { AreMembers (length (ground.now.processes.items)) (process_numbers running.now.members.items) }
@@ -145,13 +151,18 @@ impl<Q: Exact> EntryStates<Q> {
         requires rates { rates_of (problem_of Q.value ground.now) self.old.state (process_numbers running.now.members.items) ≡ Ok running.now.rates }
         requires on { GoesOn (problem_of Q.value ground.now) self.old.state running.now.rates (process_numbers running.now.members.items) }
         requires later { Q.value time <ℚ Q.value until }
+        requires events { AreMembers (length (ground.now.events.items)) (event_numbers events.now) }
+        requires processes { AreMembers (length (ground.now.processes.items)) (process_numbers processes.now) }
+        requires other_events { OthersStill Q.fits (event_conditions (problem_of Q.value ground.now)) self.old.state running.now.rates (event_numbers events.now) }
+        requires silent { OthersFalse (event_conditions (problem_of Q.value ground.now)) self.old.state (event_numbers events.now) }
+        requires other_processes { OthersStill Q.fits (process_conditions (problem_of Q.value ground.now)) self.old.state running.now.rates (process_numbers processes.now) }
         ensures told { ReachTold Q.value Q.fits (problem_of Q.value ground.now) (Q.value until) (Q.value time) self.old.state (process_numbers running.now.members.items) running.now.rates result }
         ensures reached { IfOk result (λ r. IsReached self.old.state r.arrival.changes r.ahead) }
         ensures same { self.new ≡ self.old }
     {
         match self.take_ahead(alloc) {
             Err(_) => Err(Halt::Memory),
-            Ok(mut ahead) => match search::reach(
+            Ok(mut ahead) => match search::reach_among(
                 alloc,
                 ground,
                 self.trail.state(),
@@ -159,6 +170,8 @@ impl<Q: Exact> EntryStates<Q> {
                 running,
                 time,
                 until,
+                events,
+                processes,
             ) {
                 Err(halt) => Err(halt),
                 Ok(arrival) => Ok(Reached { arrival, ahead }),

@@ -1,5 +1,5 @@
 //! A timeline: a history that is played one part at a time, and of which only the view is kept.
-ghost use Rattle.std.specs.Prelude.{◌≡◌, ◌≤◌, ◌<◌, ◌↔◌, IsTrue, ℕ, suc, Bool, true, false, Option, Some, None, List, [], length, map, option_map, All, IfOk, IfSome, OnOk, OnErr};
+ghost use Rattle.std.specs.Prelude.{◌≡◌, ◌≤◌, ◌<◌, ◌↔◌, IsTrue, ℕ, suc, Bool, true, false, Option, Some, None, Ok, Err, List, [], length, map, option_map, All, IfOk, IfErr, IfSome, MatchBool, OnOk, OnErr};
 ghost use Rattle.plus_fraction.specs.Fraction.{◌<ℚ◌, ◌≤ℚ◌};
 ghost use Rattle.plus_model.specs.Firing.{firing};
 ghost use Rattle.plus_model.specs.History.{view_after, Act, Run as Runs, Round as Rounds};
@@ -8,7 +8,8 @@ ghost use Rattle.plus_state.specs.View.{problem_of, action_of};
 ghost use Rattle.plus_state.specs.Changes.{patched, RisesIn, LeadsTo};
 ghost use Rattle.plus_state.specs.Fits.{StateFits, ActionFits};
 ghost use Rattle.plus_state.specs.Numbers.{AreMembers};
-ghost use Rattle.plus_state.specs.Walk.{event_conditions, OthersFalse, OthersPass};
+ghost use Rattle.plus_state.specs.Walk.{event_conditions, process_conditions, OthersFalse, OthersPass};
+ghost use Rattle.plus_still.specs.Others.{OthersStill};
 ghost use Rattle.plus_stretch.specs.Tests.{AllPass};
 ghost use Rattle.plus_timeline.specs.Serving.{Serves};
 ghost use Rattle.plus_timeline.specs.EntryStates.{IsReached};
@@ -20,6 +21,7 @@ ghost use Rattle.plus_timeline.specs.Stops.{IsGoing};
 ghost use Rattle.plus_timeline.specs.Act.{ActTold};
 ghost use Rattle.plus_timeline.specs.Finish.{IsPaused, FinishTold, TakesNoMemory};
 ghost use Rattle.plus_timeline.specs.Advance.{IsAhead, EntersAt, AdvanceTold};
+ghost use Rattle.plus_timeline.specs.Closing.{CanClose, IsReachedBy};
 
 use crate::effect::action_changes;
 use crate::entry::{EntryStates, Reached};
@@ -37,6 +39,7 @@ use plus_state::problem::{Action, Ground};
 use plus_state::states::State;
 use plus_state::term::{EventId, ProcessId};
 use plus_state::truth::holds;
+use plus_stretch::everyone::everyone;
 use plus_stretch::{Arrival, Halt};
 use std::alloc::{AllocError, Global};
 use std::cmp::Ordering;
@@ -285,6 +288,13 @@ impl<Q: Exact> Timeline<Q> {
         &self.running.members
     }
 
+    /// The net rates under the last running set.
+    pub fn rates(&self) -> &Rates<Q>
+        ensures { result.now ≡ self.now.rates }
+    {
+        &self.running.rates
+    }
+
     /// Whether the present entry has a timed literal.
     pub fn has_literals(&self) -> bool
         ensures { result ≡ self.now.literal }
@@ -435,6 +445,28 @@ impl<Q: Exact> Timeline<Q> {
         Ok(())
     }
 
+    /// A step of `advance` where no event holds: whether the entry is to be closed, or else the time is
+    /// reached. It is refused where no further entry is allowed.
+    pub fn must_close(&self, ground: &Ground<Q>, until: Q) -> Result<bool, Stop<Q>>
+        requires going { IsGoing self.now }
+        requires moment { self.now.now.running ≡ None }
+        requires still { firing (problem_of Q.value ground.now) self.now.now.state ≡ [] }
+        requires passed { AllPass Q.fits (round_tests (problem_of Q.value ground.now) self.now.now.fired self.now.now.state) }
+        ensures told { IfOk result (λ b. MatchBool b (CanClose (problem_of Q.value ground.now) (Q.value until) self.now)
+            (IsReachedBy (problem_of Q.value ground.now) (Q.value until) self.now)) }
+        ensures full { IfErr result (λ stop. AdvanceTold Q.value Q.fits (problem_of Q.value ground.now)
+            (Q.value until) self.now self.now (Err stop)) }
+    {
+        let time = self.time();
+        if !is_earlier(time, bound(ground, time, until)) {
+            return Ok(false);
+        }
+        if self.is_full() {
+            return Err(Stop::Limit(Limit::Happenings(self.most())));
+        }
+        Ok(true)
+    }
+
     /// A step of `advance` where no event holds: the time is reached, or the entry is closed.
     pub fn rest(&mut self, ground: &Ground<Q>, until: Q) -> Result<Next<Q>, Stop<Q>>
         requires going { IsGoing self.old }
@@ -447,25 +479,24 @@ impl<Q: Exact> Timeline<Q> {
             self.old self.new result }
         ensures kept { OnErr result (self.new ≡ self.old) }
     {
-        let time = self.time();
-        if !is_earlier(time, bound(ground, time, until)) {
-            self.arrive();
-            return Ok(Next::There);
-        }
-        if self.is_full() {
-            return Err(Stop::Limit(Limit::Happenings(self.most())));
-        }
-        match settle(self.alloc(), ground, self.state()) {
-            Err(stop) => Err(settle_stop(stop)),
-            Ok(running) => {
-                self.run(running);
-                Ok(Next::Run)
+        match self.must_close(ground, until) {
+            Err(stop) => Err(stop),
+            Ok(false) => {
+                self.arrive();
+                Ok(Next::There)
             }
+            Ok(true) => match settle(self.alloc(), ground, self.state()) {
+                Err(stop) => Err(settle_stop(stop)),
+                Ok(running) => {
+                    self.run(running);
+                    Ok(Next::Run)
+                }
+            },
         }
     }
 
-    // This set runs from now on.
-    fn run(&mut self, running: Running<Q>)
+    /// A step of `advance` where the entry is to be closed: this set runs from now on.
+    pub fn run(&mut self, running: Running<Q>)
         requires { self.old.entries < self.old.most }
         ensures { self.new ≡ record (self.old) {
           now = view_after (self.old.now) (Runs (process_numbers running.members.items));
@@ -491,8 +522,41 @@ impl<Q: Exact> Timeline<Q> {
             self.old self.new result }
         ensures kept { OnErr result (self.new ≡ self.old) }
     {
+        match everyone(self.alloc(), ground) {
+            Err(_) => Err(Stop::Memory),
+            Ok((events, processes)) => self.pass_among(ground, until, &events, &processes),
+        }
+    }
+
+    /// A step of `advance`: goes on along the running set, to the next entry, by a look at these events
+    /// and processes. Of all others it is known that nothing moves that they read, that what they ask
+    /// passes, and that the events do not hold.
+    pub fn pass_among(
+        &mut self,
+        ground: &Ground<Q>,
+        until: Q,
+        events: &[EventId],
+        processes: &[ProcessId],
+    ) -> Result<Next<Q>, Stop<Q>>
+        requires going { IsGoing self.old }
+        requires serves { Serves (problem_of Q.value ground.now) self.old }
+        requires runs { self.old.now.running ≡ Some self.old.running }
+        requires room { self.old.entries < self.old.most }
+        requires later { self.old.now.time <ℚ Q.value until }
+        requires events { AreMembers (length (ground.now.events.items)) (event_numbers events.now) }
+        requires processes { AreMembers (length (ground.now.processes.items)) (process_numbers processes.now) }
+        requires other_events { OthersStill Q.fits (event_conditions (problem_of Q.value ground.now))
+            self.old.now.state self.old.rates (event_numbers events.now) }
+        requires silent { OthersFalse (event_conditions (problem_of Q.value ground.now))
+            self.old.now.state (event_numbers events.now) }
+        requires other_processes { OthersStill Q.fits (process_conditions (problem_of Q.value ground.now))
+            self.old.now.state self.old.rates (process_numbers processes.now) }
+        ensures told { AdvanceTold Q.value Q.fits (problem_of Q.value ground.now) (Q.value until)
+            self.old self.new result }
+        ensures kept { OnErr result (self.new ≡ self.old) }
+    {
         let time = self.time();
-        match self.reach(ground, bound(ground, time, until)) {
+        match self.reach(ground, bound(ground, time, until), events, processes) {
             Err(halt) => Err(halt_stop(halt)),
             Ok(reached) => {
                 let Reached { arrival, ahead } = reached;
@@ -506,17 +570,38 @@ impl<Q: Exact> Timeline<Q> {
     }
 
     // How far the running set goes on, at most up to this time.
-    fn reach(&mut self, ground: &Ground<Q>, until: Q) -> Result<Reached<Q>, Halt<Q>>
+    fn reach(
+        &mut self,
+        ground: &Ground<Q>,
+        until: Q,
+        events: &[EventId],
+        processes: &[ProcessId],
+    ) -> Result<Reached<Q>, Halt<Q>>
         requires serves { Serves (problem_of Q.value ground.now) self.old }
         requires runs { self.old.now.running ≡ Some self.old.running }
         requires later { self.old.now.time <ℚ Q.value until }
+        requires events { AreMembers (length (ground.now.events.items)) (event_numbers events.now) }
+        requires processes { AreMembers (length (ground.now.processes.items)) (process_numbers processes.now) }
+        requires other_events { OthersStill Q.fits (event_conditions (problem_of Q.value ground.now))
+            self.old.now.state self.old.rates (event_numbers events.now) }
+        requires silent { OthersFalse (event_conditions (problem_of Q.value ground.now))
+            self.old.now.state (event_numbers events.now) }
+        requires other_processes { OthersStill Q.fits (process_conditions (problem_of Q.value ground.now))
+            self.old.now.state self.old.rates (process_numbers processes.now) }
         ensures told { ReachTold Q.value Q.fits (problem_of Q.value ground.now) (Q.value until)
             self.old.now.time self.old.now.state self.old.running self.old.rates result }
         ensures reached { IfOk result (λ r. IsReached self.old.now.state r.arrival.changes r.ahead) }
         ensures same { self.new ≡ self.old }
     {
-        self.states
-            .reach(self.alloc, ground, &self.running, self.time, until)
+        self.states.reach(
+            self.alloc,
+            ground,
+            &self.running,
+            self.time,
+            until,
+            events,
+            processes,
+        )
     }
 
     // Begins the next entry, at this time and in the state ahead, to which these moves lead.
@@ -548,7 +633,8 @@ impl<Q: Exact> Timeline<Q> {
         Ok(())
     }
 
-    fn arrive(&mut self)
+    /// A step of `advance` where no event holds: the time is reached.
+    pub fn arrive(&mut self)
         ensures { self.new ≡ record (self.old) {
           now = record (self.old.now) { running = None };
           answer = Some Next.There;

@@ -1,8 +1,7 @@
 use Rattle.std.proofs.Common.{sym, subst}
 use Rattle.plus_state.specs.View.{problem_of}
-use Rattle.plus_indexed.specs.Waking.{NotedBy}
 use Rattle.plus_indexed.specs.Knows.{Knows}
-use Rattle.plus_indexed.proofs.Knowing.{numbers, of_numbers, advance_knows}
+use Rattle.plus_indexed.proofs.Knowing.{advance_knows}
 use Rattle.plus_indexed.proofs.indexed.Indexed.advance.Goals as goal
 
 pub returns-in-Ok-clause-knows : goal.returns-in-Ok-clause-knows
@@ -11,5 +10,5 @@ returns-in-Ok-clause-knows g c =
     let P = problem_of g.Q.Exact.value c.args.ground.now in
     let told = c.in-Ok.ensures.told in
     let k = c.requires.knows told.going in
-    subst (Knows fits P) (sym c.keep.ensures)
-    (advance_knows fits P g.Q.Exact.value (g.Q.Exact.value c.args.until) c.args.self.now c.next.new.self k c.in-Ok.ensures.kept c.in-Ok.next (numbers c.after-waiting.result) told (of_numbers (NotedBy c.in-Ok.next c.next.new.self) c.after-waiting.result c.after-waiting.ensures))
+    subst (Knows fits P) (sym c.wake.ensures.kept)
+    (advance_knows fits P g.Q.Exact.value (g.Q.Exact.value c.args.until) c.args.self.now c.next.new.self k c.in-Ok.ensures.kept c.in-Ok.ensures.processes c.in-Ok.next c.wake.new.self.kept.events c.wake.new.self.kept.processes told c.wake.ensures.events c.wake.ensures.processes)

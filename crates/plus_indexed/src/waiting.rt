@@ -1,0 +1,131 @@
+//! The processes to be looked at where an entry is closed.
+ghost use Rattle.std.specs.Prelude.{◌≡◌, ◌↔◌, ℕ, true, IfOk, IfSome, IsSomeAnd};
+ghost use Rattle.plus_model.specs.Firing.{is_in};
+ghost use Rattle.plus_model.specs.Running.{IsRising};
+ghost use Rattle.plus_state.specs.Numbers.{process_numbers};
+ghost use Rattle.plus_indexed.specs.Woken.{AddsReaders};
+
+use plus_number::exact::Exact;
+use plus_reads::Readers;
+use plus_reads::touched::members_of;
+use plus_state::changes::Changes;
+use plus_state::term::ProcessId;
+use std::alloc::{AllocError, Global};
+use std::marker::Model;
+
+/// The numbers of processes, in any order, each maybe more than once. So many steps take the time of what
+/// they add, and of putting all in order now and then.
+#[derive(Drop)]
+pub struct Waiting {
+    numbers: Vec<u32>,
+    // how many they were when they were last put in order
+    different: usize,
+}
+
+impl Model for Waiting {
+    ghost use Rattle.std.specs.Prelude.{ℕ, List};
+
+    ghost Value = { List ℕ };
+
+    ghost view = { λ w. w.numbers.items };
+}
+
+// In order, each once.
+fn sort_once(numbers: &mut Vec<u32>)
+    ensures rises { IsRising 0 numbers.new.items }
+    ensures same { (k : ℕ) → is_in numbers.new.items k ≡ true ↔ is_in numbers.old.items k ≡ true }
+{
+    numbers.sort_unstable();
+    numbers.dedup();
+}
+
+// These numbers, and behind them the readers of all that is changed.
+fn and_readers<Q: Exact>(
+    readers: &Readers,
+    changes: &Changes<Q>,
+    mut numbers: Vec<u32>,
+) -> Result<Vec<u32>, AllocError>
+    ensures { IfOk result (λ after. AddsReaders readers.now changes.now numbers.items after.items) }
+{
+    'atoms: for change in &changes.atoms {
+        numbers.extend_from_slice(readers.atoms.readers(change.atom.0))?;
+    }
+    'fluents: for change in &changes.fluents {
+        numbers.extend_from_slice(readers.fluents.readers(change.fluent.0))?;
+    }
+    Ok(numbers)
+}
+
+// These numbers: where they have become twice as many, in order and each once.
+fn thinned(mut numbers: Vec<u32>, different: usize) -> Waiting
+    ensures { (k : ℕ) → is_in result k ≡ true ↔ is_in numbers.items k ≡ true }
+{
+    if numbers.len() / 2 <= different {
+        return Waiting { numbers, different };
+    }
+    sort_once(&mut numbers);
+    let different = numbers.len();
+    Waiting { numbers, different }
+}
+
+impl Waiting {
+    /// These processes.
+    pub fn of(alloc: Global, processes: &[ProcessId]) -> Result<Waiting, AllocError>
+        ensures { IfOk result (λ w. w ≡ process_numbers processes.now) }
+    {
+        let mut numbers = Vec::new(alloc);
+        'each: for process in processes {
+            numbers.push(process.0)?;
+        }
+        let different = numbers.len();
+        Ok(Waiting { numbers, different })
+    }
+
+    /// These, and the readers of all that is changed.
+    pub fn with_readers<Q: Exact>(
+        self,
+        readers: &Readers,
+        changes: &Changes<Q>,
+    ) -> Result<Waiting, AllocError>
+        ensures { IfOk result (λ w. AddsReaders readers.now changes.now self w) }
+    {
+        let Waiting { numbers, different } = self;
+        let numbers = and_readers(readers, changes, numbers)?;
+        Ok(thinned(numbers, different))
+    }
+
+    /// They in ground order, each once.
+    pub fn in_order(&self, alloc: Global) -> Result<Vec<ProcessId>, AllocError>
+        ensures rising { IfOk result (λ l. IsRising 0 (process_numbers l.items)) }
+        ensures same { IfOk result (λ l. (k : ℕ) → is_in (process_numbers l.items) k ≡ true ↔ is_in self.now k ≡ true) }
+    {
+        let mut numbers = Vec::from_slice(alloc, &self.numbers)?;
+        sort_once(&mut numbers);
+        let processes = members_of(alloc, &numbers)?;
+        Ok(processes)
+    }
+
+    /// The same.
+    pub fn copy(&self, alloc: Global) -> Result<Waiting, AllocError>
+        ensures { IfOk result (λ w. w ≡ self.now) }
+    {
+        Ok(Waiting {
+            numbers: Vec::from_slice(alloc, &self.numbers)?,
+            different: self.different,
+        })
+    }
+}
+
+/// Those that wait, and the readers of all that is changed. None where memory is wanting, or where all wait.
+pub fn still_waiting<Q: Exact>(
+    waiting: Option<Waiting>,
+    readers: &Readers,
+    changes: &Changes<Q>,
+) -> Option<Waiting>
+    ensures { IfSome result (λ after. IsSomeAnd waiting (λ before. AddsReaders readers.now changes.now before after)) }
+{
+    match waiting {
+        Some(before) => before.with_readers(readers, changes).ok(),
+        None => None,
+    }
+}
