@@ -12,19 +12,20 @@ use Rattle.plus_number.specs.declared.frac.Frac64.{Frac64}
 use Rattle.plus_number.specs.Frac.{fraction_of, IsFrac64}
 use Rattle.plus_state.specs.View.{Labels}
 use Rattle.plus_timeline.specs.Timeline as timeline
-use Rattle.plus_timeline.specs.Timeline.{TimelineView, begun}
+use Rattle.plus_timeline.specs.Timeline.{begun}
+use Rattle.plus_indexed.specs.Indexed.{IndexedView}
+use Rattle.plus_indexed.specs.Knows.{Knows}
 use Rattle.plus_timeline.specs.Advance.{IsAhead}
-use Rattle.plus_timeline.specs.Serving.{Serves}
-use Rattle.plus_timeline.proofs.Serving.{begun_serves}
 use Rattle.plus_timeline.specs.declared.next.Next.TheVariants.{Entry}
 use Rattle.plus_report.specs.Report.{report_of, report_from}
 use Rattle.plus_report.specs.Text.{entry_text, literals_text}
-use Rattle.plus_validator.specs.Standing.{CanGoOn, CanReach, IsReached, HasRoom, next_text, EndsBy, AllActed}
+use Rattle.plus_validator.specs.Account.{Account, account_in}
+use Rattle.plus_validator.specs.Standing.{CanGoOn, CanReach, IsReached, HasRoom, next_text, account_next, EndsBy, AllActed}
 use Rattle.plus_validator.specs.Running.{IsOnWay, Reaches}
 use Rattle.plus_validator.specs.Playing.{Closes, Begins, closed}
 use Rattle.plus_validator.specs.declared.run.Run.{Run}
 use Rattle.plus_validator.proofs.Clear.{clear_first}
-use Rattle.plus_validator.proofs.Steps.{literals_shown, asked_is}
+use Rattle.plus_validator.proofs.Steps.{literals_shown, account_by, asked_is}
 use Rattle.plus_validator.proofs.Lines.{close_played, close_target, close_worked}
 use Rattle.plus_stretch.specs.Tests.{AllPass}
 use Rattle.plus_validator.specs.Asking.{IsClear, NoneFails}
@@ -32,16 +33,20 @@ use Rattle.plus_validator.proofs.Asking.{goal_passes}
 use Rattle.plus_timeline.specs.Asked.{goal_tests}
 
 -- at a moment a time that is not below the present one may be reached
-pub can_reach : (P : Problem) (u : Fraction) (t : TimelineView) → CanGoOn P t → t.now.running ≡ None → IsAhead None t.now.time u → CanReach P u t
+pub can_reach : (P : Problem) (u : Fraction) (t : IndexedView) → CanGoOn P t → t.line.now.running ≡ None → IsAhead None t.line.now.time u → CanReach P u t
 can_reach P u t c m a = record {
   goes = c;
-  ahead = subst (λ (o : Option (List ℕ)). IsAhead o t.now.time u) (sym m) a;
-  room = subst (λ (o : Option (List ℕ)). HasRoom o t.entries t.most) (sym m) tt;
+  ahead = subst (λ (o : Option (List ℕ)). IsAhead o t.line.now.time u) (sym m) a;
+  room = subst (λ (o : Option (List ℕ)). HasRoom o t.line.entries t.line.most) (sym m) tt;
 }
 
 -- the present time may be reached
-pub can_reach_now : (P : Problem) (now : Fraction) (t : TimelineView) → CanGoOn P t → t.now.running ≡ None → now ≡ t.now.time → CanReach P now t
-can_reach_now P now t c m e = can_reach P now t c m (subst (λ x. t.now.time ≤ℚ x) (sym e) (≤ℚ_refl t.now.time))
+pub can_reach_now : (P : Problem) (now : Fraction) (t : IndexedView) → CanGoOn P t → t.line.now.running ≡ None → now ≡ t.line.now.time → CanReach P now t
+can_reach_now P now t c m e = can_reach P now t c m (subst (λ x. t.line.now.time ≤ℚ x) (sym e) (≤ℚ_refl t.line.now.time))
+
+-- before the first entry nothing is told
+abbrev pub nothing : Account
+nothing = record { report = []; entries = 0; firings = 0 }
 
 -- the first entry is written
 first_report : (N : Labels) (P : Problem) (L : Plan) (most : ℕ) (time : Frac64) → fraction_of time ≡ whole (pos 0) → next_text fraction_of N P (begun P most) (Entry time) ≡ report_of N P L (first_part P ∷ [])
@@ -51,15 +56,15 @@ first_report N P L most time e =
     ∙ ap (λ x. entry_text N (whole (pos 0)) P.initial P.initial ++ x) (literals_shown N P (whole (pos 0)) P.initial (literals P (whole (pos 0)) P.initial))
     ∙ sym (append-nil _)
 
-pub begins : (N : Labels) (P : Problem) (most : ℕ) (time : Frac64) (run : Run) → 1 ≤ most → run.timeline ≡ begun P most → run.ended ≡ false → fraction_of time ≡ run.timeline.now.time → run.report.bytes.items ≡ [] ++ next_text fraction_of N P run.timeline (Entry time) → Begins N P most run
-begins N P most time run some e n t r =
+pub begins : (N : Labels) (P : Problem) (most : ℕ) (time : Frac64) (run : Run) → 1 ≤ most → run.timeline.line ≡ begun P most → Knows IsFrac64 P run.timeline → run.ended ≡ false → fraction_of time ≡ run.timeline.line.now.time → account_in run ≡ account_next fraction_of N P run.timeline.line (Entry time) nothing → Begins N P most run
+begins N P most time run some e k n t r =
     let now : fraction_of time ≡ whole (pos 0) = t ∙ ap (λ v. v.now.time) e in
     record {
       rests = record {
         can = record {
-          serves = subst (Serves P) (sym e) (begun_serves P most);
+          knows = k;
           going = ap (λ v. v.ended) e;
-          within = (let a : run.timeline.entries ≡ 1 = ap (λ v. v.entries) e in let b : run.timeline.most ≡ most = ap (λ v. v.most) e in omega arith);
+          within = (let a : run.timeline.line.entries ≡ 1 = ap (λ v. v.entries) e in let b : run.timeline.line.most ≡ most = ap (λ v. v.most) e in omega arith);
         };
         moment = ap (λ v. v.now.running) e;
         most_is = ap (λ v. v.most) e;
@@ -71,12 +76,12 @@ begins N P most time run some e n t r =
             prefix = prefix_begins P L (subst IsInOrder (sym none) tt);
             now = ap (λ v. v.now) e;
             entries = ap (λ v. v.entries) e;
-            written = r ∙ ap (λ v. next_text fraction_of N P v (Entry time)) e ∙ first_report N P L most time now;
-            clear = clear_first P L run.timeline.most instance;
+            written = r ∙ ap (λ v. account_next fraction_of N P v (Entry time) nothing) e ∙ account_by (first_report N P L most time now) refl refl;
+            clear = clear_first P L run.timeline.line.most instance;
           };
           not_closed = open_yet;
-          last = subst (λ b. EndsBy L.lines b run.timeline.now.time) (sym n) (inl (none, ap (λ v. v.now.time) e));
-          acted = subst (λ b. AllActed L.lines b run.timeline.now.acted) (sym n) (ap (λ v. v.now.acted) e ∙ ap length (sym none));
+          last = subst (λ b. EndsBy L.lines b run.timeline.line.now.time) (sym n) (inl (none, ap (λ v. v.now.time) e));
+          acted = subst (λ b. AllActed L.lines b run.timeline.line.now.acted) (sym n) (ap (λ v. v.now.acted) e ∙ ap length (sym none));
           moment = ap (λ v. v.now.running) e;
           worked = inl none;
         },
@@ -84,21 +89,21 @@ begins N P most time run some e n t r =
     }
 
 -- the text is at its end, and the goal holds
-pub closes : (N : Labels) (P : Problem) (old mid new : Run) (now : Fraction) → now ≡ old.timeline.now.time → CanGoOn P old.timeline → Reaches N P now old mid → AllPass IsFrac64 (goal_tests P mid.timeline.now.state) → holds P.goal mid.timeline.now.state ≡ true → new.report.bytes.items ≡ mid.report.bytes.items → Closes N P old new
+pub closes : (N : Labels) (P : Problem) (old mid new : Run) (now : Fraction) → now ≡ old.timeline.line.now.time → CanGoOn P old.timeline → Reaches N P now old mid → AllPass IsFrac64 (goal_tests P mid.timeline.line.now.state) → holds P.goal mid.timeline.line.now.state ≡ true → account_in new ≡ account_in mid → Closes N P old new
 closes N P old mid new now e c r a g w = record {
   ends = λ L instance h ready.
-      let on_way : IsOnWay N P (closed L) instance now old.timeline.now.acted h old = record {
-        played = close_played N P L instance old.ended h old.timeline old.report.bytes.items ready;
-        target_is = close_target N P L instance old.ended h old.timeline old.report.bytes.items ready ∙ sym e;
+      let on_way : IsOnWay N P (closed L) instance now old.timeline.line.now.acted h old = record {
+        played = close_played N P L instance old.ended h old.timeline.line (account_in old) ready;
+        target_is = close_target N P L instance old.ended h old.timeline.line (account_in old) ready ∙ sym e;
         acted_is = refl;
       } in
-      let there = r.reached (closed L) instance old.timeline.now.acted h (inr refl) on_way in
-      let there_now : IsReached N P (closed L) instance old.timeline.now.acted old.timeline.now.time there.0 mid.timeline mid.report.bytes.items =
-      subst (λ x. IsReached N P (closed L) instance old.timeline.now.acted x there.0 mid.timeline mid.report.bytes.items) e there.1 in
-      let worked : IsWorked P (closed L) mid.timeline.now = close_worked N P L instance old.ended h there.0 old.timeline mid.timeline old.report.bytes.items mid.report.bytes.items ready there_now in
-      let passed : NoneFails P (closed L) mid.timeline.most instance there.0 =
-      subst (AllPass IsFrac64) (asked_is N P (closed L) instance there.0 mid.timeline mid.report.bytes.items there.1.played)
-      (goal_passes P (closed L) mid.timeline.most instance mid.timeline.entries mid.timeline.now refl worked.acted there.1.present there.1.over there.1.passed a) in
+      let there = r.reached (closed L) instance old.timeline.line.now.acted h (inr refl) on_way in
+      let there_now : IsReached N P (closed L) instance old.timeline.line.now.acted old.timeline.line.now.time there.0 mid.timeline.line (account_in mid) =
+      subst (λ x. IsReached N P (closed L) instance old.timeline.line.now.acted x there.0 mid.timeline.line (account_in mid)) e there.1 in
+      let worked : IsWorked P (closed L) mid.timeline.line.now = close_worked N P L instance old.ended h there.0 old.timeline.line mid.timeline.line (account_in old) (account_in mid) ready there_now in
+      let passed : NoneFails P (closed L) mid.timeline.line.most instance there.0 =
+      subst (AllPass IsFrac64) (asked_is N P (closed L) instance there.0 mid.timeline.line (account_in mid) there.1.played)
+      (goal_passes P (closed L) mid.timeline.line.most instance mid.timeline.line.entries mid.timeline.line.now refl worked.acted there.1.present there.1.over there.1.passed a) in
       let within = r.can.within in
       let most = r.most in
       let entries = there.1.played.entries in (

@@ -1,15 +1,15 @@
 -- In each state of a trajectory exactly the events fire that hold there.
 use Rattle.std.proofs.Common.{◌≡◌, ℕ, List, [], ◌∷◌, ◌++◌, refl, ap, sym, subst, ◌∙◌}
 use Rattle.std.specs.Prelude.{Option, Some, None, Result, Ok, Err}
-use Rattle.plus_fraction.specs.Fraction.{Fraction, ◌-ℚ◌, ◌<ℚ◌}
+use Rattle.plus_fraction.specs.Fraction.{Fraction, ◌-ℚ◌}
 use Rattle.plus_model.specs.Terms.{Problem}
 use Rattle.plus_model.specs.Firing.{firing}
 use Rattle.plus_model.specs.Running.{rates, moved}
 use Rattle.plus_model.specs.Plan.{Plan}
 use Rattle.plus_model.specs.History.{Part, Enter, Round, Act, Run, View, view_after, view_from}
-use Rattle.plus_model.specs.Trajectory.{first_part, first_view, view_of, until, Next, NextBy, Follow, EnterMayFollow, Trajectory}
+use Rattle.plus_model.specs.Trajectory.{first_view, until, NextBy, Follow, EnterMayFollow, Trajectory}
 use Rattle.plus_model.proofs.Moments.{sub_above, -ℚ-lt}
-use Rattle.plus_validator.specs.Fires.{NoneFires, FiresAt, FiresExactly}
+use Rattle.plus_validator.specs.Fires.{FiresAt, FiresExactly}
 
 enters_quietly : (P : Problem) (L : Plan) (v : View) (R : List ℕ) (t : Fraction) (a s : _) → v.running ≡ Some R → EnterMayFollow P (until P L v) v R t a s → FiresAt P v (Enter t a s)
 enters_quietly P L v R t a s e m x l h R' rs r q =

@@ -36,7 +36,7 @@ use Rattle.plus_timeline.specs.declared.stop.Stop.TheVariants as stops
 use Rattle.plus_report.specs.Verdicts.{LimitFits, BreachFits}
 use Rattle.plus_validator.specs.declared.halt.Halt.{Halt}
 use Rattle.plus_validator.specs.Halts.{stop_halt, line_halt, NamesOf, HaltFits}
-use Rattle.plus_validator.proofs.Faults.{conflict_in, no_value_in}
+use Rattle.plus_instances.proofs.Faults.{conflict_in, no_value_in}
 
 by_stop : (P : Problem) (stop : Stop Frac64) (halt : Halt) → halt ≡ stop_halt stop → NamesOf P (stop_halt stop) → HaltFits P halt
 by_stop P stop halt e f = record { names = subst (NamesOf P) (sym e) f }

@@ -11,7 +11,6 @@ pub mod Runs
 pub mod Closing
 pub mod Played
 pub mod Shown
-pub mod Faults
 mod Grounded
 pub mod Owned
 pub mod Halting
@@ -27,9 +26,10 @@ pub mod OneAnswer
 pub mod OneLine
 pub mod OneRefusal
 pub mod OneText
+pub mod OneJudgement
+pub mod Counts
 pub mod Judging
 pub mod Validating
-pub mod Making
 pub mod Excluding
 pub mod Inside
 pub mod Deciding

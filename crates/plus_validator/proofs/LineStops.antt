@@ -1,5 +1,5 @@
 -- A run that halts in a line, or at the end of the text.
-use Rattle.std.proofs.Common.{◌≡◌, ℕ, suc, true, false, List, [], ◌∷◌, ◌++◌, refl, ap, sym, subst, ◌∙◌, inl, inr}
+use Rattle.std.proofs.Common.{◌≡◌, ℕ, suc, ◌≤◌, true, false, List, [], ◌∷◌, ◌++◌, refl, ap, sym, subst, ◌∙◌, inl, inr}
 use Rattle.std.specs.Prelude.{Result, Ok, Err, IfErr, length}
 use Rattle.plus_fraction.specs.Fraction.{Fraction}
 use Rattle.plus_model.specs.Terms.{Problem}
@@ -27,6 +27,7 @@ use Rattle.plus_timeline.specs.declared.stop.Stop.TheVariants as stops
 use Rattle.plus_timeline.proofs.Follows.{finish_breaks}
 use Rattle.plus_report.specs.declared.verdicts.Verdict.{Verdict}
 use Rattle.plus_report.specs.declared.verdicts.Verdict.TheVariants.{Valid, Invalid, Beyond, Other}
+use Rattle.plus_validator.specs.Account.{Account, account_in}
 use Rattle.plus_validator.specs.declared.halt.Halt.{Halt}
 use Rattle.plus_validator.specs.declared.halt.Halt.TheVariants.{Refused, Memory}
 use Rattle.plus_validator.specs.declared.run.Run.{Run}
@@ -67,23 +68,23 @@ names_line n label (Invalid b) m = breach_names n label b m
 names_line n label (Beyond l) m = tt
 names_line n label (Other e) m = tt
 
-in_line : (d : Pair) (N : Labels) (P : Problem) (ls : List Line) (most : ℕ) (line : Line) (meant : model.Line) (report : List ℕ) (halt : Halt) → line_meant d line ≡ meant ∷ [] → HasValue line → StopsIn N P (with_line (plan_of d ls false) meant) most (instances_of d (ls ++ line ∷ [])) (number_in line) report halt → StopsInLine d N P ls most line report halt
-in_line d N P ls most line meant report (Refused v) e w s = inr (record {
+in_line : (d : Pair) (N : Labels) (P : Problem) (ls : List Line) (most : ℕ) (line : Line) (meant : model.Line) (account : Account) (halt : Halt) → line_meant d line ≡ meant ∷ [] → HasValue line → StopsIn N P (with_line (plan_of d ls false) meant) most (instances_of d (ls ++ line ∷ [])) (number_in line) account halt → StopsInLine d N P ls most line account halt
+in_line d N P ls most line meant account (Refused v) e w s = inr (record {
   begun = subst HasBegun (with_meant d ls line meant e) (has_begun (plan_of d ls false) meant);
   value = w;
-  stopped = subst (λ (M : Plan). IsStoppedIn N P M most (instances_of d (ls ++ line ∷ [])) (number_in line) report v) (with_meant d ls line meant e) s;
+  stopped = subst (λ (M : Plan). IsStoppedIn N P M most (instances_of d (ls ++ line ∷ [])) (number_in line) account v) (with_meant d ls line meant e) s;
 })
-in_line d N P ls most line meant report Memory e w s = tt
+in_line d N P ls most line meant account Memory e w s = tt
 
-way_in : (N : Labels) (P : Problem) (L : Plan) (most : ℕ) (instance : ℕ → List Test) (n : ℕ) (report : List ℕ) (halt : Halt) → StopsOnWay N P L most instance report halt → StopsIn N P L most instance n report halt
-way_in N P L most instance n report (Refused v) s = record { stopped = s.stopped; names = names_line n _ v s.names }
-way_in N P L most instance n report Memory s = tt
+way_in : (N : Labels) (P : Problem) (L : Plan) (most : ℕ) (instance : ℕ → List Test) (n : ℕ) (account : Account) (halt : Halt) → StopsOnWay N P L most instance account halt → StopsIn N P L most instance n account halt
+way_in N P L most instance n account (Refused v) s = record { stopped = s.stopped; names = names_line n _ v s.names }
+way_in N P L most instance n account Memory s = tt
 
 -- its time
-time_stops : (d : Pair) (N : Labels) (P : Problem) (line : Line) (meant : model.Line) (time : Time) (run : Run) (halt : Halt) (ls : List Line) (h : List Part) → line_meant d line ≡ meant ∷ [] → HasTime line time → model.time_of meant ≡ value_of time → CanGoOn P run.timeline → HaltsAtMoment (number_in line) time run halt → ReadiedFor d N P ls h run → StopsInLine d N P ls run.timeline.most line run.report.bytes.items halt
+time_stops : (d : Pair) (N : Labels) (P : Problem) (line : Line) (meant : model.Line) (time : Time) (run : Run) (halt : Halt) (ls : List Line) (h : List Part) → line_meant d line ≡ meant ∷ [] → HasTime line time → model.time_of meant ≡ value_of time → CanGoOn P run.timeline → HaltsAtMoment (number_in line) time run halt → ReadiedFor d N P ls h run → StopsInLine d N P ls run.timeline.line.most line (account_in run) halt
 time_stops d N P line meant time run (Refused v) ls h e k t c s r = inl (record {
   history = h;
-  reported = reported N P (plan_of d ls false) (instances_of d ls) h run.timeline run.report.bytes.items run.report.bytes.items r.played c.within refl;
+  reported = reported N P (plan_of d ls false) (instances_of d ls) h run.timeline.line (account_in run) (account_in run) r.played c.within refl;
   waits = waits N P (plan_of d ls false) (instances_of d ls) h run r;
   meant = meant;
   meant_is = e;
@@ -104,8 +105,8 @@ halts_before d N P line meant time at old new halt e t w i s = record {
   stops = λ ls h r.
       let L : Plan = plan_of d ls false in
       let instance : ℕ → List Test = instances_of d (ls ++ line ∷ []) in
-      in_line d N P ls old.timeline.most line meant new.report.bytes.items halt e (has_value line time at w i.is)
-      (way_in N P (with_line L meant) old.timeline.most instance (number_in line) new.report.bytes.items halt
+      in_line d N P ls old.timeline.line.most line meant (account_in new) halt e (has_value line time at w i.is)
+      (way_in N P (with_line L meant) old.timeline.line.most instance (number_in line) (account_in new) halt
       (s.stops (with_line L meant) instance (length L.lines) h (has_begun L meant) (line_on_way d N P ls line h old meant time at (sym t) i r)));
 }
 
@@ -121,15 +122,15 @@ module _ (d : Pair) (N : Labels) (P : Problem) (n : ℕ) (time : Time) (call : C
         let L : Plan = plan_of d ls false in
         let instance : ℕ → List Test = instances_of d (ls ++ lines.Act n time call ∷ []) in
         let x = act_reached d N P n time call at old there i r ls h ready in
-        in_line d N P ls old.timeline.most (lines.Act n time call) line new.report.bytes.items halt refl (has_value (lines.Act n time call) time at (λ t k. k) i.is)
-        (subst (λ m. StopsIn N P (with_line L line) m instance n new.report.bytes.items halt) r.most
-        (s.stops (with_line L line) instance x.0 (has_begun L line) (instance_is d ls n time call there.timeline.now.acted x.1.acted_is)
-        (reached_now N P (with_line L line) instance (length L.lines) (value_of time) x.0 there.timeline there.report.bytes.items x.1)
-        (act_due N P L instance x.0 there.timeline there.report.bytes.items (called_of d.domain d.problem call.name call.args) (value_of time) x.1)));
+        in_line d N P ls old.timeline.line.most (lines.Act n time call) line (account_in new) halt refl (has_value (lines.Act n time call) time at (λ t k. k) i.is)
+        (subst (λ m. StopsIn N P (with_line L line) m instance n (account_in new) halt) r.most
+        (s.stops (with_line L line) instance x.0 (has_begun L line) (instance_is d ls n time call there.timeline.line.now.acted x.1.acted_is)
+        (reached_now N P (with_line L line) instance (length L.lines) (value_of time) x.0 there.timeline.line (account_in there) x.1)
+        (act_due N P L instance x.0 there.timeline.line (account_in there) (called_of d.domain d.problem call.name call.args) (value_of time) x.1)));
   }
 
   -- what comes behind it
-  pub halts_behind : (acted new : Run) (now : Fraction) (halt : Halt) → ActsOnce d N P call there acted → now ≡ acted.timeline.now.time → HaltsOnWay N P now acted new halt → HaltsInLine d N P (lines.Act n time call) old new halt
+  pub halts_behind : (acted new : Run) (now : Fraction) (halt : Halt) → ActsOnce d N P call there acted → now ≡ acted.timeline.line.now.time → HaltsOnWay N P now acted new halt → HaltsInLine d N P (lines.Act n time call) old new halt
   unfolding line
   halts_behind acted new now halt a e s = record {
     stops = λ ls h ready.
@@ -137,78 +138,78 @@ module _ (d : Pair) (N : Labels) (P : Problem) (n : ℕ) (time : Time) (call : C
         let instance : ℕ → List Test = instances_of d (ls ++ lines.Act n time call ∷ []) in
         let x = act_reached d N P n time call at old there i r ls h ready in
         let y = act_once d N P n time call there acted ls x.0 a x.1 in
-        let many : acted.timeline.now.acted ≡ suc (length L.lines) = a.acted_is ∙ ap suc x.1.acted_is in
-        in_line d N P ls old.timeline.most (lines.Act n time call) line new.report.bytes.items halt refl (has_value (lines.Act n time call) time at (λ t k. k) i.is)
-        (way_in N P (with_line L line) old.timeline.most instance n new.report.bytes.items halt
-        (subst (λ m. StopsOnWay N P (with_line L line) m instance new.report.bytes.items halt) (a.most ∙ r.most)
+        let many : acted.timeline.line.now.acted ≡ suc (length L.lines) = a.acted_is ∙ ap suc x.1.acted_is in
+        in_line d N P ls old.timeline.line.most (lines.Act n time call) line (account_in new) halt refl (has_value (lines.Act n time call) time at (λ t k. k) i.is)
+        (way_in N P (with_line L line) old.timeline.line.most instance n (account_in new) halt
+        (subst (λ m. StopsOnWay N P (with_line L line) m instance (account_in new) halt) (a.most ∙ r.most)
         (s.stops (with_line L line) instance (suc (length L.lines)) y.0 (has_begun L line) (record {
           played = y.1;
-          target_is = acted_target L line acted.timeline.now many ∙ sym e;
+          target_is = acted_target L line acted.timeline.line.now many ∙ sym e;
           acted_is = many;
         }))));
   }
 
 -- ---- the end of the text
 
-closing : (N : Labels) (P : Problem) (L : Plan) (instance : ℕ → List Test) (h : List Part) (run : Run) (now : Fraction) → now ≡ run.timeline.now.time → Readied N P L instance h run → IsOnWay N P (closed L) instance now run.timeline.now.acted h run
+closing : (N : Labels) (P : Problem) (L : Plan) (instance : ℕ → List Test) (h : List Part) (run : Run) (now : Fraction) → now ≡ run.timeline.line.now.time → Readied N P L instance h run → IsOnWay N P (closed L) instance now run.timeline.line.now.acted h run
 closing N P L instance h run now e ready = record {
-  played = close_played N P L instance run.ended h run.timeline run.report.bytes.items ready;
-  target_is = close_target N P L instance run.ended h run.timeline run.report.bytes.items ready ∙ sym e;
+  played = close_played N P L instance run.ended h run.timeline.line (account_in run) ready;
+  target_is = close_target N P L instance run.ended h run.timeline.line (account_in run) ready ∙ sym e;
   acted_is = refl;
 }
 
-pub halts_closing : (N : Labels) (P : Problem) (old new : Run) (now : Fraction) (halt : Halt) → now ≡ old.timeline.now.time → HaltsOnWay N P now old new halt → HaltsAtEnd N P old new halt
+pub halts_closing : (N : Labels) (P : Problem) (old new : Run) (now : Fraction) (halt : Halt) → now ≡ old.timeline.line.now.time → HaltsOnWay N P now old new halt → HaltsAtEnd N P old new halt
 halts_closing N P old new now halt e s = record {
-  stops = λ L instance h ready. s.stops (closed L) instance old.timeline.now.acted h (inr refl) (closing N P L instance h old now e ready);
+  stops = λ L instance h ready. s.stops (closed L) instance old.timeline.line.now.acted h (inr refl) (closing N P L instance h old now e ready);
 }
 
 -- the goal is asked where the lines are worked
-goal_asked : (N : Labels) (P : Problem) (L : Plan) (instance : ℕ → List Test) (acted : ℕ) (time : Fraction) (h : List Part) (v : TimelineView) (report : List ℕ) (test : Test) → L.closed ≡ true → IsReached N P L instance acted time h v report → IsWorked P L v.now → FirstFailing IsFrac64 (goal_tests P v.now.state) test → FirstFailing IsFrac64 (asked P L v.most instance v.entries v.now) test
-goal_asked N P L instance acted time h v report test c r w f = goal_fails P L v.most instance v.entries v.now test c w.acted r.present r.over r.passed f
+goal_asked : (N : Labels) (P : Problem) (L : Plan) (instance : ℕ → List Test) (acted : ℕ) (time : Fraction) (h : List Part) (v : TimelineView) (account : Account) (test : Test) → L.closed ≡ true → IsReached N P L instance acted time h v account → IsWorked P L v.now → FirstFailing IsFrac64 (goal_tests P v.now.state) test → FirstFailing IsFrac64 (asked P L v.most instance v.entries v.now) test
+goal_asked N P L instance acted time h v account test c r w f = goal_fails P L v.most instance v.entries v.now test c w.acted r.present r.over r.passed f
 
-finish_stops : (N : Labels) (P : Problem) (L : Plan) (most : ℕ) (instance : ℕ → List Test) (acted : ℕ) (time : Fraction) (h : List Part) (v : TimelineView) (report report' : List ℕ) (stop : Stop Frac64) → L.closed ≡ true → v.most ≡ most → CanGoOn P v → IsReached N P L instance acted time h v report → IsWorked P L v.now → report' ≡ report → FinishTold {A = Unit {0}} fraction_of IsFrac64 P v (Err stop) → StopsOnWay N P L most instance report' (stop_halt stop)
-finish_stops N P L most instance acted time h v report report' (stops.Breach breaches.Goal) c m g r w e t =
-    subst (λ k. IsStoppedOnWay N P L k instance report' (Invalid breaches.Goal)) m (record {
+finish_stops : (N : Labels) (P : Problem) (L : Plan) (most : ℕ) (instance : ℕ → List Test) (acted : ℕ) (time : Fraction) (h : List Part) (v : TimelineView) (account account' : Account) (stop : Stop Frac64) → L.closed ≡ true → v.most ≡ most → v.entries ≤ v.most → IsReached N P L instance acted time h v account → IsWorked P L v.now → account' ≡ account → FinishTold {A = Unit {0}} fraction_of IsFrac64 P v (Err stop) → StopsOnWay N P L most instance account' (stop_halt stop)
+finish_stops N P L most instance acted time h v account account' (stops.Breach breaches.Goal) c m g r w e t =
+    subst (λ k. IsStoppedOnWay N P L k instance account' (Invalid breaches.Goal)) m (record {
       stopped = record {
         history = h;
-        reported = reported N P L instance h v report report' r.played g.within e;
-        stands = broken_at N P L instance h v report r.played breaches.Goal (inr c) (finish_breaks P L v.now c w t.means)
-            (goal_asked N P L instance acted time h v report (breach model_breach.Goal) c r w t.first);
+        reported = reported N P L instance h v account account' r.played g e;
+        stands = broken_at N P L instance h v account r.played breaches.Goal (inr c) (finish_breaks P L v.now c w t.means)
+            (goal_asked N P L instance acted time h v account (breach model_breach.Goal) c r w t.first);
       };
       names = tt;
     })
-finish_stops N P L most instance acted time h v report report' (stops.Limit l) c m g r w e t =
-    subst (λ k. IsStoppedOnWay N P L k instance report' (Beyond l)) m (record {
+finish_stops N P L most instance acted time h v account account' (stops.Limit l) c m g r w e t =
+    subst (λ k. IsStoppedOnWay N P L k instance account' (Beyond l)) m (record {
       stopped = record {
         history = h;
-        reported = reported N P L instance h v report report' r.played g.within e;
-        stands = fails_at N P L instance h v report r.played (of_limit fraction_of l) (goal_asked N P L instance acted time h v report (of_limit fraction_of l) c r w t.first);
+        reported = reported N P L instance h v account account' r.played g e;
+        stands = fails_at N P L instance h v account r.played (of_limit fraction_of l) (goal_asked N P L instance acted time h v account (of_limit fraction_of l) c r w t.first);
       };
       names = tt;
     })
-finish_stops N P L most instance acted time h v report report' (stops.Breach (breaches.UnknownAction n name)) c m g r w e t = absurd t.means
-finish_stops N P L most instance acted time h v report report' (stops.Breach (breaches.WrongArguments n name)) c m g r w e t = absurd t.means
-finish_stops N P L most instance acted time h v report report' (stops.Breach (breaches.Precondition n whose)) c m g r w e t = absurd t.means
-finish_stops N P L most instance acted time h v report report' (stops.Breach (breaches.TimeGoesBack n)) c m g r w e t = absurd t.means
-finish_stops N P L most instance acted time h v report report' (stops.Breach (breaches.AfterEnd n)) c m g r w e t = absurd t.means
-finish_stops N P L most instance acted time h v report report' (stops.Breach (breaches.Conflict f)) c m g r w e t = absurd t.means
-finish_stops N P L most instance acted time h v report report' (stops.Breach (breaches.NoValue f)) c m g r w e t = absurd t.means
-finish_stops N P L most instance acted time h v report report' (stops.Breach (breaches.Repeats x)) c m g r w e t = absurd t.means
-finish_stops N P L most instance acted time h v report report' (stops.Breach (breaches.Unsettled x)) c m g r w e t = absurd t.means
-finish_stops N P L most instance acted time h v report report' (stops.Breach (breaches.Coupled x y)) c m g r w e t = absurd t.means
-finish_stops N P L most instance acted time h v report report' (stops.Breach (breaches.NoFirstMoment x y)) c m g r w e t = absurd t.means
-finish_stops N P L most instance acted time h v report report' stops.Ended c m g r w e t = tt
-finish_stops N P L most instance acted time h v report report' stops.Memory c m g r w e t = tt
+finish_stops N P L most instance acted time h v account account' (stops.Breach (breaches.UnknownAction n name)) c m g r w e t = absurd t.means
+finish_stops N P L most instance acted time h v account account' (stops.Breach (breaches.WrongArguments n name)) c m g r w e t = absurd t.means
+finish_stops N P L most instance acted time h v account account' (stops.Breach (breaches.Precondition n whose)) c m g r w e t = absurd t.means
+finish_stops N P L most instance acted time h v account account' (stops.Breach (breaches.TimeGoesBack n)) c m g r w e t = absurd t.means
+finish_stops N P L most instance acted time h v account account' (stops.Breach (breaches.AfterEnd n)) c m g r w e t = absurd t.means
+finish_stops N P L most instance acted time h v account account' (stops.Breach (breaches.Conflict f)) c m g r w e t = absurd t.means
+finish_stops N P L most instance acted time h v account account' (stops.Breach (breaches.NoValue f)) c m g r w e t = absurd t.means
+finish_stops N P L most instance acted time h v account account' (stops.Breach (breaches.Repeats x)) c m g r w e t = absurd t.means
+finish_stops N P L most instance acted time h v account account' (stops.Breach (breaches.Unsettled x)) c m g r w e t = absurd t.means
+finish_stops N P L most instance acted time h v account account' (stops.Breach (breaches.Coupled x y)) c m g r w e t = absurd t.means
+finish_stops N P L most instance acted time h v account account' (stops.Breach (breaches.NoFirstMoment x y)) c m g r w e t = absurd t.means
+finish_stops N P L most instance acted time h v account account' stops.Ended c m g r w e t = tt
+finish_stops N P L most instance acted time h v account account' stops.Memory c m g r w e t = tt
 
-pub halts_at_goal : (N : Labels) (P : Problem) (old mid new : Run) (now : Fraction) (stop : Stop Frac64) (halt : Halt) → now ≡ old.timeline.now.time → Reaches N P now old mid → new.report.bytes.items ≡ mid.report.bytes.items → halt ≡ stop_halt stop → FinishTold {A = Unit {0}} fraction_of IsFrac64 P mid.timeline (Err stop) → HaltsAtEnd N P old new halt
+pub halts_at_goal : (N : Labels) (P : Problem) (old mid new : Run) (now : Fraction) (stop : Stop Frac64) (halt : Halt) → now ≡ old.timeline.line.now.time → Reaches N P now old mid → (account_in new) ≡ (account_in mid) → halt ≡ stop_halt stop → FinishTold {A = Unit {0}} fraction_of IsFrac64 P mid.timeline.line (Err stop) → HaltsAtEnd N P old new halt
 halts_at_goal N P old mid new now stop halt e r w k t = record {
   stops = λ L instance h ready.
-      let there = r.reached (closed L) instance old.timeline.now.acted h (inr refl) (closing N P L instance h old now e ready) in
-      let there_now : IsReached N P (closed L) instance old.timeline.now.acted old.timeline.now.time there.0 mid.timeline mid.report.bytes.items =
-      subst (λ x. IsReached N P (closed L) instance old.timeline.now.acted x there.0 mid.timeline mid.report.bytes.items) e there.1 in
-      subst (StopsOnWay N P (closed L) old.timeline.most instance new.report.bytes.items) (sym k)
-      (finish_stops N P (closed L) old.timeline.most instance old.timeline.now.acted old.timeline.now.time there.0 mid.timeline mid.report.bytes.items new.report.bytes.items stop refl r.most r.can there_now
-      (close_worked N P L instance old.ended h there.0 old.timeline mid.timeline old.report.bytes.items mid.report.bytes.items ready there_now) w t);
+      let there = r.reached (closed L) instance old.timeline.line.now.acted h (inr refl) (closing N P L instance h old now e ready) in
+      let there_now : IsReached N P (closed L) instance old.timeline.line.now.acted old.timeline.line.now.time there.0 mid.timeline.line (account_in mid) =
+      subst (λ x. IsReached N P (closed L) instance old.timeline.line.now.acted x there.0 mid.timeline.line (account_in mid)) e there.1 in
+      subst (StopsOnWay N P (closed L) old.timeline.line.most instance (account_in new)) (sym k)
+      (finish_stops N P (closed L) old.timeline.line.most instance old.timeline.line.now.acted old.timeline.line.now.time there.0 mid.timeline.line (account_in mid) (account_in new) stop refl r.most r.can.within there_now
+      (close_worked N P L instance old.ended h there.0 old.timeline.line mid.timeline.line (account_in old) (account_in mid) ready there_now) w t);
 }
 
 pub on_err : {A E : Type 0} (r : Result A E) (G Q : E → Type 0) → ((e : E) → G e → Q e) → IfErr r G → IfErr r Q

@@ -25,7 +25,7 @@ use Rattle.plus_validator.specs.Plans.{Pair, pair, plan_of, Reading, plan_in, li
 use Rattle.plus_validator.specs.Refused.{Cause, Refusal, IsCut, WholeLines, IsRefused, IsStoppedAtEnd}
 use Rattle.plus_validator.proofs.OneRefusal.{one_refusal, passed_by}
 use Rattle.plus_validator.specs.Accepted.{IsAccepted}
-use Rattle.plus_validator.specs.Asking.{IsClear, NoneFails, asked_at, instances_of}
+use Rattle.plus_validator.specs.Asking.{entries_of, firings_of, IsClear, NoneFails, asked_at, instances_of}
 use Rattle.plus_validator.proofs.Between.{PlaysOn}
 use Rattle.plus_validator.proofs.OneAnswer.{begins_both, Parted, left, parted, right, same}
 use Rattle.plus_validator.proofs.LineStops.{names_line}
@@ -112,22 +112,39 @@ with_piece d P most whole p q v x = record {
   final = x.final;
 }
 
--- one outcome, and one text
-pub record SameAnswer (one other : Outcome) (text text' : List ℕ) : Type 0 where
+-- what is told of a text: its report with the verdict's line, that line, and how much happens
+pub record Telling : Type 0 where
+  pub written : List ℕ
+  pub line : List ℕ
+  pub entries : ℕ
+  pub firings : ℕ
+
+-- one outcome, and one telling
+pub record SameAnswer (one other : Outcome) (t u : Telling) : Type 0 where
   pub outcome : one ≡ other
-  pub text_is : text ≡ text'
+  pub telling : t ≡ u
 
 module _ (d : Domain) (p : Problem) (most : ℕ) where
-  abbrev told_by : (r : Reading) (h : List Part) (v : Verdict Frac64) → List ℕ
-  told_by r h v = report_of (labels_meant d p) (expanded d p) (plan_in (pair d p) r) h ++ verdict_text fraction_of (labels_meant d p) (expanded d p) v
+  -- with this line of the verdict
+  abbrev with_line : (r : Reading) (h : List Part) (line : List ℕ) → Telling
+  with_line r h line =
+      record {
+        written = report_of (labels_meant d p) (expanded d p) (plan_in (pair d p) r) h ++ line;
+        line = line;
+        entries = entries_of h;
+        firings = firings_of h;
+      }
+
+  abbrev pub told_by : (r : Reading) (h : List Part) (v : Verdict Frac64) → Telling
+  told_by r h v = with_line r h (verdict_text fraction_of (labels_meant d p) (expanded d p) v)
 
   same_refusals : (goes_on : Bool) (whole piece : List ℕ) (v w : Verdict Frac64) (x : Refusal (pair d p) (expanded d p) most goes_on whole piece v) (y : Refusal (pair d p) (expanded d p) most goes_on whole piece w) → SameAnswer (outcome_of v) (outcome_of w) (told_by x.reading x.history v) (told_by y.reading y.history w)
   same_refusals goes_on whole piece v w x y =
       let s = one_refusal (labels_meant d p) (pair d p) (expanded d p) most goes_on whole piece v w x y in
       record {
         outcome = s.verdict.outcome;
-        text_is = ap (λ (r : Reading). told_by r x.history v) s.reading ∙ ap (λ (h : List Part). told_by y.reading h v) s.history
-            ∙ ap (λ (t : List ℕ). report_of (labels_meant d p) (expanded d p) (plan_in (pair d p) y.reading) y.history ++ t) s.verdict.text;
+        telling = ap (λ (r : Reading). told_by r x.history v) s.reading ∙ ap (λ (h : List Part). told_by y.reading h v) s.history
+            ∙ ap (with_line y.reading y.history) s.verdict.text;
       }
 
   -- with what is read to its end in any pieces, and what is cut in the same
@@ -149,13 +166,14 @@ module _ (d : Domain) (p : Problem) (most : ℕ) where
       let k = one_cut text whole piece whole' piece' a b in
       same_cut whole whole' piece piece' v w k.whole k.piece x y
 
-  pub refused_once : (goes_on : Bool) (text : List ℕ) (one other : Outcome) (bytes bytes' : List ℕ) → IsRefused d p most text goes_on one bytes → IsRefused d p most text goes_on other bytes' → SameAnswer one other bytes bytes'
+  pub refusals_once : (goes_on : Bool) (text : List ℕ) (one other : Outcome) (bytes bytes' : List ℕ) (a : IsRefused d p most text goes_on one bytes) (b : IsRefused d p most text goes_on other bytes') → SameAnswer (outcome_of a.verdict) (outcome_of b.verdict) (told_by a.refusal.reading a.refusal.history a.verdict) (told_by b.refusal.reading b.refusal.history b.verdict)
+  refusals_once goes_on text one other bytes bytes' a b =
+      same_told goes_on text a.whole b.whole a.piece b.piece a.verdict b.verdict a.cut b.cut a.refusal b.refusal
+
+  refused_once : (goes_on : Bool) (text : List ℕ) (one other : Outcome) (bytes bytes' : List ℕ) → IsRefused d p most text goes_on one bytes → IsRefused d p most text goes_on other bytes' → (one ≡ other) × (bytes ≡ bytes')
   refused_once goes_on text one other bytes bytes' a b =
-      let s = same_told goes_on text a.whole b.whole a.piece b.piece a.verdict b.verdict a.cut b.cut a.refusal b.refusal in
-      record {
-        outcome = a.outcome_is ∙ s.outcome ∙ sym b.outcome_is;
-        text_is = a.written ∙ s.text_is ∙ sym b.written;
-      }
+      let s = refusals_once goes_on text one other bytes bytes' a b in
+      (a.outcome_is ∙ s.outcome ∙ sym b.outcome_is, a.written ∙ ap (λ (t : Telling). t.written) s.telling ∙ sym b.written)
 
 -- ---- an accepted text is not refused
 
@@ -172,11 +190,16 @@ module _ (d : Domain) (p : Problem) (most : ℕ) where
   abbrev accepted_text : List Line → List Part → List ℕ
   accepted_text ls h = report_of (labels_meant d p) (expanded d p) (plan_of (pair d p) ls true) h ++ codes "valid\n"
 
+  -- one history
+  pub history_once : (text bytes bytes' : List ℕ) (a : IsAccepted d p most text bytes) (b : IsAccepted d p most text bytes') → a.history ≡ b.history
+  history_once text bytes bytes' a b =
+      let e : a.lines ≡ b.lines = lines_once a.lines b.lines (sym a.read ∙ b.read) in
+      sym (a.only b.history (subst (λ (ls : List Line). Trajectory (expanded d p) (plan_of (pair d p) ls true) b.history) (sym e) b.happens))
+
   pub accepted_once : (text bytes bytes' : List ℕ) → IsAccepted d p most text bytes → IsAccepted d p most text bytes' → bytes ≡ bytes'
   accepted_once text bytes bytes' a b =
       let e : a.lines ≡ b.lines = lines_once a.lines b.lines (sym a.read ∙ b.read) in
-      let t : Trajectory (expanded d p) (plan_of (pair d p) a.lines true) b.history = subst (λ (ls : List Line). Trajectory (expanded d p) (plan_of (pair d p) ls true) b.history) (sym e) b.happens in
-      a.written ∙ ap (accepted_text a.lines) (sym (a.only b.history t)) ∙ ap (λ (ls : List Line). accepted_text ls b.history) e ∙ sym b.written
+      a.written ∙ ap (accepted_text a.lines) (history_once text bytes bytes' a b) ∙ ap (λ (ls : List Line). accepted_text ls b.history) e ∙ sym b.written
 
   -- what an accepted plan plays
   plays : (text bytes : List ℕ) (a : IsAccepted d p most text bytes) → PlaysOn (pair d p) (expanded d p) most a.lines
@@ -224,14 +247,14 @@ module _ (d : Domain) (p : Problem) (most : ℕ) where
 
   -- ---- the bytes that are read
 
-  read_once : (bytes text text' : List ℕ) (goes_on goes_on' : Bool) → IsRead bytes text goes_on → IsRead bytes text' goes_on' → (text ≡ text') × (goes_on ≡ goes_on')
+  pub read_once : (bytes text text' : List ℕ) (goes_on goes_on' : Bool) → IsRead bytes text goes_on → IsRead bytes text' goes_on' → (text ≡ text') × (goes_on ≡ goes_on')
   read_once bytes text text' false false a b = (a.0 ∙ sym b.0, refl)
   read_once bytes text text' true true a b = (a.0 ∙ sym b.0, refl)
   read_once bytes text text' false true a b = absurd (let k = a.1 in let l = b.1 in omega arith)
   read_once bytes text text' true false a b = absurd (let k = a.1 in let l = b.1 in omega arith)
 
   -- an accepted text is within its limit, and so is read whole
-  accepted_whole : (bytes text written : List ℕ) (goes_on : Bool) → IsAccepted d p most bytes written → IsRead bytes text goes_on → (text ≡ bytes) × (goes_on ≡ false)
+  pub accepted_whole : (bytes text written : List ℕ) (goes_on : Bool) → IsAccepted d p most bytes written → IsRead bytes text goes_on → (text ≡ bytes) × (goes_on ≡ false)
   accepted_whole bytes text written false a r = (r.0, refl)
   accepted_whole bytes text written true a r = absurd (let k = a.within in let l = r.1 in omega arith)
 
@@ -241,7 +264,7 @@ module _ (d : Domain) (p : Problem) (most : ℕ) where
       one_end bytes written one written' a
       (subst (λ (g : Bool). IsRefused d p most bytes g one written') k.1 (subst (λ (t : List ℕ). IsRefused d p most t r.goes_on one written') k.0 r.refused))
 
-  refused_in_once : (bytes written written' : List ℕ) (one other : Outcome) → IsRefusedIn d p most bytes one written → IsRefusedIn d p most bytes other written' → SameAnswer one other written written'
+  refused_in_once : (bytes written written' : List ℕ) (one other : Outcome) → IsRefusedIn d p most bytes one written → IsRefusedIn d p most bytes other written' → (one ≡ other) × (written ≡ written')
   refused_in_once bytes written written' one other a b =
       let k = read_once bytes a.text b.text a.goes_on b.goes_on a.read b.read in
       refused_once d p most b.goes_on b.text one other written written'
@@ -267,7 +290,7 @@ module _ (d : Domain) (p : Problem) (most : ℕ) where
   once bytes one other text text' (is_accepted e a) (is_accepted f b) = (e ∙ sym f, accepted_once bytes text text' a b)
   once bytes one other text text' (is_accepted e a) (is_refused b) = absurd (accepted_or_refused bytes text text' other a b)
   once bytes one other text text' (is_refused a) (is_accepted f b) = absurd (accepted_or_refused bytes text' text one b a)
-  once bytes one other text text' (is_refused a) (is_refused b) = (let s = refused_in_once bytes text text' one other a b in (s.outcome, s.text_is))
+  once bytes one other text text' (is_refused a) (is_refused b) = refused_in_once bytes text text' one other a b
 
 pub one_answer : OneAnswer
 one_answer d p most bytes one other text text' a b = once d p most bytes one other text text' (answered d p most bytes one text a) (answered d p most bytes other text' b)

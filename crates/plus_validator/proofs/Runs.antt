@@ -1,5 +1,5 @@
 -- Runs that are on their way to a time, step by step.
-use Rattle.std.proofs.Common.{◌≡◌, ℕ, List, [], ◌∷◌, ◌++◌, refl, ap, subst, ◌∙◌, append-nil}
+use Rattle.std.proofs.Common.{◌≡◌, ℕ, List, [], ◌∷◌, ◌++◌, refl, ap, subst, ◌∙◌, append-nil, add-zero}
 use Rattle.plus_fraction.specs.Fraction.{Fraction}
 use Rattle.plus_model.specs.Terms.{Problem}
 use Rattle.plus_model.specs.Plan.{Plan}
@@ -9,57 +9,64 @@ use Rattle.plus_number.specs.declared.frac.Frac64.{Frac64}
 use Rattle.plus_number.specs.Frac.{fraction_of, IsFrac64}
 use Rattle.plus_state.specs.View.{Labels}
 use Rattle.plus_stretch.specs.Tests.{Test, AllPass}
+use Rattle.plus_timeline.specs.Timeline.{TimelineView}
 use Rattle.plus_timeline.specs.Advance.{Advances, IsThere}
 use Rattle.plus_timeline.specs.declared.next.Next.{Next}
+use Rattle.plus_indexed.specs.Knows.{Knows}
 use Rattle.plus_timeline.specs.declared.next.Next.TheVariants.{Round, Run as run_answer, Entry, There}
-use Rattle.plus_validator.specs.Standing.{CanReach, IsReached, IsMore, a_round, a_run, an_entry, is_there, next_text}
+use Rattle.plus_validator.specs.Standing.{CanReach, IsReached, IsMore, a_round, a_run, an_entry, is_there, account_next}
+use Rattle.plus_validator.specs.Account.{Account, account_in}
 use Rattle.plus_validator.specs.Running.{IsOnWay, StepsOn, Reaches, Steps}
 use Rattle.plus_validator.specs.declared.run.Run.{Run}
-use Rattle.plus_validator.proofs.Steps.{part_of, way_tests, step_goes, step_most, step_less, step_played, step_clear, step_target, step_acted, step_done}
+use Rattle.plus_validator.proofs.Steps.{account_by, part_of, way_tests, step_goes, step_most, step_less, step_played, step_clear, step_target, step_acted, step_done}
 
 -- what a step says by its answer
-step_more : (N : Labels) (P : Problem) (u : Fraction) (old new : Run) (answer : Next Frac64) → IsMore answer → CanReach P u old.timeline → Advances fraction_of P u old.timeline new.timeline answer → AllPass IsFrac64 (way_tests P u old.timeline) → new.ended ≡ old.ended → new.report.bytes.items ≡ old.report.bytes.items ++ next_text fraction_of N P new.timeline answer → StepsOn N P u old new
-step_more N P u old new answer m c a x e r = record {
-  can = step_goes fraction_of P u old.timeline new.timeline answer c a;
-  less = step_less fraction_of P u old.timeline new.timeline answer c m a;
-  most = step_most fraction_of P u old.timeline new.timeline answer a;
+step_more : (N : Labels) (P : Problem) (u : Fraction) (old new : Run) (answer : Next Frac64) → IsMore answer → CanReach P u old.timeline → Advances fraction_of P u old.timeline.line new.timeline.line answer → AllPass IsFrac64 (way_tests P u old.timeline.line) → new.ended ≡ old.ended → account_in new ≡ account_next fraction_of N P new.timeline.line answer (account_in old) → Knows IsFrac64 P new.timeline → StepsOn N P u old new
+step_more N P u old new answer m c a x e r k = record {
+  can = step_goes fraction_of P u old.timeline new.timeline answer c a k;
+  less = step_less fraction_of P u old.timeline old.timeline.line new.timeline.line answer c refl m a;
+  most = step_most fraction_of P u old.timeline.line new.timeline.line answer a;
   ended = e;
   on_way = λ L instance acted h b w. (
-    h ++ part_of new.timeline answer ∷ [],
+    h ++ part_of new.timeline.line answer ∷ [],
     record {
-      played = step_played fraction_of N P L instance h u old.timeline new.timeline answer old.report.bytes.items new.report.bytes.items m b w.played
-          (step_clear fraction_of N P L instance h u old.timeline new.timeline answer old.report.bytes.items m w.played w.target_is a x) w.target_is a r;
-      target_is = step_target fraction_of P L u old.timeline new.timeline answer w.target_is a;
-      acted_is = step_acted fraction_of P u old.timeline new.timeline answer a ∙ w.acted_is;
+      played = step_played fraction_of N P L instance h u old.timeline.line new.timeline.line answer (account_in old) (account_in new) m b w.played
+          (step_clear fraction_of N P L instance h u old.timeline.line new.timeline.line answer (account_in old) m w.played w.target_is a x) w.target_is a r;
+      target_is = step_target fraction_of P L u old.timeline.line new.timeline.line answer w.target_is a;
+      acted_is = step_acted fraction_of P u old.timeline.line new.timeline.line answer a ∙ w.acted_is;
     },
   );
 }
 
-step_there : (N : Labels) (P : Problem) (u : Fraction) (old new : Run) → CanReach P u old.timeline → IsThere P u old.timeline new.timeline → AllPass IsFrac64 (way_tests P u old.timeline) → new.ended ≡ old.ended → new.report.bytes.items ≡ old.report.bytes.items ++ [] → Reaches N P u old new
-step_there N P u old new c a x e r = record {
-  can = (step_goes fraction_of P u old.timeline new.timeline There c a).goes;
+-- where nothing is left to do, nothing is told
+nothing_added : (N : Labels) (P : Problem) (t : TimelineView) (account : Account) → account_next fraction_of N P t There account ≡ account
+nothing_added N P t account = account_by (append-nil account.report) (add-zero account.entries) (add-zero account.firings)
+
+step_there : (N : Labels) (P : Problem) (u : Fraction) (old new : Run) → CanReach P u old.timeline → IsThere P u old.timeline.line new.timeline.line → AllPass IsFrac64 (way_tests P u old.timeline.line) → new.ended ≡ old.ended → account_in new ≡ account_next fraction_of N P new.timeline.line There (account_in old) → Knows IsFrac64 P new.timeline → Reaches N P u old new
+step_there N P u old new c a x e r k = record {
+  can = (step_goes fraction_of P u old.timeline new.timeline There c a k).goes;
   paused = record { there = ap (λ v. v.answer) a.is; fresh = ap (λ v. v.acted) a.is };
   moment = ap (λ v. v.now.running) a.is ∙ a.moment;
   most = ap (λ v. v.most) a.is;
   ended = e;
   reached = λ L instance acted h b w. (
     h,
-    subst (λ k. IsReached N P L instance k u h new.timeline new.report.bytes.items) w.acted_is
-        (step_done fraction_of N P L instance h u old.timeline new.timeline old.report.bytes.items new.report.bytes.items w.played w.target_is a x (r ∙ append-nil old.report.bytes.items)),
+    subst (λ i. IsReached N P L instance i u h new.timeline.line (account_in new)) w.acted_is
+        (step_done fraction_of N P L instance h u old.timeline.line new.timeline.line (account_in old) (account_in new) w.played w.target_is a x (r ∙ nothing_added N P new.timeline.line (account_in old))),
   );
 }
 
-pub step_says : (N : Labels) (P : Problem) (u : Fraction) (old new : Run) (answer : Next Frac64) → CanReach P u old.timeline → Advances fraction_of P u old.timeline new.timeline answer → AllPass IsFrac64 (way_tests P u old.timeline) → new.ended ≡ old.ended → new.report.bytes.items ≡ old.report.bytes.items ++ next_text fraction_of N P new.timeline answer → Steps N P u old new (is_there answer)
-step_says N P u old new Round c a x e r = step_more N P u old new Round a_round c a x e r
-step_says N P u old new run_answer c a x e r = step_more N P u old new run_answer a_run c a x e r
-step_says N P u old new (Entry t) c a x e r = step_more N P u old new (Entry t) (an_entry t) c a x e r
-step_says N P u old new There c a x e r = step_there N P u old new c a x e r
+pub step_says : (N : Labels) (P : Problem) (u : Fraction) (old new : Run) (answer : Next Frac64) → CanReach P u old.timeline → Advances fraction_of P u old.timeline.line new.timeline.line answer → AllPass IsFrac64 (way_tests P u old.timeline.line) → new.ended ≡ old.ended → account_in new ≡ account_next fraction_of N P new.timeline.line answer (account_in old) → Knows IsFrac64 P new.timeline → Steps N P u old new (is_there answer)
+step_says N P u old new Round c a x e r k = step_more N P u old new Round a_round c a x e r k
+step_says N P u old new run_answer c a x e r k = step_more N P u old new run_answer a_run c a x e r k
+step_says N P u old new (Entry t) c a x e r k = step_more N P u old new (Entry t) (an_entry t) c a x e r k
+step_says N P u old new There c a x e r k = step_there N P u old new c a x e r k
 
 -- ---- several steps
 
 pub record Along (N : Labels) (P : Problem) (u : Fraction) (start run : Run) : Type 0 where
   pub can : CanReach P u run.timeline
-  pub most : run.timeline.most ≡ start.timeline.most
+  pub most : run.timeline.line.most ≡ start.timeline.line.most
   pub ended : run.ended ≡ start.ended
   pub on_way :
       (L : Plan) (instance : ℕ → List Test) (acted : ℕ) (h : List Part) → HasBegun L → IsOnWay N P L instance u acted h start

@@ -103,8 +103,8 @@ not_earlier x y e = le_by_not y x (λ h.
     cc (e, f))
 
 -- a time that is not below the present one, where no end was read
-pub in_time : (run : Run) (time : Time) (at : Frac64) → fraction_of at ≡ value_of time → run.ended ≡ false → false ≡ is_below (fraction_of at) run.timeline.now.time → IsInTime run time at
-in_time run time at i e b = record { is = i; not_ended = e; ahead = not_earlier (fraction_of at) run.timeline.now.time b }
+pub in_time : (run : Run) (time : Time) (at : Frac64) → fraction_of at ≡ value_of time → run.ended ≡ false → false ≡ is_below (fraction_of at) run.timeline.line.now.time → IsInTime run time at
+in_time run time at i e b = record { is = i; not_ended = e; ahead = not_earlier (fraction_of at) run.timeline.line.now.time b }
 
 -- what the report has after an action
 pub act_reported : (old new : List ℕ) (N : Labels) (label : List ℕ) (b s b' s' : State) → Took (Some old) (Some new) (act_text N label b s) → b ≡ b' → s ≡ s' → new ≡ old ++ act_text N label b' s'

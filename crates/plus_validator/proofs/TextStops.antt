@@ -35,6 +35,7 @@ use Rattle.plus_report.specs.declared.refusals.Early.{Early}
 use Rattle.plus_report.specs.declared.refusals.Early.TheVariants as early
 use Rattle.plus_report.specs.declared.refusals.Early.TheVariants.{BadLine, LineTooLong}
 use Rattle.plus_report.specs.declared.refusals.Text.TheVariants as texts
+use Rattle.plus_validator.specs.Account.{Account, account_in}
 use Rattle.plus_validator.specs.declared.halt.Halt.{Halt}
 use Rattle.plus_validator.specs.declared.halt.Halt.TheVariants.{Refused, Memory}
 use Rattle.plus_validator.specs.declared.run.Run.{Run}
@@ -245,23 +246,23 @@ are_worked d P ls more closed most g h v a c w p s (inr n) = record {
 -- ---- what the run leaves
 
 -- the report is that of the lines read, which are worked
-waiting_report : (d : Pair) (N : Labels) (P : Problem) (ls : List Line) (most : ℕ) (h : List Part) (run : Run) → CanGoOn P run.timeline → run.timeline.most ≡ most → ReadiedFor d N P ls h run → IsReported N P (plan_of d ls false) most (instances_of d ls) h run.report.bytes.items
+waiting_report : (d : Pair) (N : Labels) (P : Problem) (ls : List Line) (most : ℕ) (h : List Part) (run : Run) → CanGoOn P run.timeline → run.timeline.line.most ≡ most → ReadiedFor d N P ls h run → IsReported N P (plan_of d ls false) most (instances_of d ls) h (account_in run)
 waiting_report d N P ls most h run c m r =
-    subst (λ k. IsReported N P (plan_of d ls false) k (instances_of d ls) h run.report.bytes.items) m
-    (reported N P (plan_of d ls false) (instances_of d ls) h run.timeline run.report.bytes.items run.report.bytes.items r.played c.within refl)
+    subst (λ k. IsReported N P (plan_of d ls false) k (instances_of d ls) h (account_in run)) m
+    (reported N P (plan_of d ls false) (instances_of d ls) h run.timeline.line (account_in run) (account_in run) r.played c.within refl)
 
-waiting_for : (d : Pair) (N : Labels) (P : Problem) (ls : List Line) (most : ℕ) (h : List Part) (run : Run) → run.timeline.most ≡ most → ReadiedFor d N P ls h run → IsWaiting P (plan_of d ls false) most (instances_of d ls) h
+waiting_for : (d : Pair) (N : Labels) (P : Problem) (ls : List Line) (most : ℕ) (h : List Part) (run : Run) → run.timeline.line.most ≡ most → ReadiedFor d N P ls h run → IsWaiting P (plan_of d ls false) most (instances_of d ls) h
 waiting_for d N P ls most h run m r =
     subst (λ k. IsWaiting P (plan_of d ls false) k (instances_of d ls) h) m (waits N P (plan_of d ls false) (instances_of d ls) h run r)
 
 module _ (d : Pair) (N : Labels) (P : Problem) (text : List ℕ) (start run : Run) (number from : ℕ) (r : ReadsTo d N P text start number from run) where
   -- the verdict on a next line that is none
-  none_next : (fault : PlanFault) (v : Verdict Frac64) (more : Bool) (piece : List ℕ) (h : List Part) → numbered Timed number (lines_of (drop from text)) ≡ Err fault ∷ numbered Timed (number + 1) (lines_of (drop (next_line text from) text)) → NamesFault fault v → Refutes d P (r.lines_read ++ []) v → ReadiedFor d N P [] h start → IsStoppedInText d N P start.timeline.most more text piece run.report.bytes.items v
+  none_next : (fault : PlanFault) (v : Verdict Frac64) (more : Bool) (piece : List ℕ) (h : List Part) → numbered Timed number (lines_of (drop from text)) ≡ Err fault ∷ numbered Timed (number + 1) (lines_of (drop (next_line text from) text)) → NamesFault fault v → Refutes d P (r.lines_read ++ []) v → ReadiedFor d N P [] h start → IsStoppedInText d N P start.timeline.line.most more text piece (account_in run) v
   none_next fault v more piece h e n f ready =
       let a = r.ready h ready in
-      let w = waiting_report d N P r.lines_read start.timeline.most a.0 run r.rests.can r.rests.most_is a.1 in
-      let k = waiting_for d N P r.lines_read start.timeline.most a.0 run r.rests.most_is a.1 in
-      let longest = waiting_longest d P r.lines_read start.timeline.most (instances_of d r.lines_read) a.0 w.prefix k in
+      let w = waiting_report d N P r.lines_read start.timeline.line.most a.0 run r.rests.can r.rests.most_is a.1 in
+      let k = waiting_for d N P r.lines_read start.timeline.line.most a.0 run r.rests.most_is a.1 in
+      let longest = waiting_longest d P r.lines_read start.timeline.line.most (instances_of d r.lines_read) a.0 w.prefix k in
       record {
         refusal = record {
           before = r.lines_read;
@@ -281,7 +282,7 @@ module _ (d : Pair) (N : Labels) (P : Problem) (text : List ℕ) (start run : Ru
         written = w.written;
       }
 
-  bad_stops : (fault : PlanFault) (more : Bool) (piece : List ℕ) (h : List Part) → IsRefusedAt Timed number text from fault → ReadiedFor d N P [] h start → StopsInText d N P start.timeline.most more text piece run.report.bytes.items (line_halt fault)
+  bad_stops : (fault : PlanFault) (more : Bool) (piece : List ℕ) (h : List Part) → IsRefusedAt Timed number text from fault → ReadiedFor d N P [] h start → StopsInText d N P start.timeline.line.most more text piece (account_in run) (line_halt fault)
   bad_stops (faults.NotLine n begin last) more piece h f ready =
       none_next (faults.NotLine n begin last) (Other (BadLine n begin last)) more piece h
       (f.said ∙ ap (λ (x : Result Line PlanFault). x ∷ numbered Timed (number + 1) (lines_of (drop (next_line text from) text))) f.read) refl tt ready
@@ -293,13 +294,13 @@ module _ (d : Pair) (N : Labels) (P : Problem) (text : List ℕ) (start run : Ru
   pub halts_at_bad_line : (fault : PlanFault) (halt : Halt) → IsRefusedAt Timed number text from fault → halt ≡ line_halt fault → HaltsInLines d N P text start run halt
   halts_at_bad_line fault halt f e = record {
     stops = λ more piece h ready.
-        subst (StopsInText d N P start.timeline.most more text piece run.report.bytes.items) (sym e) (bad_stops fault more piece h f ready);
+        subst (StopsInText d N P start.timeline.line.most more text piece (account_in run)) (sym e) (bad_stops fault more piece h f ready);
   }
 
-  line_stops : (new : Run) (x : Line × ℕ) (halt : Halt) (more : Bool) (piece : List ℕ) (g : List Part) → IsReported N P (plan_of d r.lines_read false) start.timeline.most (instances_of d r.lines_read) g run.report.bytes.items → IsWaiting P (plan_of d r.lines_read false) start.timeline.most (instances_of d r.lines_read) g → IsLineAt Timed number text from x → StopsInLine d N P r.lines_read start.timeline.most x.0 new.report.bytes.items halt → StopsInText d N P start.timeline.most more text piece new.report.bytes.items halt
+  line_stops : (new : Run) (x : Line × ℕ) (halt : Halt) (more : Bool) (piece : List ℕ) (g : List Part) → IsReported N P (plan_of d r.lines_read false) start.timeline.line.most (instances_of d r.lines_read) g (account_in run) → IsWaiting P (plan_of d r.lines_read false) start.timeline.line.most (instances_of d r.lines_read) g → IsLineAt Timed number text from x → StopsInLine d N P r.lines_read start.timeline.line.most x.0 (account_in new) halt → StopsInText d N P start.timeline.line.most more text piece (account_in new) halt
   line_stops new x Memory more piece g ready w l s = tt
   line_stops new x (Refused v) more piece g ready w l (inl b) =
-      let longest = waiting_longest d P r.lines_read start.timeline.most (instances_of d r.lines_read) b.history b.reported.prefix b.waits in
+      let longest = waiting_longest d P r.lines_read start.timeline.line.most (instances_of d r.lines_read) b.history b.reported.prefix b.waits in
       record {
         refusal = record {
           before = r.lines_read;
@@ -336,14 +337,14 @@ module _ (d : Pair) (N : Labels) (P : Problem) (text : List ℕ) (start run : Ru
             reads = refl;
             begun = b.begun;
             value = b.value;
-            worked = are_worked d P r.lines_read (x.0 ∷ []) false start.timeline.most g k.stopped.history v ready.prefix ready.clear w k.stopped.reported.prefix k.stopped.stands
+            worked = are_worked d P r.lines_read (x.0 ∷ []) false start.timeline.line.most g k.stopped.history v ready.prefix ready.clear w k.stopped.reported.prefix k.stopped.stands
                 (is_begun (lines_meant d ls));
             stands = k.stopped.stands;
             names = k.names;
           });
-          furthest = λ other p c. begins_by P (plan_of d ls false) start.timeline.most (instances_of d ls) other k.stopped.history v p c k.stopped.reported.prefix k.stopped.stands;
-          longest = stands_longest P (plan_of d ls false) start.timeline.most (instances_of d ls) k.stopped.history v k.stopped.stands;
-          final = stands_refutes d P ls start.timeline.most (instances_of d ls) k.stopped.history v k.stopped.stands;
+          furthest = λ other p c. begins_by P (plan_of d ls false) start.timeline.line.most (instances_of d ls) other k.stopped.history v p c k.stopped.reported.prefix k.stopped.stands;
+          longest = stands_longest P (plan_of d ls false) start.timeline.line.most (instances_of d ls) k.stopped.history v k.stopped.stands;
+          final = stands_refutes d P ls start.timeline.line.most (instances_of d ls) k.stopped.history v k.stopped.stands;
         };
         written = k.stopped.reported.written;
       }
@@ -352,9 +353,9 @@ module _ (d : Pair) (N : Labels) (P : Problem) (text : List ℕ) (start run : Ru
   halts_in new x halt l s = record {
     stops = λ more piece h ready.
         let a = r.ready h ready in
-        line_stops new x halt more piece a.0 (waiting_report d N P r.lines_read start.timeline.most a.0 run r.rests.can r.rests.most_is a.1)
-        (waiting_for d N P r.lines_read start.timeline.most a.0 run r.rests.most_is a.1) l
-        (subst (λ m. StopsInLine d N P r.lines_read m x.0 new.report.bytes.items halt) r.rests.most_is (s.stops r.lines_read a.0 a.1));
+        line_stops new x halt more piece a.0 (waiting_report d N P r.lines_read start.timeline.line.most a.0 run r.rests.can r.rests.most_is a.1)
+        (waiting_for d N P r.lines_read start.timeline.line.most a.0 run r.rests.most_is a.1) l
+        (subst (λ m. StopsInLine d N P r.lines_read m x.0 (account_in new) halt) r.rests.most_is (s.stops r.lines_read a.0 a.1));
   }
 
   pub halts_at_line : (new : Run) (o : Option (Line × ℕ)) (read : Line) (next : ℕ) (halt : Halt) → o ≡ Some (read, next) → IfSome o (IsLineAt Timed number text from) → HaltsInLine d N P read run new halt → HaltsInLines d N P text start new halt
@@ -363,15 +364,15 @@ module _ (d : Pair) (N : Labels) (P : Problem) (text : List ℕ) (start run : Ru
 -- ---- all lines are worked
 
 module _ (d : Pair) (N : Labels) (P : Problem) (text : List ℕ) (old mid : Run) (number : ℕ) (r : ReadsAll d N P text old mid number) where
-  end_worked : (g h : List Part) (v : Verdict Frac64) → IsReported N P (plan_of d r.lines false) old.timeline.most (instances_of d r.lines) g mid.report.bytes.items → IsWaiting P (plan_of d r.lines false) old.timeline.most (instances_of d r.lines) g → Prefix P (plan_of d r.lines true) h → Stands P (plan_of d r.lines true) old.timeline.most (instances_of d r.lines) h v → AreWorked d P old.timeline.most r.lines h
+  end_worked : (g h : List Part) (v : Verdict Frac64) → IsReported N P (plan_of d r.lines false) old.timeline.line.most (instances_of d r.lines) g (account_in mid) → IsWaiting P (plan_of d r.lines false) old.timeline.line.most (instances_of d r.lines) g → Prefix P (plan_of d r.lines true) h → Stands P (plan_of d r.lines true) old.timeline.line.most (instances_of d r.lines) h v → AreWorked d P old.timeline.line.most r.lines h
   end_worked g h v a w p s =
-      are_worked d P r.lines [] true old.timeline.most g h v a.prefix a.clear w
+      are_worked d P r.lines [] true old.timeline.line.most g h v a.prefix a.clear w
       (subst (λ (ls : List Line). Prefix P (plan_of d ls true) h) (sym (append-nil r.lines)) p)
-      (subst (λ (ls : List Line). Stands P (plan_of d ls true) old.timeline.most (instances_of d ls) h v) (sym (append-nil r.lines)) s) (inl (inr refl))
+      (subst (λ (ls : List Line). Stands P (plan_of d ls true) old.timeline.line.most (instances_of d ls) h v) (sym (append-nil r.lines)) s) (inl (inr refl))
 
-  end_stops : (report : List ℕ) (halt : Halt) (g : List Part) → IsReported N P (plan_of d r.lines false) old.timeline.most (instances_of d r.lines) g mid.report.bytes.items → IsWaiting P (plan_of d r.lines false) old.timeline.most (instances_of d r.lines) g → StopsOnWay N P (plan_of d r.lines true) old.timeline.most (instances_of d r.lines) report halt → StopsInText d N P old.timeline.most false text [] report halt
-  end_stops report Memory g ready w s = tt
-  end_stops report (Refused v) g ready w s = record {
+  end_stops : (account : Account) (halt : Halt) (g : List Part) → IsReported N P (plan_of d r.lines false) old.timeline.line.most (instances_of d r.lines) g (account_in mid) → IsWaiting P (plan_of d r.lines false) old.timeline.line.most (instances_of d r.lines) g → StopsOnWay N P (plan_of d r.lines true) old.timeline.line.most (instances_of d r.lines) account halt → StopsInText d N P old.timeline.line.most false text [] account halt
+  end_stops account Memory g ready w s = tt
+  end_stops account (Refused v) g ready w s = record {
     refusal = record {
       before = r.lines;
       rest = [];
@@ -383,9 +384,9 @@ module _ (d : Pair) (N : Labels) (P : Problem) (text : List ℕ) (old mid : Run)
       few = s.stopped.reported.few;
       clear = s.stopped.reported.clear;
       cause = record { reads = refl; worked = end_worked g s.stopped.history v ready w s.stopped.reported.prefix s.stopped.stands; stands = s.stopped.stands; names = s.names };
-      furthest = λ other p c. begins_by P (plan_of d r.lines true) old.timeline.most (instances_of d r.lines) other s.stopped.history v p c s.stopped.reported.prefix s.stopped.stands;
-      longest = stands_longest P (plan_of d r.lines true) old.timeline.most (instances_of d r.lines) s.stopped.history v s.stopped.stands;
-      final = subst (λ (ls : List Line). Refutes d P ls v) (sym (append-nil r.lines)) (end_refutes d P r.lines old.timeline.most (instances_of d r.lines) s.stopped.history v s.stopped.stands);
+      furthest = λ other p c. begins_by P (plan_of d r.lines true) old.timeline.line.most (instances_of d r.lines) other s.stopped.history v p c s.stopped.reported.prefix s.stopped.stands;
+      longest = stands_longest P (plan_of d r.lines true) old.timeline.line.most (instances_of d r.lines) s.stopped.history v s.stopped.stands;
+      final = subst (λ (ls : List Line). Refutes d P ls v) (sym (append-nil r.lines)) (end_refutes d P r.lines old.timeline.line.most (instances_of d r.lines) s.stopped.history v s.stopped.stands);
     };
     written = s.stopped.reported.written;
   }
@@ -395,9 +396,9 @@ module _ (d : Pair) (N : Labels) (P : Problem) (text : List ℕ) (old mid : Run)
   halts_after_all new halt s = record {
     stops = λ h ready.
         let a = r.ready h ready in
-        end_stops new.report.bytes.items halt a.0 (waiting_report d N P r.lines old.timeline.most a.0 mid r.rests.can r.rests.most_is a.1)
-        (waiting_for d N P r.lines old.timeline.most a.0 mid r.rests.most_is a.1)
-        (subst (λ m. StopsOnWay N P (plan_of d r.lines true) m (instances_of d r.lines) new.report.bytes.items halt) r.rests.most_is (s.stops (plan_of d r.lines false) (instances_of d r.lines) a.0 a.1));
+        end_stops (account_in new) halt a.0 (waiting_report d N P r.lines old.timeline.line.most a.0 mid r.rests.can r.rests.most_is a.1)
+        (waiting_for d N P r.lines old.timeline.line.most a.0 mid r.rests.most_is a.1)
+        (subst (λ m. StopsOnWay N P (plan_of d r.lines true) m (instances_of d r.lines) (account_in new) halt) r.rests.most_is (s.stops (plan_of d r.lines false) (instances_of d r.lines) a.0 a.1));
   }
 
   -- the text goes on
@@ -405,10 +406,10 @@ module _ (d : Pair) (N : Labels) (P : Problem) (text : List ℕ) (old mid : Run)
   halts_at_cut piece halt e = record {
     stops = λ h ready.
         let a = r.ready h ready in
-        let w = waiting_report d N P r.lines old.timeline.most a.0 mid r.rests.can r.rests.most_is a.1 in
-        let k = waiting_for d N P r.lines old.timeline.most a.0 mid r.rests.most_is a.1 in
-        let longest = waiting_longest d P r.lines old.timeline.most (instances_of d r.lines) a.0 w.prefix k in
-        subst (StopsInText d N P old.timeline.most true text piece mid.report.bytes.items) (sym e) (record {
+        let w = waiting_report d N P r.lines old.timeline.line.most a.0 mid r.rests.can r.rests.most_is a.1 in
+        let k = waiting_for d N P r.lines old.timeline.line.most a.0 mid r.rests.most_is a.1 in
+        let longest = waiting_longest d P r.lines old.timeline.line.most (instances_of d r.lines) a.0 w.prefix k in
+        subst (StopsInText d N P old.timeline.line.most true text piece (account_in mid)) (sym e) (record {
           refusal = record {
             before = r.lines;
             rest = [];

@@ -20,6 +20,7 @@ use Rattle.plus_plan.specs.TimeValue.{value_of}
 use Rattle.plus_report.specs.declared.verdicts.Verdict.TheVariants.{Invalid, Other}
 use Rattle.plus_report.specs.declared.refusals.Early.TheVariants.{Literal}
 use Rattle.plus_report.specs.declared.refusals.Text.TheVariants as texts
+use Rattle.plus_validator.specs.Account.{account_in}
 use Rattle.plus_validator.specs.declared.halt.Halt.{Halt}
 use Rattle.plus_validator.specs.declared.halt.Halt.TheVariants.{Refused}
 use Rattle.plus_validator.specs.declared.run.Run.{Run}
@@ -31,12 +32,12 @@ use Rattle.plus_stretch.specs.Tests.{AllPass, Test}
 use Rattle.plus_validator.proofs.Steps.{asked_is}
 
 -- what is ready for a line waits for it
-pub waits : (N : Labels) (P : Problem) (L : Plan) (instance : ℕ → List Test) (h : List Part) (run : Run) → Readied N P L instance h run → IsWaiting P L run.timeline.most instance h
+pub waits : (N : Labels) (P : Problem) (L : Plan) (instance : ℕ → List Test) (h : List Part) (run : Run) → Readied N P L instance h run → IsWaiting P L run.timeline.line.most instance h
 waits N P L instance h run r = elim r.worked [
   | inl e ↦ inl e
   | inr w ↦ inr (record {
     worked = subst (IsWorked P L) r.played.now w.worked;
-    passed = subst (AllPass IsFrac64) (asked_is N P L instance h run.timeline run.report.bytes.items r.played) w.passed;
+    passed = subst (AllPass IsFrac64) (asked_is N P L instance h run.timeline.line (account_in run) r.played) w.passed;
   })
 ]
 
@@ -66,13 +67,13 @@ no_end lines before time t (inr a) e =
     let k : ActLine time a.1 ≡ EndLine t = two_lasts a.0 before (ActLine time a.1) (EndLine t) (sym a.2 ∙ e) in
     cc k
 
-ends_by : (N : Labels) (P : Problem) (L : Plan) (instance : ℕ → List Test) (h : List Part) (run : Run) → run.ended ≡ false → Readied N P L instance h run → EndsBy L.lines false run.timeline.now.time
-ends_by N P L instance h run e r = subst (λ b. EndsBy L.lines b run.timeline.now.time) e r.last
+ends_by : (N : Labels) (P : Problem) (L : Plan) (instance : ℕ → List Test) (h : List Part) (run : Run) → run.ended ≡ false → Readied N P L instance h run → EndsBy L.lines false run.timeline.line.now.time
+ends_by N P L instance h run e r = subst (λ b. EndsBy L.lines b run.timeline.line.now.time) e r.last
 
 no_break_by_end : (N : Labels) (P : Problem) (L : Plan) (instance : ℕ → List Test) (h : List Part) (run : Run) (meant : model.Line) → run.ended ≡ false → Readied N P L instance h run → BreaksBy P L h meant AfterEnd → ⊥
 no_break_by_end N P L instance h run meant e r k =
     let b = k.breach in
-    no_end L.lines b.0 run.timeline.now.time b.1 (ends_by N P L instance h run e r) b.2.lines
+    no_end L.lines b.0 run.timeline.line.now.time b.1 (ends_by N P L instance h run e r) b.2.lines
 
 -- times are at 0 or later
 at_zero_or_later : (top bottom : ℕ) → 0 < bottom → whole (pos 0) ≤ℚ over (pos top) bottom
@@ -83,16 +84,16 @@ at_zero_or_later top bottom k = le_by (Is-over (pos 0) 1 (omega arith)) (Is-over
 pub halts_after_end : (run : Run) (n : ℕ) (time : Time) (halt : Halt) → run.ended ≡ true → halt ≡ Refused (Invalid (breaches.AfterEnd n)) → HaltsAtMoment n time run halt
 halts_after_end run n time halt e k = record {
   refused = λ N P L instance h meant r t.
-      let last = subst (λ b. EndsBy L.lines b run.timeline.now.time) e r.last in
+      let last = subst (λ b. EndsBy L.lines b run.timeline.line.now.time) e r.last in
       subst (TimeHalts P L h n meant time) (sym k)
       (after_end
       (record {
         prefix = r.played.prefix;
         breach = (
           last.0,
-          run.timeline.now.time,
+          run.timeline.line.now.time,
           record {
-            worked = worked_after N P L instance h run last.0 (EndLine run.timeline.now.time) r last.1;
+            worked = worked_after N P L instance h run last.0 (EndLine run.timeline.line.now.time) r last.1;
             open_yet = r.not_closed;
             lines = last.1;
           },
@@ -107,31 +108,31 @@ halts_without_value run n time halt e f k = record {
       subst (TimeHalts P L h n meant time) (sym k) (no_value (no_break_by_end N P L instance h run meant e r) f refl);
 }
 
-goes_back_by : (N : Labels) (P : Problem) (L : Plan) (instance : ℕ → List Test) (h : List Part) (run : Run) (meant : model.Line) (time : Time) → 0 < time.bottom → EndsBy L.lines false run.timeline.now.time → Readied N P L instance h run → model.time_of meant ≡ value_of time → value_of time <ℚ run.timeline.now.time → BreaksBy P L h meant TimeGoesBack
+goes_back_by : (N : Labels) (P : Problem) (L : Plan) (instance : ℕ → List Test) (h : List Part) (run : Run) (meant : model.Line) (time : Time) → 0 < time.bottom → EndsBy L.lines false run.timeline.line.now.time → Readied N P L instance h run → model.time_of meant ≡ value_of time → value_of time <ℚ run.timeline.line.now.time → BreaksBy P L h meant TimeGoesBack
 goes_back_by N P L instance h run meant time k (inl n) r t l =
     absurd (not_below (value_of time) (whole (pos 0)) (subst (λ x. value_of time <ℚ x) n.1 l) (at_zero_or_later time.top time.bottom k))
 goes_back_by N P L instance h run meant time k (inr a) r t l = record {
   prefix = r.played.prefix;
   breach = (
     a.0,
-    run.timeline.now.time,
+    run.timeline.line.now.time,
     a.1,
     record {
-      worked = worked_after N P L instance h run a.0 (ActLine run.timeline.now.time a.1) r a.2;
+      worked = worked_after N P L instance h run a.0 (ActLine run.timeline.line.now.time a.1) r a.2;
       open_yet = r.not_closed;
       lines = a.2;
     },
-    subst (λ x. x <ℚ run.timeline.now.time) (sym t) l,
+    subst (λ x. x <ℚ run.timeline.line.now.time) (sym t) l,
   );
 }
 
-pub halts_going_back : (run : Run) (n : ℕ) (time : Time) (at : Frac64) (halt : Halt) → 0 < time.bottom → run.ended ≡ false → fraction_of at ≡ value_of time → is_below (fraction_of at) run.timeline.now.time ≡ true → halt ≡ Refused (Invalid (breaches.TimeGoesBack n)) → HaltsAtMoment n time run halt
+pub halts_going_back : (run : Run) (n : ℕ) (time : Time) (at : Frac64) (halt : Halt) → 0 < time.bottom → run.ended ≡ false → fraction_of at ≡ value_of time → is_below (fraction_of at) run.timeline.line.now.time ≡ true → halt ≡ Refused (Invalid (breaches.TimeGoesBack n)) → HaltsAtMoment n time run halt
 halts_going_back run n time at halt b e i l k = record {
   refused = λ N P L instance h meant r t.
       subst (TimeHalts P L h n meant time) (sym k)
       (goes_back
       (goes_back_by N P L instance h run meant time b (ends_by N P L instance h run e r) r t
-      (subst (λ x. x <ℚ run.timeline.now.time) i (from_below (fraction_of at) run.timeline.now.time l)))
+      (subst (λ x. x <ℚ run.timeline.line.now.time) i (from_below (fraction_of at) run.timeline.line.now.time l)))
       (subst IsFrac64 i (at.top_fits, at.bottom_fits))
       refl);
 }

@@ -1,6 +1,6 @@
 -- What is asked of a plan at a history of it, in order, by the lines of its text: the tests of the timeline, and before an
 -- action is done the limits of its instance.
-use Rattle.std.specs.Prelude.{◌≡◌, ℕ, suc, Bool, not, ◌&&◌, List, [], ◌∷◌, ◌++◌, Option, Some, None, slice_get, nat_lt, unsigned_abs, if◌then◌else◌}
+use Rattle.std.specs.Prelude.{◌≡◌, ℕ, suc, ◌+◌, Bool, not, ◌&&◌, List, [], ◌∷◌, ◌++◌, length, Option, Some, None, slice_get, nat_lt, unsigned_abs, if◌then◌else◌}
 use Rattle.plus_fraction.specs.Fraction.{Fraction}
 use Rattle.plus_model.specs.Terms.{Problem}
 use Rattle.plus_model.specs.Plan.{Called, Instance, Plan}
@@ -27,6 +27,14 @@ entries_of (Enter t a s ∷ h) = suc (entries_of h)
 entries_of (Round events s ∷ h) = entries_of h
 entries_of (Act i s ∷ h) = entries_of h
 entries_of (Run running ∷ h) = entries_of h
+
+-- how many events fire in a history
+abbrev pub firings_of : List Part → ℕ
+firings_of [] = 0
+firings_of (Enter t a s ∷ h) = firings_of h
+firings_of (Round events s ∷ h) = length events + firings_of h
+firings_of (Act i s ∷ h) = firings_of h
+firings_of (Run running ∷ h) = firings_of h
 
 -- ---- the instance of an action
 

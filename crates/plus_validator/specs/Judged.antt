@@ -7,11 +7,12 @@ use Rattle.plus_report.specs.declared.verdicts.Verdict.{Verdict}
 use Rattle.plus_report.specs.declared.verdicts.Verdict.TheVariants.{Valid}
 use Rattle.plus_validator.specs.declared.halt.Halt.{Halt}
 use Rattle.plus_validator.specs.declared.halt.Halt.TheVariants.{Refused, Memory}
-use Rattle.plus_validator.specs.declared.judge.Judgement.{Judgement}
+use Rattle.plus_validator.specs.declared.judgement.Judgement.{Judgement}
 use Rattle.plus_validator.specs.declared.judge.Outcome.{Outcome}
 use Rattle.plus_validator.specs.declared.judge.Outcome.TheVariants as outcomes
 use Rattle.plus_validator.specs.Accepted.{IsAccepted}
 use Rattle.plus_validator.specs.Refused.{IsRefused}
+use Rattle.plus_validator.specs.Verdicts.{JudgesWhole}
 
 -- what was played gives this verdict
 abbrev pub GivesVerdict : Result (Unit {0}) Halt → Verdict Frac64 → Type 0
@@ -34,8 +35,9 @@ IsPlain outcomes.ReadFault = ⊥
 IsPlain outcomes.WriteFault = ⊥
 IsPlain outcomes.NoMemory = ⊥
 
--- the outcome is so, and the bytes are the report and the verdict's line
+-- the outcome is so, the bytes are the report and the verdict's line, and the verdict and the counts are so
 pub record IsJudged (d : Domain) (p : Problem) (most : ℕ) (text : List ℕ) (goes_on : Bool) (j : Judgement) : Type 0 where
   pub valid : j.outcome ≡ outcomes.Valid → AcceptsWhole d p most text goes_on j.bytes.items
   pub refused : j.outcome ≢ outcomes.Valid → IsRefused d p most text goes_on j.outcome j.bytes.items
   pub plain : IsPlain j.outcome
+  pub judged : JudgesWhole d p most text goes_on j.judged

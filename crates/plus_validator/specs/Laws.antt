@@ -1,7 +1,9 @@
 -- What a reader of an answer may rely on, over the definitions alone.
-use Rattle.std.specs.Prelude.{◌≡◌, ℕ, ◌≤◌, Bool, true, false, List, length, map, All, Ok}
+use Rattle.std.specs.Prelude.{◌≡◌, ℕ, ◌+◌, ◌≤◌, Bool, true, false, List, ◌++◌, length, map, All, Ok}
 use Rattle.plus_model.specs.Terms as terms
-use Rattle.plus_model.specs.Plan.{IsInOrder}
+use Rattle.plus_model.specs.Plan.{Plan, IsInOrder}
+use Rattle.plus_model.specs.History.{Part}
+use Rattle.plus_state.specs.View.{Labels}
 use Rattle.plus_tree.specs.declared.trees.Domain.{Domain}
 use Rattle.plus_tree.specs.declared.trees.Problem.{Problem}
 use Rattle.plus_plan.specs.declared.forms.Line.{Line}
@@ -9,13 +11,17 @@ use Rattle.plus_plan.specs.declared.forms.PlanForm.TheVariants.{Timed}
 use Rattle.plus_plan.specs.Lines.{plan_lines}
 use Rattle.plus_validator.specs.declared.judge.Outcome.{Outcome}
 use Rattle.plus_validator.specs.declared.judge.Outcome.TheVariants.{Valid, Invalid}
+use Rattle.plus_validator.specs.declared.judge.Judged.{Judged}
 use Rattle.plus_validator.specs.Accepted.{IsAccepted}
-use Rattle.plus_validator.specs.Asking.{instances_of}
+use Rattle.plus_report.specs.Report.{report_of}
+use Rattle.plus_validator.specs.Asking.{entries_of, firings_of, instances_of}
 use Rattle.plus_validator.specs.Limits.{text_limit}
+use Rattle.plus_validator.specs.Outcomes.{outcome_of}
 use Rattle.plus_validator.specs.Plans.{Pair, lines_meant, plan_of, HasValue}
 use Rattle.plus_validator.specs.Refused.{IsRefused}
 use Rattle.plus_validator.specs.Tame.{StaysInside, IsTame, IsTameText, HasTrajectory}
 use Rattle.plus_validator.specs.Validates.{IsUngrounded, IsWhole}
+use Rattle.plus_validator.specs.Verdicts.{JudgesText, SameJudgement, IsAnswered}
 
 -- a plan for the pair, accepted or refused
 pub data IsJudgedFor (d : Domain) (p : Problem) : Type 0 where
@@ -37,6 +43,29 @@ OneAnswer =
 -- a pair that is not grounded is refused with one line
 abbrev pub OneLine : Type 0
 OneLine = (d : Domain) (p : Problem) (line other : List ℕ) → IsUngrounded d p line → IsUngrounded d p other → line ≡ other
+
+-- a plan text has one judgement
+abbrev pub OneJudgement : Type 0
+OneJudgement =
+    (d : Domain) (p : Problem) (most : ℕ) (bytes : List ℕ) (one other : Judged)
+    → JudgesText d p most bytes one → JudgesText d p most bytes other → SameJudgement one other
+
+-- a judgement is what the check may say: a report, and then the verdict's line
+abbrev pub JudgedAsChecked : Type 0
+JudgedAsChecked =
+    (d : Domain) (p : Problem) (most : ℕ) (bytes : List ℕ) (j : Judged)
+    → JudgesText d p most bytes j → (report : List ℕ) × IsAnswered d p most bytes (outcome_of j.verdict) (report ++ j.line.items)
+
+-- and all that the check may say is so
+abbrev pub CheckedAsJudged : Type 0
+CheckedAsJudged =
+    (d : Domain) (p : Problem) (most : ℕ) (bytes : List ℕ) (j : Judged) (outcome : Outcome) (written : List ℕ)
+    → JudgesText d p most bytes j → IsAnswered d p most bytes outcome written
+    → (outcome ≡ outcome_of j.verdict) × (report : List ℕ) × (written ≡ report ++ j.line.items)
+
+-- a history has no more moments and events than its report has bytes, so that they can be counted while it is in memory
+abbrev pub CountsFit : Type 0
+CountsFit = (N : Labels) (P : terms.Problem) (L : Plan) (h : List Part) → entries_of h + firings_of h ≤ length (report_of N P L h)
 
 -- ---- a plan that stays inside the limits
 

@@ -1,6 +1,7 @@
 pub mod Plans
 pub mod Limits
 pub mod Asking
+pub mod Account
 pub mod Fires
 pub mod Accepted
 pub mod Standing
@@ -12,6 +13,6 @@ pub mod Refused
 pub mod Stopped
 pub mod Judged
 pub mod Validates
-pub mod Made
+pub mod Verdicts
 pub mod Tame
 pub mod Laws

@@ -18,12 +18,12 @@ use Rattle.plus_plan.specs.declared.forms.PlanForm.TheVariants.{Timed}
 use Rattle.plus_plan.specs.TimeValue.{value_of}
 use Rattle.plus_plan.specs.Lines.{plan_lines}
 use Rattle.plus_expansion.specs.Expansion.{expanded, labels_meant}
-use Rattle.plus_report.specs.Report.{report_of}
 use Rattle.plus_stretch.specs.Tests.{Test}
 use Rattle.plus_tree.specs.declared.trees.Call.{Call}
 use Rattle.plus_validator.specs.Asking.{entries_of, call_tests, instances_of, NoneFails, IsClear}
 use Rattle.plus_validator.specs.Plans.{Pair, plan_of, HasValue}
 use Rattle.plus_expansion.specs.Calls.{called_of}
+use Rattle.plus_validator.specs.Account.{Account, account_of, account_in}
 use Rattle.plus_validator.specs.Standing.{IsPlayed, CanGoOn, IsReady, IsReached}
 use Rattle.plus_validator.specs.declared.run.Run.{Run}
 
@@ -36,25 +36,25 @@ pub record IsGroundOf {E : Ghosts Frac64} (d : Domain) (p : tree.Problem) (g : G
 pub record IsInTime (run : Run) (time : Time) (at : Frac64) : Type 0 where
   pub is : fraction_of at ≡ value_of time
   pub not_ended : run.ended ≡ false
-  pub ahead : run.timeline.now.time ≤ℚ fraction_of at
+  pub ahead : run.timeline.line.now.time ≤ℚ fraction_of at
 
 -- the action that is called is done; what is asked of its instance passes
 pub record ActsOnce (d : Pair) (N : Labels) (P : Problem) (call : Call) (old new : Run) : Type 0 where
   pub can : CanGoOn P new.timeline
-  pub moment : new.timeline.now.running ≡ None
-  pub most : new.timeline.most ≡ old.timeline.most
+  pub moment : new.timeline.line.now.running ≡ None
+  pub most : new.timeline.line.most ≡ old.timeline.line.most
   pub ended : new.ended ≡ old.ended
-  pub time : new.timeline.now.time ≡ old.timeline.now.time
-  pub acted_is : new.timeline.now.acted ≡ suc old.timeline.now.acted
+  pub time : new.timeline.line.now.time ≡ old.timeline.line.now.time
+  pub acted_is : new.timeline.line.now.acted ≡ suc old.timeline.line.now.acted
   pub acted :
-      (L : Plan) (instance : ℕ → List Test) (h : List Part) → HasBegun L → instance old.timeline.now.acted ≡ call_tests d call
-      → IsReached N P L instance old.timeline.now.acted old.timeline.now.time h old.timeline old.report.bytes.items
-      → next_line L old.timeline.now ≡ Some (ActLine old.timeline.now.time (called_of d.domain d.problem call.name call.args))
-      → (h' : List Part) × IsPlayed N P L instance h' new.timeline new.report.bytes.items
+      (L : Plan) (instance : ℕ → List Test) (h : List Part) → HasBegun L → instance old.timeline.line.now.acted ≡ call_tests d call
+      → IsReached N P L instance old.timeline.line.now.acted old.timeline.line.now.time h old.timeline.line (account_in old)
+      → next_line L old.timeline.line.now ≡ Some (ActLine old.timeline.line.now.time (called_of d.domain d.problem call.name call.args))
+      → (h' : List Part) × IsPlayed N P L instance h' new.timeline.line (account_in new)
 
 -- the run stands ready for the next line of this plan
 abbrev pub Readied : Labels → Problem → Plan → (ℕ → List Test) → List Part → Run → Type 0
-Readied N P L instance h run = IsReady N P L instance run.ended h run.timeline run.report.bytes.items
+Readied N P L instance h run = IsReady N P L instance run.ended h run.timeline.line (account_in run)
 
 -- it does so for the line behind these lines of the text
 abbrev pub ReadiedFor : Pair → Labels → Problem → List Line → List Part → Run → Type 0
@@ -63,12 +63,12 @@ ReadiedFor d N P ls h run = Readied N P (plan_of d ls false) (instances_of d ls)
 -- the run may play on: it stands at a moment
 pub record IsResting (P : Problem) (most : ℕ) (run : Run) : Type 0 where
   pub can : CanGoOn P run.timeline
-  pub moment : run.timeline.now.running ≡ None
-  pub most_is : run.timeline.most ≡ most
+  pub moment : run.timeline.line.now.running ≡ None
+  pub most_is : run.timeline.line.most ≡ most
 
 -- a line of the text is played
 pub record PlaysLine (d : Pair) (N : Labels) (P : Problem) (line : Line) (old new : Run) : Type 0 where
-  pub rests : IsResting P old.timeline.most new
+  pub rests : IsResting P old.timeline.line.most new
   pub value : HasValue line
   pub ready :
       (ls : List Line) (h : List Part) → ReadiedFor d N P ls h old
@@ -76,7 +76,7 @@ pub record PlaysLine (d : Pair) (N : Labels) (P : Problem) (line : Line) (old ne
 
 -- the lines of a text are played, and the next would have this number
 pub record ReadsAll (d : Pair) (N : Labels) (P : Problem) (text : List ℕ) (old new : Run) (number : ℕ) : Type 0 where
-  pub rests : IsResting P old.timeline.most new
+  pub rests : IsResting P old.timeline.line.most new
   pub lines : List Line
   pub number_is : number ≡ length lines + 1
   pub read : plan_lines Timed text ≡ map Ok lines
@@ -88,17 +88,17 @@ abbrev pub closed : Plan → Plan
 closed L = record { lines = L.lines; closed = true }
 
 -- what happens has ended, the goal holds, and all that is asked passes
-pub record Ends (N : Labels) (P : Problem) (L : Plan) (most : ℕ) (instance : ℕ → List Test) (h : List Part) (report : List ℕ) : Type 0 where
+pub record Ends (N : Labels) (P : Problem) (L : Plan) (most : ℕ) (instance : ℕ → List Test) (h : List Part) (account : Account) : Type 0 where
   pub happens : Trajectory P L h
   pub few : entries_of h ≤ most
   pub clear : IsClear P L most instance h
   pub passed : NoneFails P L most instance h
-  pub written : report ≡ report_of N P L h
+  pub written : account ≡ account_of N P L h
 
 pub record Closes (N : Labels) (P : Problem) (old new : Run) : Type 0 where
   pub ends :
       (L : Plan) (instance : ℕ → List Test) (h : List Part) → Readied N P L instance h old
-      → (h' : List Part) × Ends N P (closed L) old.timeline.most instance h' new.report.bytes.items
+      → (h' : List Part) × Ends N P (closed L) old.timeline.line.most instance h' (account_in new)
 
 -- a run is begun: it is ready for the first line of a text
 pub record Begins (N : Labels) (P : Problem) (most : ℕ) (run : Run) : Type 0 where
@@ -114,7 +114,7 @@ pub record PlaysAll (d : Pair) (N : Labels) (P : Problem) (text : List ℕ) (old
   pub times : All HasValue lines
   pub ends :
       (h : List Part) → ReadiedFor d N P [] h old
-      → (h' : List Part) × Ends N P (plan_of d lines true) old.timeline.most (instances_of d lines) h' new.report.bytes.items
+      → (h' : List Part) × Ends N P (plan_of d lines true) old.timeline.line.most (instances_of d lines) h' (account_in new)
 
 -- the same of a text that is not cut off
 pub record PlaysWhole (d : Pair) (N : Labels) (P : Problem) (text : List ℕ) (goes_on : Bool) (old new : Run) : Type 0 where

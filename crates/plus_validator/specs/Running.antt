@@ -8,20 +8,21 @@ use Rattle.plus_model.specs.Trajectory.{HasBegun, target}
 use Rattle.plus_state.specs.View.{Labels}
 use Rattle.plus_stretch.specs.Tests.{Test}
 use Rattle.plus_timeline.specs.Finish.{IsPaused}
+use Rattle.plus_validator.specs.Account.{account_in}
 use Rattle.plus_validator.specs.Standing.{IsPlayed, CanGoOn, CanReach, IsReached, steps_left}
 use Rattle.plus_validator.specs.declared.run.Run.{Run}
 
 -- the run is on its way to the time u, by a history of the plan
 pub record IsOnWay (N : Labels) (P : Problem) (L : Plan) (instance : ℕ → List Test) (u : Fraction) (acted : ℕ) (h : List Part) (run : Run) : Type 0 where
-  pub played : IsPlayed N P L instance h run.timeline run.report.bytes.items
-  pub target_is : target L run.timeline.now ≡ u
-  pub acted_is : run.timeline.now.acted ≡ acted
+  pub played : IsPlayed N P L instance h run.timeline.line (account_in run)
+  pub target_is : target L run.timeline.line.now ≡ u
+  pub acted_is : run.timeline.line.now.acted ≡ acted
 
 -- one more step, after which the run is on its way still
 pub record StepsOn (N : Labels) (P : Problem) (u : Fraction) (old new : Run) : Type 0 where
   pub can : CanReach P u new.timeline
-  pub less : steps_left new.timeline < steps_left old.timeline
-  pub most : new.timeline.most ≡ old.timeline.most
+  pub less : steps_left new.timeline.line < steps_left old.timeline.line
+  pub most : new.timeline.line.most ≡ old.timeline.line.most
   pub ended : new.ended ≡ old.ended
   pub on_way :
       (L : Plan) (instance : ℕ → List Test) (acted : ℕ) (h : List Part) → HasBegun L → IsOnWay N P L instance u acted h old
@@ -30,13 +31,13 @@ pub record StepsOn (N : Labels) (P : Problem) (u : Fraction) (old new : Run) : T
 -- the time is reached, and nothing is due there
 pub record Reaches (N : Labels) (P : Problem) (u : Fraction) (old new : Run) : Type 0 where
   pub can : CanGoOn P new.timeline
-  pub paused : IsPaused new.timeline
-  pub moment : new.timeline.now.running ≡ None
-  pub most : new.timeline.most ≡ old.timeline.most
+  pub paused : IsPaused new.timeline.line
+  pub moment : new.timeline.line.now.running ≡ None
+  pub most : new.timeline.line.most ≡ old.timeline.line.most
   pub ended : new.ended ≡ old.ended
   pub reached :
       (L : Plan) (instance : ℕ → List Test) (acted : ℕ) (h : List Part) → HasBegun L → IsOnWay N P L instance u acted h old
-      → (h' : List Part) × IsReached N P L instance acted u h' new.timeline new.report.bytes.items
+      → (h' : List Part) × IsReached N P L instance acted u h' new.timeline.line (account_in new)
 
 abbrev pub Steps : Labels → Problem → Fraction → Run → Run → Bool → Type 0
 Steps N P u old new true = Reaches N P u old new

@@ -12,7 +12,7 @@ use Rattle.plus_plan.specs.declared.forms.Time.{Time}
 use Rattle.plus_plan.specs.declared.forms.Line.{Line}
 use Rattle.plus_plan.specs.TimeValue.{value_of}
 use Rattle.plus_report.specs.declared.verdicts.Verdict.{Verdict}
-use Rattle.plus_report.specs.Report.{called_label, report_of}
+use Rattle.plus_report.specs.Report.{called_label}
 use Rattle.plus_validator.specs.declared.halt.Halt.{Halt}
 use Rattle.plus_validator.specs.declared.halt.Halt.TheVariants.{Refused, Memory}
 use Rattle.plus_validator.specs.declared.run.Run.{Run}
@@ -21,64 +21,65 @@ use Rattle.plus_validator.specs.Asking.{entries_of, call_tests, instances_of, Is
 use Rattle.plus_validator.specs.Plans.{Pair, line_meant, plan_of, plan_in, HasTime, HasValue}
 use Rattle.plus_tree.specs.declared.trees.Call.{Call}
 use Rattle.plus_expansion.specs.Calls.{called_of}
+use Rattle.plus_validator.specs.Account.{Account, account_of, account_in}
 use Rattle.plus_validator.specs.Standing.{IsReached}
 use Rattle.plus_validator.specs.Running.{IsOnWay}
 use Rattle.plus_validator.specs.Playing.{Readied, ReadiedFor, closed}
 use Rattle.plus_validator.specs.Refused.{Stands, NamesLine, NamesNoLine, IsWaiting, number_in, TimeFault, Refusal, WholeLines}
 
 -- the report is that of a history of the plan, before which all that is asked passes
-pub record IsReported (N : Labels) (P : Problem) (L : Plan) (most : ℕ) (instance : ℕ → List Test) (h : List Part) (report : List ℕ) : Type 0 where
+pub record IsReported (N : Labels) (P : Problem) (L : Plan) (most : ℕ) (instance : ℕ → List Test) (h : List Part) (account : Account) : Type 0 where
   pub prefix : Prefix P L h
   pub few : entries_of h ≤ most
   pub clear : IsClear P L most instance h
-  pub written : report ≡ report_of N P L h
+  pub written : account ≡ account_of N P L h
 
 -- and the verdict stands there
-pub record IsStoppedAt (N : Labels) (P : Problem) (L : Plan) (most : ℕ) (instance : ℕ → List Test) (report : List ℕ) (v : Verdict Frac64) : Type 0 where
+pub record IsStoppedAt (N : Labels) (P : Problem) (L : Plan) (most : ℕ) (instance : ℕ → List Test) (account : Account) (v : Verdict Frac64) : Type 0 where
   pub history : List Part
-  pub reported : IsReported N P L most instance history report
+  pub reported : IsReported N P L most instance history account
   pub stands : Stands P L most instance history v
 
 -- ---- on the way to a time
 
-pub record IsStoppedOnWay (N : Labels) (P : Problem) (L : Plan) (most : ℕ) (instance : ℕ → List Test) (report : List ℕ) (v : Verdict Frac64) : Type 0 where
-  pub stopped : IsStoppedAt N P L most instance report v
+pub record IsStoppedOnWay (N : Labels) (P : Problem) (L : Plan) (most : ℕ) (instance : ℕ → List Test) (account : Account) (v : Verdict Frac64) : Type 0 where
+  pub stopped : IsStoppedAt N P L most instance account v
   pub names : NamesNoLine v
 
-abbrev pub StopsOnWay : Labels → Problem → Plan → ℕ → (ℕ → List Test) → List ℕ → Halt → Type 0
-StopsOnWay N P L most instance report (Refused v) = IsStoppedOnWay N P L most instance report v
-StopsOnWay N P L most instance report Memory = Unit {0}
+abbrev pub StopsOnWay : Labels → Problem → Plan → ℕ → (ℕ → List Test) → Account → Halt → Type 0
+StopsOnWay N P L most instance account (Refused v) = IsStoppedOnWay N P L most instance account v
+StopsOnWay N P L most instance account Memory = Unit {0}
 
 -- the run halts on its way to the time u
 pub record HaltsOnWay (N : Labels) (P : Problem) (u : Fraction) (old new : Run) (halt : Halt) : Type 0 where
   pub stops :
       (L : Plan) (instance : ℕ → List Test) (acted : ℕ) (h : List Part) → HasBegun L → IsOnWay N P L instance u acted h old
-      → StopsOnWay N P L old.timeline.most instance new.report.bytes.items halt
+      → StopsOnWay N P L old.timeline.line.most instance (account_in new) halt
 
 -- the run halts at the end of the text
 pub record HaltsAtEnd (N : Labels) (P : Problem) (old new : Run) (halt : Halt) : Type 0 where
   pub stops :
       (L : Plan) (instance : ℕ → List Test) (h : List Part) → Readied N P L instance h old
-      → StopsOnWay N P (closed L) old.timeline.most instance new.report.bytes.items halt
+      → StopsOnWay N P (closed L) old.timeline.line.most instance (account_in new) halt
 
 -- ---- in a line
 
 -- line n, whose action is due
-pub record IsStoppedIn (N : Labels) (P : Problem) (L : Plan) (most : ℕ) (instance : ℕ → List Test) (n : ℕ) (report : List ℕ) (v : Verdict Frac64) : Type 0 where
-  pub stopped : IsStoppedAt N P L most instance report v
+pub record IsStoppedIn (N : Labels) (P : Problem) (L : Plan) (most : ℕ) (instance : ℕ → List Test) (n : ℕ) (account : Account) (v : Verdict Frac64) : Type 0 where
+  pub stopped : IsStoppedAt N P L most instance account v
   pub names : NamesLine n (called_label (next_line L (view_of P stopped.history))) v
 
-abbrev pub StopsIn : Labels → Problem → Plan → ℕ → (ℕ → List Test) → ℕ → List ℕ → Halt → Type 0
-StopsIn N P L most instance n report (Refused v) = IsStoppedIn N P L most instance n report v
-StopsIn N P L most instance n report Memory = Unit {0}
+abbrev pub StopsIn : Labels → Problem → Plan → ℕ → (ℕ → List Test) → ℕ → Account → Halt → Type 0
+StopsIn N P L most instance n account (Refused v) = IsStoppedIn N P L most instance n account v
+StopsIn N P L most instance n account Memory = Unit {0}
 
 -- the run halts at the action that is due, which line n calls
 pub record HaltsInAct (d : Pair) (N : Labels) (P : Problem) (n : ℕ) (call : Call) (old new : Run) (halt : Halt) : Type 0 where
   pub stops :
-      (L : Plan) (instance : ℕ → List Test) (h : List Part) → HasBegun L → instance old.timeline.now.acted ≡ call_tests d call
-      → IsReached N P L instance old.timeline.now.acted old.timeline.now.time h old.timeline old.report.bytes.items
-      → next_line L old.timeline.now ≡ Some (ActLine old.timeline.now.time (called_of d.domain d.problem call.name call.args))
-      → StopsIn N P L old.timeline.most instance n new.report.bytes.items halt
+      (L : Plan) (instance : ℕ → List Test) (h : List Part) → HasBegun L → instance old.timeline.line.now.acted ≡ call_tests d call
+      → IsReached N P L instance old.timeline.line.now.acted old.timeline.line.now.time h old.timeline.line (account_in old)
+      → next_line L old.timeline.line.now ≡ Some (ActLine old.timeline.line.now.time (called_of d.domain d.problem call.name call.args))
+      → StopsIn N P L old.timeline.line.most instance n (account_in new) halt
 
 abbrev pub TimeHalts : Problem → Plan → List Part → ℕ → model.Line → Time → Halt → Type 0
 TimeHalts P L h n meant time (Refused v) = TimeFault P L h n meant time v
@@ -91,9 +92,9 @@ pub record HaltsAtMoment (n : ℕ) (time : Time) (run : Run) (halt : Halt) : Typ
       → model.time_of meant ≡ value_of time → TimeHalts P L h n meant time halt
 
 -- the lines before are worked, and the report is theirs
-pub record IsStoppedBefore (d : Pair) (N : Labels) (P : Problem) (ls : List Line) (most : ℕ) (line : Line) (report : List ℕ) (v : Verdict Frac64) : Type 0 where
+pub record IsStoppedBefore (d : Pair) (N : Labels) (P : Problem) (ls : List Line) (most : ℕ) (line : Line) (account : Account) (v : Verdict Frac64) : Type 0 where
   pub history : List Part
-  pub reported : IsReported N P (plan_of d ls false) most (instances_of d ls) history report
+  pub reported : IsReported N P (plan_of d ls false) most (instances_of d ls) history account
   pub waits : IsWaiting P (plan_of d ls false) most (instances_of d ls) history
   pub meant : model.Line
   pub meant_is : line_meant d line ≡ meant ∷ []
@@ -102,44 +103,44 @@ pub record IsStoppedBefore (d : Pair) (N : Labels) (P : Problem) (ls : List Line
   pub why : TimeFault P (plan_of d ls false) history (number_in line) meant time v
 
 -- the line has its place and its time, and the run halts on the way to it or in it
-pub record IsStoppedBehind (d : Pair) (N : Labels) (P : Problem) (ls : List Line) (most : ℕ) (line : Line) (report : List ℕ) (v : Verdict Frac64) : Type 0 where
+pub record IsStoppedBehind (d : Pair) (N : Labels) (P : Problem) (ls : List Line) (most : ℕ) (line : Line) (account : Account) (v : Verdict Frac64) : Type 0 where
   pub begun : HasBegun (plan_of d (ls ++ line ∷ []) false)
   pub value : HasValue line
-  pub stopped : IsStoppedIn N P (plan_of d (ls ++ line ∷ []) false) most (instances_of d (ls ++ line ∷ [])) (number_in line) report v
+  pub stopped : IsStoppedIn N P (plan_of d (ls ++ line ∷ []) false) most (instances_of d (ls ++ line ∷ [])) (number_in line) account v
 
-abbrev pub StopsInLine : Pair → Labels → Problem → List Line → ℕ → Line → List ℕ → Halt → Type 0
-StopsInLine d N P ls most line report (Refused v) =
-    IsStoppedBefore d N P ls most line report v ⊎ IsStoppedBehind d N P ls most line report v
-StopsInLine d N P ls most line report Memory = Unit {0}
+abbrev pub StopsInLine : Pair → Labels → Problem → List Line → ℕ → Line → Account → Halt → Type 0
+StopsInLine d N P ls most line account (Refused v) =
+    IsStoppedBefore d N P ls most line account v ⊎ IsStoppedBehind d N P ls most line account v
+StopsInLine d N P ls most line account Memory = Unit {0}
 
 -- the run halts at a line, or on its way to it
 pub record HaltsInLine (d : Pair) (N : Labels) (P : Problem) (line : Line) (old new : Run) (halt : Halt) : Type 0 where
   pub stops :
       (ls : List Line) (h : List Part) → ReadiedFor d N P ls h old
-      → StopsInLine d N P ls old.timeline.most line new.report.bytes.items halt
+      → StopsInLine d N P ls old.timeline.line.most line (account_in new) halt
 
 -- ---- in a text
 
 -- the plan is refused, and the report is that of the history before
-pub record IsStoppedInText (d : Pair) (N : Labels) (P : Problem) (most : ℕ) (goes_on : Bool) (whole piece report : List ℕ) (v : Verdict Frac64) : Type 0 where
+pub record IsStoppedInText (d : Pair) (N : Labels) (P : Problem) (most : ℕ) (goes_on : Bool) (whole piece : List ℕ) (account : Account) (v : Verdict Frac64) : Type 0 where
   pub refusal : Refusal d P most goes_on whole piece v
-  pub written : report ≡ report_of N P (plan_in d refusal.reading) refusal.history
+  pub written : account ≡ account_of N P (plan_in d refusal.reading) refusal.history
 
-abbrev pub StopsInText : Pair → Labels → Problem → ℕ → Bool → List ℕ → List ℕ → List ℕ → Halt → Type 0
-StopsInText d N P most goes_on whole piece report (Refused v) = IsStoppedInText d N P most goes_on whole piece report v
-StopsInText d N P most goes_on whole piece report Memory = Unit {0}
+abbrev pub StopsInText : Pair → Labels → Problem → ℕ → Bool → List ℕ → List ℕ → Account → Halt → Type 0
+StopsInText d N P most goes_on whole piece account (Refused v) = IsStoppedInText d N P most goes_on whole piece account v
+StopsInText d N P most goes_on whole piece account Memory = Unit {0}
 
 -- the run halts in these lines, whatever stands behind them
 pub record HaltsInLines (d : Pair) (N : Labels) (P : Problem) (whole : List ℕ) (old new : Run) (halt : Halt) : Type 0 where
   pub stops :
       (goes_on : Bool) (piece : List ℕ) (h : List Part) → ReadiedFor d N P [] h old
-      → StopsInText d N P old.timeline.most goes_on whole piece new.report.bytes.items halt
+      → StopsInText d N P old.timeline.line.most goes_on whole piece (account_in new) halt
 
 -- the run halts in a text that goes on so
 pub record HaltsInText (d : Pair) (N : Labels) (P : Problem) (goes_on : Bool) (whole piece : List ℕ) (old new : Run) (halt : Halt) : Type 0 where
   pub stops :
       (h : List Part) → ReadiedFor d N P [] h old
-      → StopsInText d N P old.timeline.most goes_on whole piece new.report.bytes.items halt
+      → StopsInText d N P old.timeline.line.most goes_on whole piece (account_in new) halt
 
 -- the run halts in a plan text
 pub record HaltsInPlan (d : Pair) (N : Labels) (P : Problem) (text : List ℕ) (goes_on : Bool) (old new : Run) (halt : Halt) : Type 0 where

@@ -1,5 +1,5 @@
 -- What the check of a plan does.
-use Rattle.std.specs.Prelude.{◌≡◌, ℕ, ◌<◌, ◌≤◌, Bool, true, false, List, length, take, Option}
+use Rattle.std.specs.Prelude.{◌≡◌, ℕ, ◌<◌, ◌≤◌, Bool, true, false, List, length, take, Option, Some, None}
 use Rattle.plus_io.specs.Faults.{Rose}
 use Rattle.plus_number.specs.Frac.{IsFrac64}
 use Rattle.plus_io.specs.Taken.{Took, TookPart}
@@ -16,6 +16,7 @@ use Rattle.plus_report.specs.declared.refusals.Kinds.{Kinds}
 use Rattle.plus_report.specs.declared.refusals.Kinds.TheVariants as kinds
 use Rattle.plus_report.specs.declared.refusals.Text.{Text}
 use Rattle.plus_report.specs.declared.refusals.Text.TheVariants as texts
+use Rattle.plus_report.specs.declared.refusals.Early.{Early}
 use Rattle.plus_report.specs.declared.refusals.Early.TheVariants.{TooMany, Literal}
 use Rattle.plus_report.specs.Refusals.{early_text}
 use Rattle.plus_validator.specs.declared.judge.Outcome.{Outcome}
@@ -38,6 +39,12 @@ kind_meant counts.Nodes = kinds.Nodes
 abbrev pub file_meant : File → Text
 file_meant files.Domain = texts.Domain
 file_meant files.Problem = texts.Problem
+
+-- what is told of a fault that is no want of memory
+abbrev pub fault_meant : GroundFault → Option Early
+fault_meant (faults.TooMany kind most) = Some (TooMany (kind_meant kind) most)
+fault_meant (faults.Literal file span) = Some (Literal (file_meant file) span.start span.«end»)
+fault_meant faults.Memory = None
 
 -- the line that tells the fault
 abbrev pub TellsFault : GroundFault → List ℕ → Type 0

@@ -3,56 +3,31 @@ ghost use Rattle.std.specs.Prelude.{◌≡◌, ◌⊎◌, ◌≤◌, ◌+◌, []
 ghost use Rattle.plus_io.specs.Files.{KeepsFiles};
 ghost use Rattle.plus_io.specs.Picks.{ReadsOnce, ReadsInOrder};
 ghost use Rattle.plus_validator.specs.Limits.{text_limit, most_happenings};
-ghost use Rattle.plus_validator.specs.Validates.{Accepts, Refuses, BreaksOff, RefusesPair, RefusesPairInPart, IsRefusal, IsRead, ReadsNot, EndsUngrounded, kind_meant, file_meant};
+ghost use Rattle.plus_validator.specs.Validates.{Accepts, Refuses, BreaksOff, RefusesPair, RefusesPairInPart, IsRefusal, IsRead, ReadsNot, EndsUngrounded};
 ghost use Rattle.plus_ground.specs.Refusals.{RefusesGround};
 ghost use Rattle.plus_tree.specs.declared.trees.Domain.{Domain};
 ghost use Rattle.plus_tree.specs.declared.trees.Problem.{Problem};
 ghost use Rattle.plus_number.specs.Frac.{IsFrac64};
-ghost use Rattle.plus_types.specs.Faults.{problem_context};
-ghost use Rattle.plus_numbering.specs.Counts.{name_counts, RefusesCount};
 ghost use Rattle.plus_io.specs.Faults.{Rose};
 
-use crate::judge::{Outcome, PlanText, judge};
+use crate::judge::Outcome;
+use crate::judgement::judge_plan;
 use crate::limits::TEXT_LIMIT;
+use crate::ungrounded::{early_of, ground_fault};
 use plus_ground::{GroundFault, ground};
 use plus_io::{ReadStop, Shelf, Sink, read_all, write_all};
 use plus_number::frac::Frac64;
-use plus_numbering::{Count, CountFault, Numbering};
-use plus_report::{Early, Kinds, Text, write_early};
-use plus_types::{File, Typed};
+use plus_numbering::Numbering;
+use plus_report::write_early;
+use plus_types::Typed;
 use std::alloc::Global;
 
-fn kind_of(count: Count) -> Kinds
-    ensures { result ≡ kind_meant count }
-{
-    match count {
-        Count::Objects => Kinds::Objects,
-        Count::Atoms => Kinds::Atoms,
-        Count::Fluents => Kinds::Fluents,
-        Count::Processes => Kinds::Processes,
-        Count::Events => Kinds::Events,
-        Count::Actions => Kinds::Actions,
-        Count::Nodes => Kinds::Nodes,
-    }
-}
-
-fn text_of(file: File) -> Text
-    ensures { result ≡ file_meant file }
-{
-    match file {
-        File::Domain => Text::Domain,
-        File::Problem => Text::Problem,
-    }
-}
-
-// The refusal of a pair of which too many are counted.
-fn ground_fault(fault: CountFault) -> GroundFault
-    ensures { (d : Domain) (p : Problem) → RefusesCount (name_counts (problem_context d p)) fault → RefusesGround IsFrac64 d p result }
-{
-    match fault {
-        CountFault::TooMany { kind, most } => GroundFault::TooMany { kind, most },
-        CountFault::Memory => GroundFault::Memory,
-    }
+// A plan text, or where it goes on behind the limit its first bytes.
+#[derive(Drop)]
+struct PlanText {
+    bytes: Vec<u8>,
+    goes_on: bool,
+    ghost within: { length bytes.items ≤ text_limit },
 }
 
 // Writes why the pair is not grounded.
@@ -61,17 +36,8 @@ fn refuse<O: Sink>(out: &mut O, fault: GroundFault) -> Outcome
         EndsUngrounded d p (O.faults out.old) (O.faults out.new) (O.taken out.old) (O.taken out.new) result }
     ensures no_fall { O.faults out.old ≤ O.faults out.new }
 {
-    let early = match fault {
-        GroundFault::TooMany { kind, most } => Early::TooMany {
-            kind: kind_of(kind),
-            most,
-        },
-        GroundFault::Literal { file, span } => Early::Literal {
-            text: text_of(file),
-            start: span.start,
-            end: span.end,
-        },
-        GroundFault::Memory => return Outcome::NoMemory,
+    let Some(early) = early_of(fault) else {
+        return Outcome::NoMemory;
     };
     match write_early(out, &early) {
         Ok(()) => Outcome::Beyond,
@@ -144,7 +110,14 @@ fn validate_numbered<S: Shelf, O: Sink>(
         Ok(text) => text,
         Err(outcome) => return outcome,
     };
-    match judge(alloc, numbering, &ground, &text, happenings) {
+    match judge_plan(
+        alloc,
+        numbering,
+        &ground,
+        &text.bytes,
+        text.goes_on,
+        happenings,
+    ) {
         Ok(judgement) => match write_all(out, &judgement.bytes) {
             Ok(()) => judgement.outcome,
             Err(_) => Outcome::WriteFault,

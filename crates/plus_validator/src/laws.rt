@@ -1,5 +1,5 @@
 //! What a reader of an answer may rely on, over the definitions alone.
-ghost use Rattle.plus_validator.specs.Laws.{PairOrPlan, OneLine, OneAnswer, TameDecides, InvalidIsNone, Decides, ValidIsTame, InOrderIsTame, InvalidIsTame};
+ghost use Rattle.plus_validator.specs.Laws.{PairOrPlan, OneLine, OneAnswer, OneJudgement, JudgedAsChecked, CheckedAsJudged, CountsFit, TameDecides, InvalidIsNone, Decides, ValidIsTame, InOrderIsTame, InvalidIsTame};
 
 /// Where the pair is refused, no plan for it is accepted or refused.
 pub fn pair_or_plan()
@@ -14,6 +14,26 @@ pub fn one_line()
 /// The bytes of a plan text have one answer: one outcome, and one report with its verdict line.
 pub fn one_answer()
     ensures { OneAnswer }
+{}
+
+/// A plan text has one judgement: one outcome, one verdict line, as many moments and as many events.
+pub fn one_judgement()
+    ensures { OneJudgement }
+{}
+
+/// A judgement is an answer of the check: its outcome, and a report behind which the verdict's line stands.
+pub fn judged_as_checked()
+    ensures { JudgedAsChecked }
+{}
+
+/// Each answer of the check has the outcome and the line of the judgement.
+pub fn checked_as_judged()
+    ensures { CheckedAsJudged }
+{}
+
+/// A history has no more moments and events than its report has bytes.
+pub fn counts_fit()
+    ensures { CountsFit }
 {}
 
 /// A plan that stays inside the limits is refused only by a breach, or by a line out of its place.

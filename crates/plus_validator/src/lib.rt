@@ -3,13 +3,14 @@
 
 mod checking;
 mod halt;
-mod instances;
-mod judge;
+pub mod judge;
+mod judgement;
 pub mod laws;
 pub mod limits;
 mod memory;
 mod play;
 mod run;
+mod ungrounded;
 
 pub use checking::validate;
-pub use judge::Outcome;
+pub use judge::{Judged, Outcome};

@@ -8,16 +8,16 @@ ghost use Rattle.plus_state.specs.View.{problem_of, labels_of};
 ghost use Rattle.plus_timeline.specs.Finish.{IsPaused};
 ghost use Rattle.plus_validator.specs.Limits.{text_limit};
 ghost use Rattle.plus_validator.specs.Plans.{pair_in};
-ghost use Rattle.plus_validator.specs.Made.{AreMade, StayMade};
+ghost use Rattle.plus_instances.specs.Made.{AreMade, StayMade};
 ghost use Rattle.plus_validator.specs.Halts.{CallHalts, HaltFits};
 ghost use Rattle.plus_validator.specs.Standing.{CanGoOn};
 ghost use Rattle.plus_validator.specs.Stopped.{HaltsAtMoment, HaltsInAct, HaltsInLine, HaltsInLines, HaltsAtEnd};
 ghost use Rattle.plus_validator.specs.Playing.{IsGroundOf, IsInTime, ActsOnce, PlaysLine, Closes, ReadsAll};
 
 use crate::halt::{Halt, halted};
-use crate::instances::Instances;
 use crate::run::Run;
 use plus_ground::InstanceFault;
+use plus_instances::Instances;
 use plus_limits::MOST_NODES;
 use plus_number::exact::Exact;
 use plus_number::frac::Frac64;
@@ -78,7 +78,7 @@ fn refused_call(alloc: Global, fault: InstanceFault, line: u32, call: &Call) -> 
 impl Run {
     // Whether a time is below the present one.
     fn is_past(&self, at: Frac64) -> bool
-        ensures { result ≡ is_below (fraction_of at) (self.now.timeline.now.time) }
+        ensures { result ≡ is_below (fraction_of at) (self.now.timeline.line.now.time) }
     {
         is_earlier(at, self.timeline.time())
     }
@@ -121,7 +121,7 @@ impl Run {
         requires expands { IsGroundOf instances.old.numbering.now.typed.now.domain instances.old.numbering.now.typed.now.problem ground.now }
         requires kept { AreMade instances.old }
         requires can { CanGoOn (problem_of fraction_of ground.now) self.old.timeline }
-        requires paused { IsPaused self.old.timeline }
+        requires paused { IsPaused self.old.timeline.line }
         ensures acts { OnOk result (ActsOnce (pair_in instances.old.numbering.now.typed.now) (labels_of ground.now)
             (problem_of fraction_of ground.now) call.now self.old self.new) }
         ensures stops { IfErr result (HaltsInAct (pair_in instances.old.numbering.now.typed.now) (labels_of ground.now)
@@ -158,7 +158,7 @@ impl Run {
         requires expands { IsGroundOf instances.old.numbering.now.typed.now.domain instances.old.numbering.now.typed.now.problem ground.now }
         requires kept { AreMade instances.old }
         requires can { CanGoOn (problem_of fraction_of ground.now) self.old.timeline }
-        requires moment { self.old.timeline.now.running ≡ None }
+        requires moment { self.old.timeline.line.now.running ≡ None }
         requires bottom { HasBottom read.now }
         ensures plays { OnOk result (PlaysLine (pair_in instances.old.numbering.now.typed.now) (labels_of ground.now)
             (problem_of fraction_of ground.now) read.now self.old self.new) }
@@ -188,7 +188,7 @@ impl Run {
     /// Plays on at the end of the text.
     pub fn close(&mut self, ground: &Ground<Frac64>) -> Result<(), Halt>
         requires can { CanGoOn (problem_of fraction_of ground.now) self.old.timeline }
-        requires moment { self.old.timeline.now.running ≡ None }
+        requires moment { self.old.timeline.line.now.running ≡ None }
         ensures closes { OnOk result (Closes (labels_of ground.now)
             (problem_of fraction_of ground.now) self.old self.new) }
         ensures stops { IfErr result (HaltsAtEnd (labels_of ground.now)
@@ -213,7 +213,7 @@ impl Run {
     ) -> Result<u32, Halt>
         requires expands { IsGroundOf numbering.now.typed.now.domain numbering.now.typed.now.problem ground.now }
         requires can { CanGoOn (problem_of fraction_of ground.now) self.old.timeline }
-        requires moment { self.old.timeline.now.running ≡ None }
+        requires moment { self.old.timeline.line.now.running ≡ None }
         requires few { length text.now ≤ text_limit }
         ensures reads { IfOk result (ReadsAll (pair_in numbering.now.typed.now) (labels_of ground.now)
             (problem_of fraction_of ground.now) text.now self.old self.new) }

@@ -1,27 +1,32 @@
 //! A plan that is played, and its report as it is written.
-ghost use Rattle.std.specs.Prelude.{◌≡◌, ◌≤◌, ◌++◌, OnOk, IfOk, IfErr};
+ghost use Rattle.std.specs.Prelude.{◌≡◌, ◌≤◌, ◌+◌, ◌++◌, OnOk, IfOk, IfErr};
 ghost use Rattle.plus_number.specs.Frac.{fraction_of};
 ghost use Rattle.plus_state.specs.View.{problem_of, labels_of};
 ghost use Rattle.plus_validator.specs.Running.{Steps, Reaches};
 ghost use Rattle.plus_validator.specs.Halts.{HaltFits};
 ghost use Rattle.plus_validator.specs.Stopped.{HaltsOnWay};
 ghost use Rattle.plus_validator.specs.Playing.{Begins};
-ghost use Rattle.plus_validator.specs.Standing.{CanReach, MovesThenChanges, IsShown, next_text, is_there, CanShow};
+ghost use Rattle.plus_validator.specs.Standing.{CanReach, MovesThenChanges, IsShown, next_text, entries_in, firings_in, is_there, CanShow};
 
 use crate::halt::{Halt, halted};
 use crate::memory::Report;
+use plus_indexed::Indexed;
 use plus_io::Failed;
 use plus_number::frac::Frac64;
 use plus_report::{write_entry_changes, write_literals_changes, write_round_changes, write_run};
 use plus_state::problem::Ground;
-use plus_timeline::{Next, Timeline};
-use std::alloc::Global;
+use plus_timeline::Next;
+use std::alloc::{AllocError, Global};
 
 /// A plan that is played, and its report as far as it is written.
 #[derive(Drop)]
 pub struct Run {
-    pub timeline: Timeline<Frac64>,
+    pub timeline: Indexed<Frac64>,
     pub report: Report,
+    /// How many moments are entered.
+    pub entries: u64,
+    /// How many events fired.
+    pub firings: u64,
     /// Whether the end of the plan was read.
     pub ended: bool,
 }
@@ -36,13 +41,13 @@ fn is_there(next: Next<Frac64>) -> bool
 fn write_moment(
     report: &mut Report,
     ground: &Ground<Frac64>,
-    timeline: &Timeline<Frac64>,
+    timeline: &Indexed<Frac64>,
     time: Frac64,
 ) -> Result<(), Failed>
-    requires can { CanShow (problem_of fraction_of ground.now) timeline.now }
-    requires shown { MovesThenChanges timeline.now }
+    requires can { CanShow (problem_of fraction_of ground.now) timeline.now.line }
+    requires shown { MovesThenChanges timeline.now.line }
     ensures { OnOk result (report.new.bytes.items ≡ report.old.bytes.items
-        ++ next_text fraction_of (labels_of ground.now) (problem_of fraction_of ground.now) timeline.now (Next.Entry time)) }
+        ++ next_text fraction_of (labels_of ground.now) (problem_of fraction_of ground.now) timeline.now.line (Next.Entry time)) }
 {
     write_entry_changes(report, ground, time, timeline.before(), timeline.changes())?;
     if timeline.has_literals() {
@@ -55,13 +60,13 @@ fn write_moment(
 fn write_next(
     report: &mut Report,
     ground: &Ground<Frac64>,
-    timeline: &Timeline<Frac64>,
+    timeline: &Indexed<Frac64>,
     next: Next<Frac64>,
 ) -> Result<(), Failed>
-    requires can { CanShow (problem_of fraction_of ground.now) timeline.now }
-    requires shown { IsShown (problem_of fraction_of ground.now) timeline.now next }
+    requires can { CanShow (problem_of fraction_of ground.now) timeline.now.line }
+    requires shown { IsShown (problem_of fraction_of ground.now) timeline.now.line next }
     ensures { OnOk result (report.new.bytes.items ≡ report.old.bytes.items
-        ++ next_text fraction_of (labels_of ground.now) (problem_of fraction_of ground.now) timeline.now next) }
+        ++ next_text fraction_of (labels_of ground.now) (problem_of fraction_of ground.now) timeline.now.line next) }
 {
     match next {
         Next::Round => write_round_changes(
@@ -77,6 +82,17 @@ fn write_next(
     }
 }
 
+// One count and more. Each that is counted has its bytes in the report, so that memory is wanting before
+// a count is too large.
+fn counted(count: u64, more: u64) -> Result<u64, AllocError>
+    ensures { IfOk result (λ sum. sum ≡ count + more) }
+{
+    match count.checked_add(more) {
+        Some(sum) => Ok(sum),
+        None => Err(AllocError),
+    }
+}
+
 impl Run {
     /// Begins a run: the first entry, at time 0.
     pub fn begin(alloc: Global, ground: &Ground<Frac64>, happenings: u64) -> Result<Run, Halt>
@@ -84,7 +100,7 @@ impl Run {
         ensures begins { IfOk result (Begins (labels_of ground.now) (problem_of fraction_of ground.now) happenings) }
         ensures memory { IfErr result (λ halt. halt ≡ Halt.Memory) }
     {
-        let timeline = Timeline::begin(alloc, ground, happenings)?;
+        let timeline = Indexed::begin(alloc, ground, happenings)?;
         let mut report = Report::new(alloc);
         let first = Next::Entry {
             time: timeline.time(),
@@ -93,8 +109,27 @@ impl Run {
         Ok(Run {
             timeline,
             report,
+            entries: 1,
+            firings: 0,
             ended: false,
         })
+    }
+
+    // Counts what the timeline did.
+    fn count(&mut self, next: Next<Frac64>) -> Result<(), AllocError>
+        ensures { OnOk result (self.new ≡ record (self.old) {
+          entries = self.old.entries + entries_in next;
+          firings = self.old.firings + firings_in self.old.timeline.line next;
+        }) }
+    {
+        match next {
+            Next::Round => {
+                self.firings = counted(self.firings, self.timeline.events().len() as u64)?;
+            }
+            Next::Entry { .. } => self.entries = counted(self.entries, 1)?,
+            Next::Run | Next::There => {}
+        }
+        Ok(())
     }
 
     /// Takes one step toward a time, and says whether the time is reached and nothing is due.
@@ -111,6 +146,7 @@ impl Run {
             Err(stop) => return Err(halted(stop)),
         };
         write_next(&mut self.report, ground, &self.timeline, next)?;
+        self.count(next)?;
         Ok(is_there(next))
     }
 

@@ -1,30 +1,22 @@
-use Rattle.std.proofs.Common.{◌≡◌, refl}
-use Rattle.std.proofs.lemmas.Result.{err_from_is_err_and}
-use Rattle.plus_number.specs.Frac.{fraction_of}
-use Rattle.plus_state.specs.View.{problem_of, labels_of}
-use Rattle.plus_report.specs.Verdicts.{verdict_text}
-use Rattle.plus_validator.specs.declared.judge.Judgement.{Judgement}
-use Rattle.plus_validator.proofs.Shown.{took_all}
-use Rattle.plus_validator.proofs.Judging.{verdict_fits, judged}
+use Rattle.std.specs.Prelude.{IfOk, Result, Ok, Err}
+use Rattle.plus_tree.specs.declared.trees.Domain.{Domain}
+use Rattle.plus_tree.specs.declared.trees.Problem.{Problem}
+use Rattle.plus_number.specs.Frac.{IsFrac64}
+use Rattle.plus_ground.specs.Refusals.{RefusesGround}
+use Rattle.plus_validator.specs.declared.judge.Judged.{Judged}
+use Rattle.plus_validator.specs.Verdicts.{RefusesPairWith, JudgesText, ungrounded}
 use Rattle.plus_validator.proofs.judge.judge.Goals as goal
 
-pub write_verdict-requires : goal.write_verdict-requires
-write_verdict-requires c =
-    verdict_fits (problem_of fraction_of c.args.ground.now) c.play_text.result c.in_ok-verdict.verdict c.play_text.ensures.fits c.in_ok-verdict.ensures.gives
+if_ok : {A E : Type 0} (r : Result A E) (P Q : A → Type 0) → ((x : A) → P x → Q x) → IfOk r P → IfOk r Q
+if_ok (Ok x) P Q f h = f x h
+if_ok (Err e) P Q f h = h
 
-pub returns-clause-judged : goal.returns-clause-judged
-returns-clause-judged c =
-    let N = labels_of c.args.ground.now in
-    let P = problem_of fraction_of c.args.ground.now in
-    let j : Judgement = record { bytes = c.write_verdict.new.out.bytes; outcome = c.outcome_of-outcome.result } in
-    judged c.args.numbering.now.typed.now.domain c.args.numbering.now.typed.now.problem N P c.args.happenings c.args.text.now.bytes.items c.args.text.now.goes_on
-    c.in_ok-run.run' c.play_text.new.run c.requires.groundable j c.play_text.result c.in_ok-verdict.verdict c.args.text.now.within c.requires.expands.expands
-    c.requires.expands.labels c.in_ok-run.ensures.begins c.play_text.ensures.plays c.play_text.ensures.stops c.play_text.ensures.fits c.in_ok-verdict.ensures.gives
-    c.outcome_of-outcome.ensures
-    (took_all c.play_text.new.run.report.bytes.items c.write_verdict.new.out.bytes.items (verdict_text fraction_of N P c.in_ok-verdict.verdict)
-    c.in_ok-write_verdict.ensures.outcome)
-
-pub returns-in_err-write_verdict-clause-memory : goal.returns-in_err-write_verdict-clause-memory
-returns-in_err-write_verdict-clause-memory c =
-    let p = err_from_is_err_and c.from_residual-in_err-write_verdict.result c.from_residual-in_err-write_verdict.ensures.1 in
-    rw (p.1, p.2) refl
+pub returns-in-Err : goal.returns-in-Err
+returns-in-Err c =
+    let d = c.args.typed.now.domain in
+    let p = c.args.typed.now.problem in
+    record {
+      judged = if_ok c.judge_pair.result (λ (j : Judged). (d : Domain) (p : Problem) → RefusesGround IsFrac64 d p c.ground_fault.result → RefusesPairWith d p j)
+          (JudgesText d p c.args.happenings c.args.text.now)
+          (λ j h. ungrounded (h d p (c.ground_fault.ensures d p c.in-Err.ensures.counts))) c.judge_pair.ensures;
+    }

@@ -1,4 +1,4 @@
-use Rattle.std.proofs.Common.{◌≡◌, refl, ap, sym, subst, ◌∙◌}
+use Rattle.std.proofs.Common.{refl, ap, sym, subst, ◌∙◌}
 use Rattle.plus_model.specs.Terms.{State}
 use Rattle.plus_state.specs.Changes.{patched, RisesIn}
 use Rattle.plus_number.specs.Frac.{fraction_of}
@@ -8,12 +8,9 @@ use Rattle.plus_validator.proofs.Shown.{act_reported}
 use Rattle.plus_validator.proofs.Played.{acts_once}
 use Rattle.plus_validator.proofs.Grounded.{instance_fits}
 use Rattle.plus_validator.specs.Plans.{pair_in}
-use Rattle.plus_validator.specs.declared.halt.Halt.{Halt}
-use Rattle.plus_validator.specs.Halts.{stop_halt, HaltFits}
 use Rattle.plus_validator.proofs.Halting.{act_goes_on, act_halts}
-use Rattle.plus_validator.specs.Stopped.{HaltsInAct}
 use Rattle.plus_validator.proofs.Stopping.{call_halts_in, act_halts_in}
-use Rattle.plus_validator.proofs.Making.{made_here}
+use Rattle.plus_instances.proofs.Making.{made_here}
 use Rattle.plus_validator.proofs.run.Run.act.Goals as goal
 
 pub write_act_changes-requires-clause-changes : goal.write_act_changes-requires-clause-changes
@@ -23,24 +20,24 @@ pub returns-clause-acts : goal.returns-clause-acts
 returns-clause-acts c =
     let N = labels_of c.args.ground.now in
     let P = problem_of fraction_of c.args.ground.now in
-    let new : Run = record { timeline = c.act.new.self; report = c.write_act_changes.new.out; ended = c.args.self.now.ended } in
+    let new : Run = record { timeline = c.act.new.self; report = c.write_act_changes.new.out; entries = c.args.self.now.entries; firings = c.args.self.now.firings; ended = c.args.self.now.ended } in
     acts_once (pair_in c.args.instances.now.numbering.now.typed.now) N P c.args.call.now (action_of fraction_of c.at-action.result.now)
     c.args.self.now new c.requires.can (made_here _ _ _ _ _ _ c.in-Ok.ensures.made c.at-action.ensures).called c.in_default.ensures.told.pass c.in_default.ensures.told.does refl
     (act_reported c.args.self.now.report.bytes.items c.write_act_changes.new.out.bytes.items N c.at-action.result.now.label c.before-2.result.now (patched c.before-2.result.now c.changes.result.now)
-    c.act.new.self.before c.act.new.self.now.state c.in_ok-write_act_changes.ensures.outcome c.before-2.ensures.state (ap (λ (s : State). patched s c.changes.result.now) c.before-2.ensures.state ∙ sym c.changes.ensures.is))
+    c.act.new.self.line.before c.act.new.self.line.now.state c.in_ok-write_act_changes.ensures.outcome c.before-2.ensures.state (ap (λ (s : State). patched s c.changes.result.now) c.before-2.ensures.state ∙ sym c.changes.ensures.is)) refl refl c.in_default.ensures.knows
 
 pub returns-in-Err-clause-fits : goal.returns-in-Err-clause-fits
 returns-in-Err-clause-fits c = c.refused_call.ensures.fits (problem_of fraction_of c.args.ground.now)
 
 pub halted-requires : goal.halted-requires
 halted-requires c =
-    act_goes_on (problem_of fraction_of c.args.ground.now) (action_of fraction_of c.at-action.result.now) c.args.line c.args.self.now.timeline c.act.new.self c.in-Err-act.stop
+    act_goes_on (problem_of fraction_of c.args.ground.now) (action_of fraction_of c.at-action.result.now) c.args.line c.args.self.now.timeline.line c.act.new.self.line c.in-Err-act.stop
     c.requires.can.going c.in-Err-act.ensures.told
 
 pub returns-in-Err-act-clause-fits : goal.returns-in-Err-act-clause-fits
 returns-in-Err-act-clause-fits c =
     let P = problem_of fraction_of c.args.ground.now in
-    act_halts P (action_of fraction_of c.at-action.result.now) c.args.line c.args.self.now.timeline c.act.new.self c.in-Err-act.stop c.halted.result P.atoms
+    act_halts P (action_of fraction_of c.at-action.result.now) c.args.line c.args.self.now.timeline.line c.act.new.self.line c.in-Err-act.stop c.halted.result P.atoms
     (instance_fits c.args.instances.now.numbering.now.typed.now.domain c.args.instances.now.numbering.now.typed.now.problem c.args.ground.now (action_of fraction_of c.at-action.result.now) c.requires.expands (made_here _ _ _ _ _ _ c.in-Ok.ensures.made c.at-action.ensures).fits).1
     c.halted.ensures c.in-Err-act.ensures.told
 
@@ -54,6 +51,6 @@ returns-in-Err-act-clause-stops c =
     let d = pair_in c.args.instances.now.numbering.now.typed.now in
     let N = labels_of c.args.ground.now in
     let P = problem_of fraction_of c.args.ground.now in
-    let new : Run = record { timeline = c.act.new.self; report = c.args.self.now.report; ended = c.args.self.now.ended } in
+    let new : Run = record { timeline = c.act.new.self; report = c.args.self.now.report; entries = c.args.self.now.entries; firings = c.args.self.now.firings; ended = c.args.self.now.ended } in
     act_halts_in d N P c.args.line c.args.call.now (action_of fraction_of c.at-action.result.now) c.args.self.now new c.in-Err-act.stop c.halted.result c.requires.can (made_here _ _ _ _ _ _ c.in-Ok.ensures.made c.at-action.ensures).called
     c.halted.ensures c.in-Err-act.ensures.told refl

@@ -11,7 +11,7 @@ use Rattle.plus_validator.proofs.run.Run.close.Goals as goal
 
 pub returns-in-Ok-clause-closes : goal.returns-in-Ok-clause-closes
 returns-in-Ok-clause-closes c =
-    let new : Run = record { timeline = c.finish.new.self; report = c.reach.new.self.report; ended = c.reach.new.self.ended } in
+    let new : Run = record { timeline = c.finish.new.self; report = c.reach.new.self.report; entries = c.reach.new.self.entries; firings = c.reach.new.self.firings; ended = c.reach.new.self.ended } in
     closes (labels_of c.args.ground.now) (problem_of fraction_of c.args.ground.now) c.args.self.now c.reach.new.self new
     (fraction_of c.time-now.result) c.time-now.ensures c.requires.can c.in_ok-reach.ensures.reaches c.in-Ok.ensures.told.pass c.in-Ok.ensures.told.does refl
 
@@ -26,14 +26,14 @@ returns-in_err-reach-clause-stops c =
 
 pub halted-requires : goal.halted-requires
 halted-requires c =
-    finish_goes_on (problem_of fraction_of c.args.ground.now) c.reach.new.self.timeline c.in-Err.stop c.in_ok-reach.ensures.reaches.can.going c.in-Err.ensures.told
+    finish_goes_on (problem_of fraction_of c.args.ground.now) c.reach.new.self.timeline.line c.in-Err.stop c.in_ok-reach.ensures.reaches.can.going c.in-Err.ensures.told
 
 pub returns-in-Err-clause-stops : goal.returns-in-Err-clause-stops
 returns-in-Err-clause-stops c =
-    let new : Run = record { timeline = c.finish.new.self; report = c.reach.new.self.report; ended = c.reach.new.self.ended } in
+    let new : Run = record { timeline = c.finish.new.self; report = c.reach.new.self.report; entries = c.reach.new.self.entries; firings = c.reach.new.self.firings; ended = c.reach.new.self.ended } in
     halts_at_goal (labels_of c.args.ground.now) (problem_of fraction_of c.args.ground.now) c.args.self.now c.reach.new.self new (fraction_of c.time-now.result) c.in-Err.stop c.halted.result
     c.time-now.ensures c.in_ok-reach.ensures.reaches refl c.halted.ensures c.in-Err.ensures.told
 
 pub returns-in-Err-clause-fits : goal.returns-in-Err-clause-fits
 returns-in-Err-clause-fits c =
-    finish_halts (problem_of fraction_of c.args.ground.now) c.reach.new.self.timeline c.in-Err.stop c.halted.result c.halted.ensures c.in-Err.ensures.told
+    finish_halts (problem_of fraction_of c.args.ground.now) c.reach.new.self.timeline.line c.in-Err.stop c.halted.result c.halted.ensures c.in-Err.ensures.told

@@ -39,7 +39,7 @@ returns-in_ok-reach-in-End-clause-plays c =
     let N = labels_of c.args.ground.now in
     let P = problem_of fraction_of c.args.ground.now in
     let d = (pair_in c.args.instances.now.numbering.now.typed.now) in
-    let new : Run = record { timeline = c.reach-in-End.new.self.timeline; report = c.reach-in-End.new.self.report; ended = true } in
+    let new : Run = record { timeline = c.reach-in-End.new.self.timeline; report = c.reach-in-End.new.self.report; entries = c.reach-in-End.new.self.entries; firings = c.reach-in-End.new.self.firings; ended = true } in
     subst (λ l. PlaysLine d N P l c.args.self.now new) (sym c.in-End.is)
     (end_played d N P c.in-End.line c.in-End.time c.in_ok-until-in-End.until c.args.self.now c.reach-in-End.new.self new
     c.in_ok-until-in-End.ensures.ok c.in_ok-reach-in-End.ensures.reaches refl refl refl)

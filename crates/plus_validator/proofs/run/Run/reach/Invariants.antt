@@ -8,4 +8,4 @@ abbrev pub invariant-steps : goal.invariant-steps
 invariant-steps l = Along (labels_of l.ground) (problem_of fraction_of l.ground) (fraction_of l.until) l.initial.self l.self
 
 abbrev pub decreases-steps : goal.decreases-steps
-decreases-steps l = steps_left l.self.timeline
+decreases-steps l = steps_left l.self.timeline.line

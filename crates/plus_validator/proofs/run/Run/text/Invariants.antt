@@ -2,7 +2,7 @@ use Rattle.plus_validator.specs.Plans.{pair_in}
 use Rattle.std.proofs.Common.{◌≡◌, ◌-◌, length}
 use Rattle.plus_number.specs.Frac.{fraction_of}
 use Rattle.plus_state.specs.View.{problem_of, labels_of}
-use Rattle.plus_validator.specs.Made.{AreMade}
+use Rattle.plus_instances.specs.Made.{AreMade}
 use Rattle.plus_validator.proofs.Played.{ReadsTo}
 use Rattle.plus_validator.proofs.run.Run.text.Given as goal
 

@@ -1,6 +1,6 @@
 use Rattle.std.proofs.Common.{◌-◌, arith}
 use Rattle.plus_validator.proofs.Cutting.{no_lf_end, no_lf_before, cut_at_start, cut_at_lf}
-use Rattle.plus_validator.proofs.judge.whole_lines.Goals as goal
+use Rattle.plus_validator.proofs.judgement.whole_lines.Goals as goal
 
 pub loop-end-init : goal.loop-end-init
 loop-end-init c = no_lf_end c.args.text.now

@@ -7,7 +7,7 @@ use Rattle.plus_validator.specs.declared.halt.Halt.{Halt}
 use Rattle.plus_validator.specs.Stopped.{HaltsInLines, HaltsAtEnd, HaltsInText}
 use Rattle.plus_validator.proofs.Halting.{from_err}
 use Rattle.plus_validator.proofs.TextStops.{lines_halt, halts_after_all}
-use Rattle.plus_validator.proofs.judge.play.Goals as goal
+use Rattle.plus_validator.proofs.judgement.play.Goals as goal
 
 pub returns-clause-plays : goal.returns-clause-plays
 returns-clause-plays c = plays_all (pair_in c.args.numbering.now.typed.now) (labels_of c.args.ground.now) (problem_of fraction_of c.args.ground.now) c.args.text.now

@@ -7,7 +7,7 @@ use Rattle.plus_validator.specs.declared.halt.Halt.TheVariants.{Refused}
 use Rattle.plus_validator.specs.Refused.{cut_verdict}
 use Rattle.plus_validator.proofs.Cutting.{length_behind}
 use Rattle.plus_validator.proofs.TextStops.{lines_halt, halts_at_cut}
-use Rattle.plus_validator.proofs.judge.play_cut.Goals as goal
+use Rattle.plus_validator.proofs.judgement.play_cut.Goals as goal
 
 pub returns-in-Ok-clause-fits : goal.returns-in-Ok-clause-fits
 returns-in-Ok-clause-fits c = c.too_long.ensures.fits (problem_of fraction_of c.args.ground.now)

@@ -1,5 +1,5 @@
 use Rattle.plus_validator.proofs.Cutting.{NoLf}
-use Rattle.plus_validator.proofs.judge.whole_lines.Given as goal
+use Rattle.plus_validator.proofs.judgement.whole_lines.Given as goal
 
 abbrev pub invariant-loop-end : goal.invariant-loop-end
 invariant-loop-end l = NoLf l.text l.end
