@@ -4,8 +4,8 @@ use Rattle.plus_state.proofs.Testing.{one_test}
 use Rattle.plus_numeric.specs.Tests.{Test, Passes}
 use Rattle.plus_numeric.specs.Asked.{numeric_tests}
 use Rattle.plus_numeric.specs.Verdicts.{verdict_of, line_of, kind_of}
-use Rattle.plus_numeric.specs.Laws.{OneRefusal, NotBoth, BreachIsNone}
-use Rattle.plus_numeric.proofs.Meaning.{text_not}
+use Rattle.plus_numeric.specs.Laws.{OneRefusal, NotBoth, PassingIsPlan, BreachIsNone}
+use Rattle.plus_numeric.proofs.Meaning.{text_passes, text_not}
 
 pub one_refusal : OneRefusal
 one_refusal source d p bytes kind kind' line line' a b =
@@ -19,3 +19,6 @@ not_both source d p bytes keep calls kind line a b = (one_test Passes).none (num
 
 pub breach_is_none : BreachIsNone
 breach_is_none d p bytes test f b plan = text_not d p bytes test f b plan
+
+pub passing_is_plan : PassingIsPlan
+passing_is_plan d p bytes h = text_passes d p bytes h

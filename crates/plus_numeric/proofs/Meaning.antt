@@ -36,7 +36,7 @@ use Rattle.plus_expansion.specs.Literals.{call_literals}
 use Rattle.plus_expansion.specs.Counting.{most_nodes}
 use Rattle.plus_numeric.specs.Cut.{text_limit}
 use Rattle.plus_numeric.specs.Calls.{calls_of, call_meant, PlanOf}
-use Rattle.plus_numeric.specs.Tests.{Test, too_long, beyond, count, literal, unknown_action, wrong_arguments, in_line, at_end, Passes, AllPass, FirstFailing, IsBreach}
+use Rattle.plus_numeric.specs.Tests.{Test, no_line, too_long, beyond, count, literal, unknown_action, wrong_arguments, in_line, at_end, Passes, AllPass, FirstFailing, IsBreach}
 use Rattle.plus_numeric.specs.Asked.{in_text, pair_tests, call_tests, after_call, lines_tests, end_tests, text_lines, last_tests, text_tests, numeric_tests}
 use Rattle.plus_numeric.specs.Answers.{Reads, HasPlan}
 use Rattle.plus_numeric.proofs.Counting.{member_of}
@@ -106,6 +106,14 @@ unknown_fails n name h = h
 wrong_fails : (n : ℕ) (name : List ℕ) → Passes (wrong_arguments n name) → ⊥
 unfolding Passes
 wrong_fails n name h = h
+
+fault_fails : (fault : PlanFault) → Passes (no_line fault) → ⊥
+unfolding Passes
+fault_fails fault h = h
+
+long_fails : Passes too_long → ⊥
+unfolding Passes
+long_fails h = h
 
 -- where all that is asked of a call passes, its action can be done
 record CanDo (called : Called) (s : State) : Type 0 where
@@ -198,6 +206,35 @@ module _ (d : Domain) (p : tree.Problem) where
             (subst (λ ts. FirstFailing ts t) (after_done (call_meant d p call) does.action s after (λ x. asked x lines) does.called does.does.effect) y.1) b plan
       ]
 
+-- ---- what a text says
+
+-- it says lines, and in the state after them passes what is asked there
+record AreLines (said : List (Result Line PlanFault)) (more : State → List Test) : Type 0 where
+  lines : List Line
+  are : said ≡ map Ok lines
+  after : State
+  pass : AllPass (more after)
+
+line_more : (line : Line) (said : List (Result Line PlanFault)) (more : State → List Test) → AreLines said more → AreLines (Ok line ∷ said) more
+line_more line said more h = record { lines = line ∷ h.lines; are = ap (λ (rs : List (Result Line PlanFault)). Ok line ∷ rs) h.are; after = h.after; pass = h.pass }
+
+-- where all that is asked passes, each line is one
+module _ (d : Domain) (p : tree.Problem) (more : State → List Test) where
+  all_lines : (said : List (Result Line PlanFault)) (s : State) → AllPass (lines_tests d p said s more) → AreLines said more
+  all_lines [] s h = record { lines = []; are = refl; after = s; pass = h }
+  all_lines (Err fault ∷ rest) s h = absurd (fault_fails fault (test_passes (no_line fault) [] h))
+  all_lines (Ok Blank ∷ rest) s h = line_more Blank rest more (all_lines rest s h)
+  all_lines (Ok (Act n t call) ∷ rest) s h = line_more (Act n t call) rest more (all_lines rest s h)
+  all_lines (Ok (End n t) ∷ rest) s h = line_more (End n t) rest more (all_lines rest s h)
+  all_lines (Ok (Step n call) ∷ rest) s h =
+      let own = call_tests d n call.name (call_meant d p call) s in
+      let behind = after_call (call_meant d p call) s (λ x. lines_tests d p rest x more) in
+      let can = call_done d n call.name s (call_meant d p call) (pass_left Passes own behind h) in
+      let after = after_dues (dues can.action.effects s) s in
+      line_more (Step n call) rest more
+      (all_lines rest after
+      (subst AllPass (after_done (call_meant d p call) can.action s after (λ x. lines_tests d p rest x more) can.is can.done.effect) (pass_right Passes own behind h)))
+
 -- ---- a text
 
 long_not : (bytes : List ℕ) → length bytes ≤ text_limit → nat_lt text_limit (length bytes) ≡ false
@@ -227,3 +264,23 @@ module _ (d : Domain) (p : tree.Problem) (bytes : List ℕ) where
     | inl x ↦ pair_no_breach d p t x b
     | inr y ↦ lines_not d p plan.lines (expanded d p).initial t (subst (λ ts. FirstFailing ts t) (whole_text plan.lines plan.reads) y.1) b plan.plan
   ]
+
+  -- at the end of a text that is too long something fails
+  is_within : (b : Bool) (s : State) → nat_lt text_limit (length bytes) ≡ b → AllPass (last_tests d p bytes s) → b ≡ false
+  unfolding last_tests
+  is_within true s e h =
+      absurd (long_fails (test_passes too_long [] (subst AllPass (ap (λ (b : Bool). if b then too_long ∷ [] else end_tests d p s) e) h)))
+  is_within false s e h = refl
+
+  within_limit : nat_lt text_limit (length bytes) ≡ false → length bytes ≤ text_limit
+  within_limit e = grind (arith, common_steps)
+
+  -- where all tests pass, the text has lines, and they are a plan
+  pub text_passes : AllPass (numeric_tests d p bytes) → HasPlan d p bytes
+  unfolding numeric_tests text_tests
+  text_passes h =
+      let own : AllPass (text_tests d p bytes) = pass_right Passes (pair_tests d p) (text_tests d p bytes) h in
+      let all = all_lines d p (last_tests d p bytes) (text_lines bytes) (expanded d p).initial own in
+      let short = is_within (nat_lt text_limit (length bytes)) all.after refl all.pass in
+      let reads : Reads bytes all.lines = record { within = within_limit short; read = sym (lines_within bytes short) ∙ all.are } in
+      record { lines = all.lines; reads = reads; plan = text_plan all.lines reads own }
