@@ -1,2 +1,4 @@
 pub mod LiftLemmas
 pub mod TimeLemmas
+pub mod OverflowLemmas
+pub mod OneLift

@@ -48,6 +48,14 @@ pub record IsFirstOverflow (interval : Frac64) (steps : List ℕ) (fault : LiftF
   pub fit : All (λ n. IsFrac64 (time_of_step (fraction_of interval) n)) before
   pub overflow : IsOverflow interval count fault
 
+-- the first of these numbers of steps whose time is no value
+pub record IsFirstLate (q : Fraction) (steps : List ℕ) (count : ℕ) : Type 0 where
+  pub before : List ℕ
+  pub after : List ℕ
+  pub split : steps ≡ before ++ count ∷ after
+  pub fit : All (λ n. IsFrac64 (time_of_step q n)) before
+  pub late : IsFrac64 (time_of_step q count) → ⊥
+
 -- want of memory is free
 abbrev pub IsNotLifted : Frac64 → List Call → LiftFault → Type 0
 IsNotLifted interval calls (Number o) = IsFirstOverflow interval (counts 0 (stripped (names_of calls))) (Number o)

@@ -5,6 +5,8 @@
 
 pub mod fault;
 pub mod lifting;
+mod line;
 
 pub use fault::LiftFault;
 pub use lifting::lift;
+pub use line::overflow_line;

@@ -1,3 +1,4 @@
+pub mod AtomsLemmas
 pub mod DepthLemmas
 pub mod DueLemmas
 pub mod FiresLemmas

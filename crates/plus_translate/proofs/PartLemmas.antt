@@ -4,6 +4,8 @@ use Rattle.std.specs.List.{list_any}
 use Rattle.std.proofs.Common.{ap, sym, ◌∙◌, append-nil, append_assoc}
 use Rattle.plus_tree.specs.declared.names.Spelled.{Spelled}
 use Rattle.plus_tree.specs.declared.terms.TypedName.{TypedName}
+use Rattle.plus_tree.specs.declared.terms.Literal.{Literal}
+use Rattle.plus_tree.specs.declared.terms.Use.{Use}
 use Rattle.plus_tree.specs.declared.trees.Domain.{Domain}
 use Rattle.plus_tree.specs.declared.trees.Problem.{Problem}
 use Rattle.plus_tree.specs.declared.trees.Head.{Head}
@@ -69,3 +71,15 @@ init_some due init e =
     ∙ sym (append_assoc (filter (stays_in_init (set_at_once [] due) (cleared_at_once due)) init) (map Holds (set_at_once [] due)) (Value clock_use (natural 0) nowhere ∷ []))
 
 pub ruleset beginning = (init_none, init_some, append_assoc)
+
+-- the initial state with its clock, put piece by piece
+pub init_put : (due : List Due) (init : List Init) (set cleared atoms : List Use) (begin first second last : List Init) (clock : Use) (start : Literal) → list_any is_later due ≡ true
+    → set ≡ set_at_once [] due → cleared ≡ cleared_at_once due → atoms ≡ set → begin ≡ [] → first ≡ begin ++ filter (stays_in_init set cleared) init → second ≡ first ++ map Holds atoms
+    → clock ≡ clock_use → start ≡ natural 0 → last ≡ second ++ Value clock start nowhere ∷ [] → last ≡ init_translated due init
+init_put due init set cleared atoms begin first second last clock start l s c a b f g u n h =
+    h ∙ ap (λ x. second ++ Value x start nowhere ∷ []) u ∙ ap (λ x. second ++ Value clock_use x nowhere ∷ []) n
+    ∙ ap (λ xs. xs ++ Value clock_use (natural 0) nowhere ∷ [])
+    (g ∙ ap (λ xs. xs ++ map Holds atoms) (f ∙ ap (λ xs. xs ++ filter (stays_in_init set cleared) init) b) ∙ ap (λ xs. filter (stays_in_init set cleared) init ++ map Holds xs) (a ∙ s)
+    ∙ ap (λ xs. filter (stays_in_init xs cleared) init ++ map Holds (set_at_once [] due)) s
+    ∙ ap (λ xs. filter (stays_in_init (set_at_once [] due) xs) init ++ map Holds (set_at_once [] due)) c)
+    ∙ sym (init_some due init l)

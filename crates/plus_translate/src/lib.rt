@@ -4,6 +4,7 @@
 //! translation adds, a timed literal is no whole number of steps away, or the text would nest too deep.
 #![tactic(auto)]
 
+pub mod atoms;
 mod depth;
 mod domain;
 pub mod due;
