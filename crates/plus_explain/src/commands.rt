@@ -11,7 +11,7 @@ pub struct Form {
 }
 
 /// The commands, in the order in which they are listed. A command is added by a line here.
-pub static FORMS: [Form; 4] = [
+pub static FORMS: [Form; 5] = [
     Form {
         words: "check DOMAIN PROBLEM PLAN",
         does: "checks a plan, and writes what happens",
@@ -19,6 +19,10 @@ pub static FORMS: [Form; 4] = [
     Form {
         words: "check DOMAIN PROBLEM PLAN --happenings N",
         does: "the same, for a plan that enters at most N moments",
+    },
+    Form {
+        words: "numeric DOMAIN PROBLEM PLAN",
+        does: "checks a plan without time",
     },
     Form {
         words: "show domain DOMAIN",

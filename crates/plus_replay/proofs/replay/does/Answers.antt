@@ -1,0 +1,14 @@
+use Rattle.plus_number.specs.Frac.{fraction_of}
+use Rattle.plus_state.specs.View.{problem_of, action_of}
+use Rattle.plus_replay.proofs.Unmet.{action_there, fits_there}
+use Rattle.plus_replay.proofs.replay.does.Goals as goal
+
+pub act-requires-clause-action : goal.act-requires-clause-action
+act-requires-clause-action c =
+    λ going. action_there (problem_of fraction_of c.args.ground.now) c.args.timeline.now.line c.requires.rests.goes.knows.serves (action_of fraction_of c.args.action.now) c.requires.fits
+
+pub append_failing-requires : goal.append_failing-requires
+append_failing-requires c =
+    let a = action_of fraction_of c.args.action.now in
+    fits_there (problem_of fraction_of c.args.ground.now) c.args.timeline.now.line c.requires.rests.goes.knows.serves c.act.new.self.line c.state.result.now a.condition c.in-Err.ensures.refused c.state.ensures.fits
+    c.requires.fits.0
