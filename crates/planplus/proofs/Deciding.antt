@@ -10,7 +10,7 @@ use Rattle.plus_validator.proofs.Excluding.{not_groundable}
 use Rattle.plus_validator.proofs.Deciding as plan
 use Rattle.planplus.specs.declared.run.Status.{Status}
 use Rattle.planplus.specs.declared.run.Status.TheVariants as s
-use Rattle.planplus.specs.Command.{Command, Check, ShowDomain, ShowProblem}
+use Rattle.planplus.specs.Command.{Command, Check, ShowDomain, ShowProblem, Numeric}
 use Rattle.planplus.specs.Headline.{SpellsWellTyped, IsValidRun, IsRefusedRun, OnRefusal, status_of, IsAnswer}
 use Rattle.planplus.specs.Laws.{IsSettled, IsInside, IsDecided, is_valid, is_invalid, Decides, DecidesFor}
 use Rattle.planplus.proofs.OneAnswer.{pair_once, pair_or_not, Checked, by_pair, by_ground, by_plan, check_wrote, no_usage}
@@ -59,5 +59,6 @@ pub decides_for : (command : Option Command) (bytes : List ℕ → Option (List 
 decides_for None bytes old new a b c e status h = tt
 decides_for (Some (ShowDomain file)) bytes old new a b c e status h = tt
 decides_for (Some (ShowProblem file)) bytes old new a b c e status h = tt
+decides_for (Some (Numeric dn pn ln)) bytes old new a b c e status h = tt
 decides_for (Some (Check dn pn ln n)) bytes old new a b c e status h = λ ds ps ls d p i j l k g.
     decides dn pn ln n bytes old new a b c e status ds ps ls d p i j l k h g

@@ -1,4 +1,4 @@
--- A command over the same files has one answer.
+-- A check and a text that is shown have one answer over the same files.
 use Rattle.std.proofs.Common.{◌≡◌, ℕ, ◌≤◌, ◌<◌, List, [], ◌++◌, length, Option, Some, None, subst, sym, ◌∙◌, ap, refl, arith, inl, inr}
 use Rattle.std.specs.Prelude.{IfSome, IsSome}
 use Rattle.std.specs.Io.KnownBytes.{append_known}
@@ -43,13 +43,13 @@ early_once a b e = cc e
 -- ---- one text
 
 -- a text spells one domain, whatever depth is allowed
-domain_spelled_once : (text : List ℕ) (d e : Domain) → SpellsWithin depth_limit text d → SpellsWithin depth_limit text e → d ≡ e
+pub domain_spelled_once : (text : List ℕ) (d e : Domain) → SpellsWithin depth_limit text d → SpellsWithin depth_limit text e → d ≡ e
 domain_spelled_once text d e (ts, is, t, w) (us, js, u, x) = one_domain_only text d e (ts, is, t) (us, js, u)
 
-problem_spelled_once : (text : List ℕ) (p q : Problem) → SpellsProblemWithin depth_limit text p → SpellsProblemWithin depth_limit text q → p ≡ q
+pub problem_spelled_once : (text : List ℕ) (p q : Problem) → SpellsProblemWithin depth_limit text p → SpellsProblemWithin depth_limit text q → p ≡ q
 problem_spelled_once text p q (ts, is, t, w) (us, js, u, x) = one_problem_only text p q (ts, is, t) (us, js, u)
 
-domain_refused_once : (text : List ℕ) (e f : Early) → DomainRefused text e → DomainRefused text f → e ≡ f
+pub domain_refused_once : (text : List ℕ) (e f : Early) → DomainRefused text e → DomainRefused text f → e ≡ f
 domain_refused_once text e f (long_domain l i) (long_domain m j) = i ∙ sym j
 domain_refused_once text e f (long_domain l i) (no_domain fault w n place j) = absurd (over (length text) l w)
 domain_refused_once text e f (no_domain fault w n place i) (long_domain m j) = absurd (over (length text) m w)
@@ -57,7 +57,7 @@ domain_refused_once text e f (no_domain fault w n place i) (no_domain fault' w' 
     let same : fault ≡ fault' = domains.one_place depth_limit text fault fault' (omega arith) place place' in
     early_once e f (sym i ∙ ap (text_refusal texts.Domain (length text)) same ∙ j)
 
-problem_refused_once : (text : List ℕ) (e f : Early) → ProblemRefused text e → ProblemRefused text f → e ≡ f
+pub problem_refused_once : (text : List ℕ) (e f : Early) → ProblemRefused text e → ProblemRefused text f → e ≡ f
 problem_refused_once text e f (long_problem l i) (long_problem m j) = i ∙ sym j
 problem_refused_once text e f (long_problem l i) (no_problem fault w n place j) = absurd (over (length text) l w)
 problem_refused_once text e f (no_problem fault w n place i) (long_problem m j) = absurd (over (length text) m w)
@@ -66,11 +66,11 @@ problem_refused_once text e f (no_problem fault w n place i) (no_problem fault' 
     early_once e f (sym i ∙ ap (text_refusal texts.Problem (length text)) same ∙ j)
 
 -- no text is refused and spells a tree
-domain_or_not : (text : List ℕ) (e : Early) (d : Domain) → DomainRefused text e → length text ≤ text_limit → SpellsWithin depth_limit text d → ⊥
+pub domain_or_not : (text : List ℕ) (e : Early) (d : Domain) → DomainRefused text e → length text ≤ text_limit → SpellsWithin depth_limit text d → ⊥
 domain_or_not text e d (long_domain l i) w sp = over (length text) l w
 domain_or_not text e d (no_domain fault v n place i) w sp = n d sp
 
-problem_or_not : (text : List ℕ) (e : Early) (p : Problem) → ProblemRefused text e → length text ≤ text_limit → SpellsProblemWithin depth_limit text p → ⊥
+pub problem_or_not : (text : List ℕ) (e : Early) (p : Problem) → ProblemRefused text e → length text ≤ text_limit → SpellsProblemWithin depth_limit text p → ⊥
 problem_or_not text e p (long_problem l i) w sp = over (length text) l w
 problem_or_not text e p (no_problem fault v n place i) w sp = n p sp
 
@@ -88,7 +88,7 @@ first_fault_once faults (types.At wrong file span) (types.At wrong' file' span')
     let same : types.At wrong file span ≡ types.At wrong' file' span' = cc some in
     early_once e f (sym i ∙ ap type_refusal same ∙ j)
 
-pair_refused_once : (ds ps : List ℕ) (e f : Early) → PairRefused ds ps e → PairRefused ds ps f → e ≡ f
+pub pair_refused_once : (ds ps : List ℕ) (e f : Early) → PairRefused ds ps e → PairRefused ds ps f → e ≡ f
 pair_refused_once ds ps e f (by_domain a) (by_domain b) = domain_refused_once ds e f a b
 pair_refused_once ds ps e f (by_domain a) (by_problem d w sp b) = absurd (domain_or_not ds e d a w sp)
 pair_refused_once ds ps e f (by_domain a) (by_types d p fault sp b i) = absurd (domain_or_not ds e d a sp.domain_within sp.domain_spelled)
@@ -135,7 +135,7 @@ judged n d p ls outcomes.ReadFault w h = absurd h
 judged n d p ls outcomes.WriteFault w h = absurd h
 judged n d p ls outcomes.NoMemory w h = absurd h
 
-abbrev Same : Status → Status → List ℕ → List ℕ → Type 0
+abbrev pub Same : Status → Status → List ℕ → List ℕ → Type 0
 Same x y w v = (x ≡ y) × (w ≡ v)
 
 module _ (n : ℕ) (ds ps ls : List ℕ) (x y : Status) (w v : List ℕ) where
@@ -197,7 +197,7 @@ pub record Wrote (Says : Status → List ℕ → Type 0) (old new : Option (List
   pub took : Took old new written
   pub says : Says status written
 
-wrote_once :
+pub wrote_once :
     (Says : Status → List ℕ → Type 0) (old new new' : Option (List ℕ)) (x y : Status) → ((w v : List ℕ) → Says x w → Says y v → Same x y w v)
     → Wrote Says old new x → Wrote Says old new' y → (x ≡ y) × (new ≡ new')
 wrote_once Says old new new' x y once a b =
@@ -259,7 +259,7 @@ module _ {T : Type 0} (Spells : List ℕ → T → Type 0) (canon : T → List �
 -- ---- two answers
 
 -- of a check, where the shelf tells its files
-both_checks :
+pub both_checks :
     (n : ℕ) (d p l : Option (List ℕ)) (old new new' : Option (List ℕ)) (x y : Status) → IsSome d → IsSome p → IsSome l → IsSettled x → IsSettled y
     → (x ≡ s.Valid → IfSome d (λ ds. IfSome p (λ ps. IfSome l (λ ls. IsValidRun n ds ps ls old new))))
     → OnRefusal x (IfSome d (λ ds. IfSome p (λ ps. IsRefusedRun n ds ps l old new x))) → (x ≡ s.Usage → ⊥)
@@ -275,7 +275,7 @@ both_checks n (Some ds) (Some ps) (Some ls) old new new' x y i j k g h v r u w q
 
 -- of `show`, where the shelf tells its file
 module _ {T : Type 0} (Spells : List ℕ → T → Type 0) (canon : T → List ℕ) (Refused : List ℕ → Early → Type 0) where
-  both_shows :
+  pub both_shows :
       (o : Option (List ℕ)) (old new new' : Option (List ℕ)) (x y : Status) → IsSome o
       → ((text : List ℕ) (a b : T) → Spells text a → Spells text b → a ≡ b) → ((text : List ℕ) (e f : Early) → Refused text e → Refused text f → e ≡ f)
       → ((text : List ℕ) (e : Early) (a : T) → Refused text e → length text ≤ text_limit → Spells text a → ⊥)
@@ -289,26 +289,6 @@ module _ {T : Type 0} (Spells : List ℕ → T → Type 0) (canon : T → List �
       (λ a b. showed_once Spells canon Refused text x y a b (trees text) (lines text) (apart text))
       (show_wrote Spells canon Refused text old new x g v r u) (show_wrote Spells canon Refused text old new' y h w q t)
 
--- the words are no command
-usage_once : (old new new' : Option (List ℕ)) (c d c' d' : ℕ) (x y : Status) → IsSettled x → IsSettled y → Writes usage_line s.Usage old new c d x → Writes usage_line s.Usage old new' c' d' y → (x ≡ y) × (new ≡ new')
-usage_once old new new' c d c' d' x y g h (inl a) (inl b) = (a.0 ∙ sym b.0, a.1 ∙ sym b.1)
-usage_once old new new' c d c' d' x y g h (inl a) (inr b) = absurd (subst IsSettled b.0 h)
-usage_once old new new' c d c' d' x y g h (inr a) b = absurd (subst IsSettled a.0 g)
-
+-- ---- the words are a command
 pub no_usage : (c : Command) (x : Status) → (x ≡ s.Usage → Some c ≡ None) → x ≡ s.Usage → ⊥
 no_usage c x f e = let k : Some c ≡ None = f e in cc k
-
-pub one_answer : OneAnswer
-one_answer None bytes old new new' a b c d a' b' c' d' x y t h k g i =
-    usage_once old new new' c d c' d' x y g i (h.no_command refl) (k.no_command refl)
-one_answer (Some (Check dn pn ln n)) bytes old new new' a b c d a' b' c' d' x y t h k g i =
-    both_checks n (bytes dn) (bytes pn) (bytes ln) old new new' x y t.0 t.1.0 t.1.1.0 g i
-    h.valid h.refused (no_usage (Check dn pn ln n) x h.usage) k.valid k.refused (no_usage (Check dn pn ln n) y k.usage)
-one_answer (Some (ShowDomain f)) bytes old new new' a b c d a' b' c' d' x y t h k g i =
-    both_shows (SpellsWithin depth_limit) domain_text DomainRefused (bytes f) old new new' x y t.0
-    domain_spelled_once domain_refused_once domain_or_not g i
-    h.valid h.refused (no_usage (ShowDomain f) x h.usage) k.valid k.refused (no_usage (ShowDomain f) y k.usage)
-one_answer (Some (ShowProblem f)) bytes old new new' a b c d a' b' c' d' x y t h k g i =
-    both_shows (SpellsProblemWithin depth_limit) problem_text ProblemRefused (bytes f) old new new' x y t.0
-    problem_spelled_once problem_refused_once problem_or_not g i
-    h.valid h.refused (no_usage (ShowProblem f) x h.usage) k.valid k.refused (no_usage (ShowProblem f) y k.usage)

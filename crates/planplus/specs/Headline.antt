@@ -4,10 +4,8 @@ use Rattle.plus_io.specs.Faults.{Rose}
 use Rattle.plus_io.specs.Taken.{Took, TookPart}
 use Rattle.plus_tree.specs.declared.trees.Domain.{Domain}
 use Rattle.plus_tree.specs.declared.trees.Problem.{Problem}
-use Rattle.plus_types.specs.Faults.{type_faults}
 use Rattle.plus_report.specs.declared.refusals.Early.{Early}
 use Rattle.plus_validator.specs.declared.judge.Outcome.{Outcome}
-use Rattle.plus_validator.specs.declared.judge.Outcome.TheVariants as outcomes
 use Rattle.planplus.specs.declared.run.Status.{Status}
 use Rattle.planplus.specs.declared.run.Status.TheVariants as s
 use Rattle.plus_report.specs.Refusals.{early_text}
@@ -15,15 +13,13 @@ use Rattle.plus_validator.specs.Validates.{Accepts, Refuses, BreaksOff, RefusesP
 use Rattle.plus_parser.specs.SpellsDomain.{SpellsWithin}
 use Rattle.plus_parser.specs.SpellsProblem.{SpellsProblemWithin}
 use Rattle.plus_printer.specs.Canon.{domain_text, problem_text}
-use Rattle.planplus.specs.Command.{Command, Check, ShowDomain, ShowProblem}
-use Rattle.planplus.specs.Pair.{depth_limit, SpellsPair, PairRefused, DomainRefused, ProblemRefused}
+use Rattle.planplus.specs.Command.{Command, Check, ShowDomain, ShowProblem, Numeric}
+use Rattle.planplus.specs.Pair.{depth_limit, PairRefused, DomainRefused, ProblemRefused}
+pub use Rattle.planplus.specs.Pair.{SpellsWellTyped}
 use Rattle.planplus.specs.Statuses.{early_status, Writes}
+pub use Rattle.planplus.specs.Statuses.{status_of}
+use Rattle.planplus.specs.Numeric.{RunsNumeric, RefusesNumeric, BreaksNumeric}
 use Rattle.planplus.specs.Shown.{IsShown, IsNotShown, IsShownInPart}
-
--- the two texts spell this pair, and it is well typed
-pub record SpellsWellTyped (domain problem : List ℕ) (d : Domain) (p : Problem) : Type 0 where
-  pub spelled : SpellsPair domain problem d p
-  pub well_typed : type_faults d p ≡ []
 
 -- The bytes under the three names spell a well-typed pair and a plan of lines, exactly one trajectory of the pair has
 -- that plan's actions, and between old and new the sink took that trajectory's text and `valid`. The plan enters at most
@@ -43,20 +39,12 @@ RunsValid (Some (ShowDomain file)) bytes old new =
     IfSome (bytes file) (λ text. IsShown (SpellsWithin depth_limit) domain_text text old new)
 RunsValid (Some (ShowProblem file)) bytes old new =
     IfSome (bytes file) (λ text. IsShown (SpellsProblemWithin depth_limit) problem_text text old new)
+RunsValid (Some (Numeric d p l)) bytes old new =
+    IfSome (bytes d) (λ ds. IfSome (bytes p) (λ ps. IfSome (bytes l) (λ ls. RunsNumeric ds ps ls old new)))
 
 -- the line that is written where the words mean no command
 abbrev pub usage_line : List ℕ
 usage_line = codes "usage: planplus COMMAND ARGUMENTS\n"
-
--- the status of a checked plan
-abbrev pub status_of : Outcome → Status
-status_of outcomes.Valid = s.Valid
-status_of outcomes.Invalid = s.Invalid
-status_of outcomes.Beyond = s.Beyond
-status_of outcomes.BadText = s.BadText
-status_of outcomes.ReadFault = s.ReadFault
-status_of outcomes.WriteFault = s.WriteFault
-status_of outcomes.NoMemory = s.NoMemory
 
 -- The command is refused, and between old and new the sink took: one line, where the two texts are no well-typed pair;
 -- one line, where the pair is not grounded; else the report of what happens before the refusal, and the verdict line.
@@ -92,6 +80,8 @@ RunsRefused (Some (Check d p l n)) bytes old new status =
     IfSome (bytes d) (λ ds. IfSome (bytes p) (λ ps. IsRefusedRun n ds ps (bytes l) old new status))
 RunsRefused (Some (ShowDomain file)) bytes old new status = IfSome (bytes file) (λ text. IsNotShown DomainRefused text old new status)
 RunsRefused (Some (ShowProblem file)) bytes old new status = IfSome (bytes file) (λ text. IsNotShown ProblemRefused text old new status)
+RunsRefused (Some (Numeric d p l)) bytes old new status =
+    IfSome (bytes d) (λ ds. IfSome (bytes p) (λ ps. IfSome (bytes l) (λ ls. RefusesNumeric ds ps ls old new status)))
 
 -- the same where the sink failed
 abbrev pub RunsBroken : Option Command → (List ℕ → Option (List ℕ)) → Option (List ℕ) → Option (List ℕ) → Type 0
@@ -102,6 +92,8 @@ RunsBroken (Some (ShowDomain file)) bytes old new =
     IfSome (bytes file) (λ text. IsShownInPart (SpellsWithin depth_limit) domain_text DomainRefused text old new)
 RunsBroken (Some (ShowProblem file)) bytes old new =
     IfSome (bytes file) (λ text. IsShownInPart (SpellsProblemWithin depth_limit) problem_text ProblemRefused text old new)
+RunsBroken (Some (Numeric d p l)) bytes old new =
+    IfSome (bytes d) (λ ds. IfSome (bytes p) (λ ps. IfSome (bytes l) (λ ls. BreaksNumeric ds ps ls old new)))
 
 -- the number that the process ends with
 abbrev pub exit_number : Status → ℕ

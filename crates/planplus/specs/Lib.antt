@@ -5,5 +5,6 @@ pub mod Pair
 pub mod Reads
 pub mod Statuses
 pub mod Shown
+pub mod Numeric
 pub mod Headline
 pub mod Laws

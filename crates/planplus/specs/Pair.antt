@@ -1,6 +1,6 @@
 -- The domain and the problem that two texts spell, and why two texts are no pair. The domain's text comes first: its
 -- length, then its tree; then the problem's; then their types.
-use Rattle.std.specs.Prelude.{◌≡◌, ℕ, ◌+◌, ◌-◌, ◌^◌, ◌<◌, ◌≤◌, min, List, length}
+use Rattle.std.specs.Prelude.{◌≡◌, ℕ, ◌+◌, ◌-◌, ◌^◌, ◌<◌, ◌≤◌, min, List, [], length}
 use Rattle.plus_tokens.specs.declared.token.LexFault.TheVariants as lex
 use Rattle.plus_tree.specs.declared.faults.TextFault.{TextFault}
 use Rattle.plus_tree.specs.declared.faults.TextFault.TheVariants as faults
@@ -96,3 +96,8 @@ pub data PairRefused (domain problem : List ℕ) (e : early.Early) : Type 0 wher
   by_types :
       (d : Domain) (p : Problem) (fault : TypeFault) → SpellsPair domain problem d p → IsFirstFault (type_faults d p) fault
       → type_refusal fault ≡ Early e → PairRefused domain problem e
+
+-- the two texts spell this pair, and it is well typed
+pub record SpellsWellTyped (domain problem : List ℕ) (d : Domain) (p : Problem) : Type 0 where
+  pub spelled : SpellsPair domain problem d p
+  pub well_typed : type_faults d p ≡ []

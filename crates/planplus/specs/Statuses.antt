@@ -4,6 +4,8 @@ use Rattle.plus_io.specs.Faults.{Rose}
 use Rattle.plus_io.specs.Taken.{Took, TookPart}
 use Rattle.plus_report.specs.declared.refusals.Early.{Early}
 use Rattle.plus_report.specs.declared.refusals.Early.TheVariants.{BadText, BadLine}
+use Rattle.plus_validator.specs.declared.judge.Outcome.{Outcome}
+use Rattle.plus_validator.specs.declared.judge.Outcome.TheVariants as outcomes
 use Rattle.planplus.specs.declared.run.Status.{Status}
 use Rattle.planplus.specs.declared.run.Status.TheVariants as s
 
@@ -12,6 +14,16 @@ abbrev pub early_status : Early → Status
 early_status (BadText text start finish word) = s.BadText
 early_status (BadLine line start finish) = s.BadText
 early_status _ = s.Beyond
+
+-- the status of a checked plan
+abbrev pub status_of : Outcome → Status
+status_of outcomes.Valid = s.Valid
+status_of outcomes.Invalid = s.Invalid
+status_of outcomes.Beyond = s.Beyond
+status_of outcomes.BadText = s.BadText
+status_of outcomes.ReadFault = s.ReadFault
+status_of outcomes.WriteFault = s.WriteFault
+status_of outcomes.NoMemory = s.NoMemory
 
 -- the line was written, and this is the status; or the sink failed in it
 abbrev pub Writes : List ℕ → Status → Option (List ℕ) → Option (List ℕ) → ℕ → ℕ → Status → Type 0

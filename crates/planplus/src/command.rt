@@ -1,7 +1,7 @@
 //! The words of the command line.
 
 ghost use Rattle.std.specs.Prelude.{◌≡◌, [], ◌∷◌, map, option_map, string_bytes, IfOk};
-ghost use Rattle.planplus.specs.Command.{check_of, show_of, command_of, files_of};
+ghost use Rattle.planplus.specs.Command.{check_of, with_files, show_of, command_of, files_of};
 ghost use Rattle.planplus.specs.Meant.{meant};
 
 use crate::happenings::Happenings;
@@ -16,6 +16,16 @@ pub enum Command<'a> {
     ShowDomain(&'a str),
     /// `show problem P`: writes the canonical text of a problem.
     ShowProblem(&'a str),
+    /// `numeric D P L`: plays a plan without time.
+    Numeric(PlanFiles<'a>),
+}
+
+/// The files of a plan without time.
+#[derive(Clone, Copy)]
+pub struct PlanFiles<'a> {
+    pub domain: &'a str,
+    pub problem: &'a str,
+    pub plan: &'a str,
 }
 
 /// The files of a check, and how many moments its plan may enter.
@@ -27,18 +37,20 @@ pub struct Check<'a> {
     pub happenings: Happenings,
 }
 
-impl Check<'_> {
-    // The names of its files.
-    fn names(&self, alloc: Global) -> Result<Vec<String>, AllocError>
-        ensures { IfOk result (λ names. map string_bytes names.items
-            ≡ self.now.domain.now ∷ self.now.problem.now ∷ self.now.plan.now ∷ []) }
-    {
-        let mut names = Vec::new(alloc);
-        names.push(String::from_str(alloc, self.domain)?)?;
-        names.push(String::from_str(alloc, self.problem)?)?;
-        names.push(String::from_str(alloc, self.plan)?)?;
-        Ok(names)
-    }
+// Three names of files.
+fn three_names(
+    alloc: Global,
+    domain: &str,
+    problem: &str,
+    plan: &str,
+) -> Result<Vec<String>, AllocError>
+    ensures { IfOk result (λ names. map string_bytes names.items ≡ domain.now ∷ problem.now ∷ plan.now ∷ []) }
+{
+    let mut names = Vec::new(alloc);
+    names.push(String::from_str(alloc, domain)?)?;
+    names.push(String::from_str(alloc, problem)?)?;
+    names.push(String::from_str(alloc, plan)?)?;
+    Ok(names)
 }
 
 // The command `show`, of this kind of text.
@@ -77,23 +89,38 @@ fn counted_check<'a>(
     }
 }
 
+// The command with this name, of these three files.
+fn with_files<'a>(name: &str, files: PlanFiles<'a>) -> Option<Command<'a>>
+    ensures { option_map meant result
+        ≡ with_files name.now files.entry.domain.now files.entry.problem.now files.entry.plan.now }
+{
+    if name == "check" {
+        Some(Command::Check(Check {
+            domain: files.domain,
+            problem: files.problem,
+            plan: files.plan,
+            happenings: Happenings::DEFAULT,
+        }))
+    } else if name == "numeric" {
+        Some(Command::Numeric(files))
+    } else {
+        None
+    }
+}
+
 /// The command that the words mean, if they mean one.
 pub fn parse<'a>(words: &'a [String]) -> Option<Command<'a>>
     ensures { option_map meant result ≡ command_of (map string_bytes words.now) }
 {
     match words {
-        [name, domain, problem, plan] => {
-            if name.as_str() == "check" {
-                Some(Command::Check(Check {
-                    domain: domain.as_str(),
-                    problem: problem.as_str(),
-                    plan: plan.as_str(),
-                    happenings: Happenings::DEFAULT,
-                }))
-            } else {
-                None
-            }
-        }
+        [name, domain, problem, plan] => with_files(
+            name.as_str(),
+            PlanFiles {
+                domain: domain.as_str(),
+                problem: problem.as_str(),
+                plan: plan.as_str(),
+            },
+        ),
         [name, domain, problem, plan, option, number] => {
             if name.as_str() == "check" {
                 counted_check(
@@ -134,7 +161,13 @@ pub fn files(alloc: Global, words: &[String]) -> Result<Vec<String>, AllocError>
 {
     match parse(words) {
         None => Ok(Vec::new(alloc)),
-        Some(Command::Check(check)) => check.names(alloc),
+        Some(Command::Check(check)) => three_names(alloc, check.domain, check.problem, check.plan),
+        Some(Command::Numeric(files)) => three_names(
+            alloc,
+            files.domain,
+            files.problem,
+            files.plan,
+        ),
         Some(Command::ShowDomain(file)) | Some(Command::ShowProblem(file)) => one_name(alloc, file),
     }
 }

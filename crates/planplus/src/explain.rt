@@ -1,13 +1,103 @@
 //! What a person is told beside the answer, on the standard error.
 
-use plus_explain::{Ending, Kept, append_reasons};
+use plus_explain::{Ending, Kept, append_place, append_reasons, word_for};
 use plus_io::{Shelf, Sink};
+use plus_places::{read_domain, read_problem};
+use plus_plan::PlanForm;
+use plus_replay::append_unmet;
+use plus_types::{Typed, check};
 use std::alloc::{AllocError, Global};
 use std::process::ExitCode;
 use std::str;
 
 /// The exit status where memory is wanting.
 const NO_MEMORY: u8 = 7;
+
+// The line of a goal that does not hold.
+const GOAL: &str = "invalid: goal";
+
+// A file, and its text.
+#[derive(Clone, Copy)]
+struct File<'a> {
+    name: &'a str,
+    text: &'a [u8],
+}
+
+// The file that a name of the words' command stands for, as it was read.
+fn file_of<'a, S: Shelf + Drop>(
+    words: &'a [String],
+    shelf: &'a Kept<S>,
+    name: &str,
+) -> Option<File<'a>> {
+    let name = word_for(words, name)?;
+    let text = shelf.text(name)?;
+    Some(File { name, text })
+}
+
+// The form of the plan that the words' command checks.
+fn plan_form(words: &[String]) -> Option<PlanForm> {
+    match words.first()?.as_str() {
+        "check" => Some(PlanForm::Timed),
+        "numeric" => Some(PlanForm::Untimed),
+        _ => None,
+    }
+}
+
+// Whether a verdict says that a condition, the arguments of an action or the goal are not met.
+fn is_unmet(verdict: &str) -> bool {
+    verdict == GOAL
+        || verdict.contains(": precondition of ")
+        || verdict.contains(": wrong arguments of ")
+}
+
+// The well-typed pair that two texts spell.
+fn pair(alloc: Global, domain: &[u8], problem: &[u8]) -> Option<Typed> {
+    let domain = read_domain(alloc, domain).ok()?;
+    let problem = read_problem(alloc, problem).ok()?;
+    check(alloc, domain, problem).ok()
+}
+
+// Appends the place of a goal.
+fn append_goal(into: &mut Vec<u8>, problem: File<'_>, typed: &Typed) -> Result<(), AllocError> {
+    let span = typed.problem.goal.span;
+    if span.start > problem.text.len() {
+        return Ok(());
+    }
+    append_place(
+        into,
+        problem.name,
+        problem.text,
+        span.start,
+        span.end,
+        "goal",
+    )
+}
+
+// Appends what was not met where a plan was refused with this verdict: the place of the goal, if the goal it was, and
+// the member that does not hold, or what is wrong with the arguments of an action.
+fn append_why<S: Shelf + Drop>(
+    into: &mut Vec<u8>,
+    alloc: Global,
+    words: &[String],
+    shelf: &Kept<S>,
+    verdict: &str,
+) -> Result<(), AllocError> {
+    let (Some(form), Some(domain), Some(problem), Some(plan)) = (
+        plan_form(words),
+        file_of(words, shelf, "domain"),
+        file_of(words, shelf, "problem"),
+        file_of(words, shelf, "plan"),
+    ) else {
+        return Ok(());
+    };
+    let Some(typed) = pair(alloc, domain.text, problem.text) else {
+        return Ok(());
+    };
+    if verdict == GOAL {
+        append_goal(into, problem, &typed)?;
+    }
+    append_unmet(into, alloc, &typed, plan.text, form)
+}
 
 // What there is to tell.
 fn reasons<S: Shelf + Drop, O: Sink + Drop>(
@@ -18,6 +108,11 @@ fn reasons<S: Shelf + Drop, O: Sink + Drop>(
 ) -> Result<Vec<u8>, AllocError> {
     let mut text = Vec::new(alloc);
     append_reasons(&mut text, words, shelf, out)?;
+    if let Some(verdict) = out.verdict() {
+        if is_unmet(verdict) {
+            append_why(&mut text, alloc, words, shelf, verdict)?;
+        }
+    }
     Ok(text)
 }
 

@@ -12,6 +12,9 @@ pub mod laws;
 mod limit_tests;
 #[cfg(test)]
 mod moving_tests;
+mod numeric;
+#[cfg(test)]
+mod numeric_tests;
 mod pair;
 mod run;
 mod screen;

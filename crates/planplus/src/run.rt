@@ -13,6 +13,7 @@ ghost use Rattle.planplus.specs.Statuses.{early_status, Writes};
 ghost use Rattle.planplus.specs.Meant.{meant};
 
 use crate::command::{Check, Command, parse};
+use crate::numeric::numeric;
 use crate::pair::{Refusal, pair};
 use crate::show::{show_domain, show_problem};
 use plus_io::{Shelf, Sink, write_all};
@@ -108,6 +109,18 @@ pub fn refuse<O: Sink>(out: &mut O, early: &Early) -> Status
     }
 }
 
+/// Writes one line, and answers this status.
+pub fn tell<O: Sink>(out: &mut O, line: &[u8], status: Status) -> Status
+    ensures writes { Writes line.now status (O.taken out.old) (O.taken out.new)
+        (O.faults out.old) (O.faults out.new) result }
+    ensures no_fall { O.faults out.old ≤ O.faults out.new }
+{
+    match write_all(out, line) {
+        Ok(()) => status,
+        Err(_) => Status::WriteFault,
+    }
+}
+
 // `check`: reads the pair, and checks the plan.
 fn check<S: Shelf, O: Sink>(alloc: Global, files: Check<'_>, shelf: &mut S, out: &mut O) -> Status
     ensures answers { IsAnswer (Some (meant (Command.Check files.entry))) (S.bytes shelf.old)
@@ -153,6 +166,7 @@ fn carry_out<S: Shelf, O: Sink>(
         Some(Command::Check(files)) => check(alloc, files, shelf, out),
         Some(Command::ShowDomain(file)) => show_domain(alloc, file, shelf, out),
         Some(Command::ShowProblem(file)) => show_problem(alloc, file, shelf, out),
+        Some(Command::Numeric(files)) => numeric(alloc, files, shelf, out),
     }
 }
 

@@ -1,4 +1,4 @@
-use Rattle.planplus.proofs.OneAnswer as answers
+use Rattle.planplus.proofs.OneCommand as answers
 use Rattle.planplus.proofs.laws.one_answer.Goals as goal
 
 pub returns : goal.returns
