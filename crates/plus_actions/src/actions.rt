@@ -1,0 +1,99 @@
+//! The ground actions of a pair.
+
+ghost use Rattle.std.specs.Prelude.{◌≡◌, ◌≤◌, ◌++◌, map, length, IfOk, OnOk, MatchResult};
+ghost use Rattle.plus_state.specs.View.{action_of};
+ghost use Rattle.plus_actions.specs.Actions.{named_by, ground_actions, IsGroundable, RefusesActions, AllFit};
+ghost use Rattle.plus_actions.specs.Inside.{IsInside};
+
+use crate::calls::{add, call};
+use crate::choices::choices;
+use crate::counting::within;
+use crate::literals::fit;
+use plus_ground::GroundFault;
+use plus_literal::FromParts;
+use plus_numbering::{CountFault, Numbering};
+use plus_state::Action;
+use plus_tree::Schema;
+use plus_types::File;
+use std::alloc::{AllocError, Global};
+
+// Adds the instances of an action, one for each choice of objects for its parameters.
+fn put<Q: FromParts>(
+    alloc: Global,
+    numbering: &Numbering,
+    schema: &Schema,
+    into: &mut Vec<Action<Q>>,
+) -> Result<(), AllocError>
+    requires { IsInside Q.fits numbering.now.typed.now.domain numbering.now.typed.now.problem }
+    ensures { OnOk result (map (action_of Q.value) into.new.items ≡ map (action_of Q.value) into.old.items
+        ++ named_by numbering.now.typed.now.domain numbering.now.typed.now.problem schema.now) }
+{
+    let lists = choices(alloc, numbering, schema.params.as_slice())?;
+    'lists: for objects in &lists {
+        let call = call(
+            alloc,
+            numbering.typed,
+            schema.name.name.bytes(),
+            objects.as_slice(),
+        )?;
+        add(alloc, numbering, &call, into)?;
+    }
+    Ok(())
+}
+
+// The ground actions of a pair inside the limits.
+fn build<Q: FromParts>(alloc: Global, numbering: &Numbering) -> Result<Vec<Action<Q>>, AllocError>
+    requires { IsInside Q.fits numbering.now.typed.now.domain numbering.now.typed.now.problem }
+    ensures { IfOk result (λ actions. map (action_of Q.value) actions.items
+        ≡ ground_actions numbering.now.typed.now.domain numbering.now.typed.now.problem) }
+{
+    let mut actions = Vec::new(alloc);
+    'schemas: for schema in numbering.typed.domain().actions.as_slice() {
+        put(alloc, numbering, schema, &mut actions)?;
+    }
+    Ok(actions)
+}
+
+// Tests that the ground actions are inside the limits, and that the literals of the actions are values of
+// the type of numbers.
+fn test<Q: FromParts>(numbering: &Numbering) -> Result<(), GroundFault>
+    ensures { MatchResult result
+        (λ _. IsGroundable Q.fits numbering.now.typed.now.domain numbering.now.typed.now.problem)
+        (RefusesActions Q.fits numbering.now.typed.now.domain numbering.now.typed.now.problem) }
+{
+    match within(numbering) {
+        Ok(()) => {}
+        Err(CountFault::TooMany { kind, most }) => {
+            return Err(GroundFault::TooMany { kind, most });
+        }
+        Err(CountFault::Memory) => return Err(GroundFault::Memory),
+    }
+    match fit::<Q>(numbering.typed.domain().actions.as_slice()) {
+        Ok(()) => Ok(()),
+        Err(span) => Err(GroundFault::Literal {
+            file: File::Domain,
+            span,
+        }),
+    }
+}
+
+/// The ground actions of a pair: action by action, the instances that its calls with objects of the types
+/// of its parameters name, the first parameter changing slowest. `TooMany` comes where there are more
+/// than 10,000 of them, else where they have more than 1,000,000 nodes together; then `Literal` at the
+/// first literal of the actions that is no value of the type of numbers.
+pub fn ground_actions<Q: FromParts>(
+    alloc: Global,
+    numbering: &Numbering,
+) -> Result<Vec<Action<Q>>, GroundFault>
+    ensures are { IfOk result (λ actions. map (action_of Q.value) actions.items
+        ≡ ground_actions numbering.now.typed.now.domain numbering.now.typed.now.problem) }
+    ensures fit { IfOk result (λ actions. AllFit numbering.now.typed.now.domain numbering.now.typed.now.problem
+        (map (action_of Q.value) actions.items)) }
+    ensures few { IfOk result (λ actions. length actions.items ≤ 10000) }
+    ensures limits { MatchResult result
+        (λ _. IsGroundable Q.fits numbering.now.typed.now.domain numbering.now.typed.now.problem)
+        (RefusesActions Q.fits numbering.now.typed.now.domain numbering.now.typed.now.problem) }
+{
+    test::<Q>(numbering)?;
+    Ok(build(alloc, numbering)?)
+}
