@@ -13,3 +13,7 @@ pub mod PlaceLemmas
 pub mod TakenLemmas
 pub mod DecidingLemmas
 pub mod WorldLemmas
+pub mod ListingLemmas
+pub mod SearchLemmas
+pub mod Beginning
+pub mod SearchingLemmas

@@ -27,7 +27,7 @@ last_now start (y ∷ ys) x e = last_at start (y ∷ ys) x (length (y ∷ ys) - 
 
 -- ---- one decision more on the way to the last action
 
-drop_at : {Q : Type 0} (xs : List (Taken Q)) (i : ℕ) (x : Taken Q) → i < length xs → x ≡ slice_index_or xs i x → drop i xs ≡ x ∷ drop (i + 1) xs
+pub drop_at : {Q : Type 0} (xs : List (Taken Q)) (i : ℕ) (x : Taken Q) → i < length xs → x ≡ slice_index_or xs i x → drop i xs ≡ x ∷ drop (i + 1) xs
 drop_at xs i x h e =
     drop-cons xs i x h ∙ ap (λ z. z ∷ drop (suc i) xs) (sym e) ∙ ap (λ k. x ∷ drop k xs) (let f : suc i ≡ i + 1 = omega arith in f)
 

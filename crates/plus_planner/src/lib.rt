@@ -1,10 +1,17 @@
-//! What a plan on a grid of times is, and how a walk over decisions goes on by one more.
+//! What a plan on a grid of times is, and a bounded search for one.
 #![tactic(auto)]
 
 pub mod carrying;
 pub mod deciding;
+pub mod goals;
 pub mod guides;
 pub mod laws;
+pub mod listing;
 pub mod places;
+pub mod planner;
+pub mod searching;
 
+pub use goals::ByGoal;
 pub use guides::Guide;
+pub use planner::Planner;
+pub use searching::Answer;

@@ -1,0 +1,104 @@
+-- A search begins with the timeline at time 0, where it comes there.
+use Rattle.std.proofs.Common.{◌≡◌, inr, ℕ, ◌≤◌, List, [], ◌∷◌, ◌++◌, refl, sym, subst, ◌∙◌}
+use Rattle.std.specs.Prelude.{pos}
+use Rattle.plus_fraction.specs.Fraction.{Fraction, whole, ◌≤ℚ◌}
+use Rattle.plus_fraction.proofs.FractionRing.{zero-*ℚ}
+use Rattle.plus_fraction.proofs.FractionAtMost.{≤ℚ_refl}
+use Rattle.plus_model.specs.Terms.{Problem}
+use Rattle.plus_model.specs.History.{Part}
+use Rattle.plus_model.specs.Trajectory.{first_part}
+use Rattle.plus_search.proofs.Bounds.{nothing_starts}
+use Rattle.plus_search.specs.declared.spaces.Fate.{Fate}
+use Rattle.plus_search.specs.declared.spaces.Fate.TheVariants.{Alive, Broken, Beyond}
+use Rattle.plus_timeline.specs.Timeline.{TimelineView, begun}
+use Rattle.plus_timeline.proofs.Serving.{begun_serves}
+use Rattle.plus_planner.specs.Grid.{Task, timed, AllTimes, IsClearIn, Plays, IsAlive, EndsBeyond, GridPlan}
+use Rattle.plus_planner.specs.Standing.{CanReach, IsOnWay, Carried}
+use Rattle.plus_planner.specs.Places.{StandsAt, CanSearch, uncut}
+use Rattle.plus_planner.specs.Searches.{HasNone}
+use Rattle.plus_planner.specs.Worlds.{Stands}
+use Rattle.plus_planner.proofs.Walks.{Ends, now_of, broken_ends, halts_at, carried_ends}
+use Rattle.plus_planner.proofs.SearchLemmas.{uncut_is_tree, no_plan, beyond_number}
+
+-- it may be carried to time 0
+pub begun_reach : (P : Problem) (most : ℕ) (t : TimelineView) (u : Fraction) → t ≡ begun P most → u ≡ whole (pos 0) → 1 ≤ most → CanReach P u t
+begun_reach P most t u e f m = subst (CanReach P u) (sym e) record {
+  goes = record { serves = begun_serves P most; going = refl; within = m };
+  ahead = subst (λ (z : Fraction). whole (pos 0) ≤ℚ z) (sym f) (≤ℚ_refl (whole (pos 0)));
+  room = tt;
+}
+
+nothing_left : (xs ys : List Part) (x : Part) → x ∷ [] ≡ (x ∷ xs) ++ ys → ys ≡ []
+nothing_left [] ys x e = sym (let f : [] ≡ ys = cc e in f)
+nothing_left (y ∷ xs) ys x e = absurd (let f : [] ≡ y ∷ (xs ++ ys) = cc e in cc f)
+
+module _ (fits : Fraction → Type 0) (task : Task) where
+  clear_first : IsClearIn fits task.problem (timed task []) task.most (first_part task.problem ∷ [])
+  clear_first g rest some p e =
+      absurd (some (nothing_left p.rest rest (first_part task.problem) (subst (λ z. first_part task.problem ∷ [] ≡ z ++ rest) p.begins e)))
+
+  first_way : IsOnWay fits task.problem (timed task []) (now_of task []) 0 (first_part task.problem ∷ []) (begun task.problem task.most)
+  first_way = record {
+    played = record { prefix = record { ordered = tt; rest = []; begins = refl; follow = tt }; now = refl; entries = refl; clear = clear_first };
+    target_is = refl;
+    acted_is = refl;
+  }
+
+  first_times : fits (whole (pos 0)) → AllTimes fits (timed task []).lines
+  first_times f = (subst fits (sym (zero-*ℚ task.interval)) f, tt)
+
+  begin_ends : (u : Fraction) (old new : TimelineView) (fate : Fate) → fits (whole (pos 0)) → u ≡ whole (pos 0) → old ≡ begun task.problem task.most → Carried fits task.problem u old new fate → Ends fits task [] new fate
+  begin_ends u old new fate f e b c =
+      carried_ends fits task [] (begun task.problem task.most) new (first_part task.problem ∷ []) 0 fate (first_times f) refl refl first_way
+      (subst (λ (z : Fraction). Carried fits task.problem z (begun task.problem task.most) new fate) (e ∙ sym (zero-*ℚ task.interval))
+      (subst (λ (z : TimelineView). Carried fits task.problem u z new fate) b c))
+
+  nothing_is : {A : Type 0} (ps qs : List A) (x : A) → [] ≡ ps ++ x ∷ qs → ⊥
+  nothing_is [] qs x e = cc e
+  nothing_is (p ∷ ps) qs x e = cc e
+
+  both_empty : (ps qs : List ℕ) → [] ≡ ps ++ qs → (ps ≡ []) × (qs ≡ [])
+  both_empty [] qs e = (refl, sym e)
+  both_empty (p ∷ ps) qs e = cc e
+
+  -- it comes there: the walk stands at the beginning
+  pub begin_stands : {Q : Type 0} (u : Fraction) (old new : TimelineView) (atoms fluents : ℕ) → fits (whole (pos 0)) → u ≡ whole (pos 0) → old ≡ begun task.problem task.most → CanSearch task → atoms ≡ task.problem.atoms → fluents ≡ task.problem.fluents → Carried fits task.problem u old new Alive → Stands {Q = Q} fits task atoms fluents new []
+  begin_stands {Q} u old new atoms fluents f e b can a k c =
+      let s : StandsAt fits task [] new = begin_ends u old new Alive f e b c in
+      record {
+        behind = record {
+          can = can;
+          first = s;
+          each = λ front back x g. absurd (nothing_is front back x g);
+          alive = record {
+            each = λ ps qs g. (s.history, subst (λ z. Plays fits task z s.history) (sym (both_empty ps qs g).0) s.plays);
+            within = λ ps qs d g. absurd (nothing_is ps qs d g);
+          };
+        };
+        tree = uncut_is_tree fits task;
+        guide_atoms = a;
+        guide_fluents = k;
+      }
+
+  module _ (k : ℕ) where
+    none_alive : (IsAlive fits task [] → ⊥) → (ds : List ℕ) → GridPlan fits task k ds → ⊥
+    none_alive n = no_plan fits task k (nothing_starts (uncut fits task) (uncut_is_tree fits task) k n).none
+
+    -- a breach stands there: there is no plan, and nothing is beyond
+    pub begin_broken : (u : Fraction) (old new : TimelineView) → fits (whole (pos 0)) → u ≡ whole (pos 0) → old ≡ begun task.problem task.most → Carried fits task.problem u old new Broken → HasNone fits task k 0
+    begin_broken u old new f e b c =
+        let g = begin_ends u old new Broken f e b c in
+        let n = broken_ends fits task [] (first_times f) g.0 g.1 in
+        record { none = none_alive n.0; number = beyond_number fits task k 0 ((nothing_starts (uncut fits task) (uncut_is_tree fits task) k n.0).broken n.1) }
+
+    -- a limit stands there: there is no plan, and the empty list is beyond
+    pub begin_beyond : (u : Fraction) (old new : TimelineView) → fits (whole (pos 0)) → u ≡ whole (pos 0) → old ≡ begun task.problem task.most → Carried fits task.problem u old new Beyond → HasNone fits task k 1
+    begin_beyond u old new f e b c =
+        let g = begin_ends u old new Beyond f e b c in
+        let ends : EndsBeyond fits task [] = record {
+          before = λ ps qs some h. absurd (some (both_empty ps qs h).1);
+          within = λ ps qs d h. absurd (nothing_is ps qs d h);
+          beyond = inr (g.0, halts_at fits task [] g.0 g.1);
+        } in
+        let n : IsAlive fits task [] → ⊥ = λ a. (uncut_is_tree fits task).apart [] a ends in
+        record { none = none_alive n; number = beyond_number fits task k 1 ((nothing_starts (uncut fits task) (uncut_is_tree fits task) k n).beyond ends) }
