@@ -1,11 +1,1 @@
-pub mod AnswerLemmas
 pub mod FilesLemmas
-pub mod HappeningsLemmas
-pub mod PairLemmas
-pub mod OneAnswer
-pub mod OneNumeric
-pub mod OneCommand
-pub mod NumericLemmas
-pub mod Deciding
-pub mod RunLemmas
-pub mod ShowLemmas

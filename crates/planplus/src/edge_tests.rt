@@ -2,9 +2,10 @@
 //! file is taken.
 
 use crate::limit_tests::{peopled, wide};
-use crate::run::{Status, run};
 use crate::tests::{D1, DOOR, OPENED, OPENED_REPORT, check_words, shelf_of};
 use plus_io::{MemShelf, MemSink, Shelf};
+use plus_reply::status::Status;
+use plus_run::run::run;
 use std::alloc::Global;
 use std::process::Abort;
 use std::test::Fail;

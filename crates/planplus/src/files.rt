@@ -5,10 +5,10 @@ ghost use Rattle.std.specs.Prelude.{◌≡◌, ◌<◌, ◌≤◌, take, length,
 ghost use Rattle.std.specs.Str.{bytes_eq};
 ghost use Rattle.plus_io.specs.Stored.{place_of};
 ghost use Rattle.plus_io.specs.Faults.{Rose};
-ghost use Rattle.planplus.specs.Command.{command_of, files_of};
+ghost use Rattle.plus_run.specs.Command.{command_of, files_of};
 
-use crate::command::files;
 use plus_io::{Failed, Shelf};
+use plus_run::command::files;
 use std::alloc::{AllocError, Global};
 use std::fs;
 use std::fs::Files;

@@ -1,8 +1,9 @@
 //! Both sides of each limit: a text at the limit is read, and one past it is refused, with its place.
 
-use crate::run::{Status, run};
 use crate::tests::{D1, DOOR, OPENED, OPENED_REPORT, check_words, expect_run, shelf_of};
 use plus_io::MemSink;
+use plus_reply::status::Status;
+use plus_run::run::run;
 use std::alloc::Global;
 use std::process::Abort;
 use std::test::Fail;

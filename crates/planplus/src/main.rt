@@ -1,24 +1,17 @@
 //! planplus validates timed plans for PDDL+ problems, with exact fractions.
 #![tactic(auto)]
 
-mod command;
 #[cfg(test)]
 mod edge_tests;
 mod explain;
 mod files;
-mod happenings;
-pub mod laws;
 #[cfg(test)]
 mod limit_tests;
 #[cfg(test)]
 mod moving_tests;
-mod numeric;
 #[cfg(test)]
 mod numeric_tests;
-mod pair;
-mod run;
 mod screen;
-mod show;
 #[cfg(test)]
 mod tests;
 #[cfg(test)]
@@ -28,14 +21,14 @@ mod word_tests;
 
 ghost use Rattle.std.specs.Prelude.{◌≡◌, ◌⊎◌, map, string_bytes, None};
 ghost use Rattle.std.specs.Process.{exit_status};
-ghost use Rattle.planplus.specs.Command.{command_of};
-ghost use Rattle.planplus.specs.Headline.{IsAnswer, EndsWith};
+ghost use Rattle.plus_run.specs.Command.{command_of};
+ghost use Rattle.plus_run.specs.Headline.{IsAnswer, EndsWith};
 
 use explain::explain;
 use files::shelf_for;
 use plus_explain::{Ending, Kept};
 use plus_io::{Shelf, Sink};
-use run::run;
+use plus_run::run::run;
 use screen::StdSink;
 use std::alloc::Global;
 use std::env::Env;

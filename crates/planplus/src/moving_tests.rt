@@ -1,9 +1,10 @@
 //! A world that moves: a tank that an event closes, with a valve that a timetable opens, a cascade without an end and a
 //! ramp whose event has no first moment.
 
-use crate::run::{Status, run};
 use crate::tests::{check_words, expect_run, shelf_of};
 use plus_io::{MemSink, QuietShelf, QuietSink};
+use plus_reply::status::Status;
+use plus_run::run::run;
 use std::alloc::Global;
 use std::process::Abort;
 use std::test::Fail;

@@ -1,9 +1,10 @@
 //! Plans without time: what is beyond them, an action whose effects read the state before it, the translation of a tank, and what a
 //! refused line leaves unread.
 
-use crate::run::{Status, run};
 use crate::tests::shelf_of;
 use plus_io::{MemShelf, MemSink};
+use plus_reply::status::Status;
+use plus_run::run::run;
 use std::alloc::Global;
 use std::process::Abort;
 use std::test::Fail;

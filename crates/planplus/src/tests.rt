@@ -1,8 +1,9 @@
 //! Rows over shelves and sinks in memory: whole outputs with their statuses, worked by hand from the
 //! rules of time and of the texts.
 
-use crate::run::{Status, run};
 use plus_io::{MemShelf, MemSink};
+use plus_reply::status::Status;
+use plus_run::run::run;
 use std::alloc::Global;
 use std::process::Abort;
 use std::test::Fail;

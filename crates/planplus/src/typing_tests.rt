@@ -1,8 +1,8 @@
 //! Each word of typing with its place, and pairs with subtypes and numbers that are played.
 
-use crate::run::Status;
 use crate::tests::{expect_run, shelf_of};
 use plus_io::MemSink;
+use plus_reply::status::Status;
 use std::test::Fail;
 
 const TRUCKS: &str = "(define (domain d) (:types van - truck truck place) (:constants home - place)

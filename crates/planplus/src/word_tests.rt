@@ -1,8 +1,9 @@
 //! Words that are a command, and words that are none.
 
-use crate::run::{Status, run};
 use crate::tests::{D1, DOOR, OPENED, OPENED_REPORT, shelf_of};
 use plus_io::MemSink;
+use plus_reply::status::Status;
+use plus_run::run::run;
 use std::alloc::Global;
 use std::process::Abort;
 use std::test::Fail;

@@ -1,4 +1,4 @@
-use Rattle.planplus.proofs.RunLemmas.{ends_unknown}
+use Rattle.plus_run.proofs.RunLemmas.{ends_unknown}
 use Rattle.planplus.proofs.perform.Goals as goal
 
 pub returns-in-Ok : goal.returns-in-Ok

@@ -1,0 +1,9 @@
+pub mod AnswerLemmas
+pub mod OneAnswer
+pub mod OneNumeric
+pub mod OneCommand
+pub mod NumericLemmas
+pub mod ReplyLemmas
+pub mod Deciding
+pub mod RunLemmas
+pub mod ShowLemmas

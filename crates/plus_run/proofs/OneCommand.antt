@@ -1,0 +1,38 @@
+-- A command over the same files has one answer.
+use Rattle.std.proofs.Common.{◌≡◌, ℕ, List, Option, Some, None, subst, sym, ◌∙◌, refl, inl, inr}
+use Rattle.plus_parser.specs.SpellsDomain.{SpellsWithin}
+use Rattle.plus_parser.specs.SpellsProblem.{SpellsProblemWithin}
+use Rattle.plus_printer.specs.Canon.{domain_text, problem_text}
+use Rattle.plus_reply.specs.declared.status.Status.{Status}
+use Rattle.plus_reply.specs.declared.status.Status.TheVariants as s
+use Rattle.plus_run.specs.Command.{Command, Check, ShowDomain, ShowProblem, Numeric}
+use Rattle.plus_pair.specs.Pair.{depth_limit, DomainRefused, ProblemRefused}
+use Rattle.plus_run.specs.Headline.{usage_line}
+use Rattle.plus_reply.specs.Statuses.{Writes}
+use Rattle.plus_run.specs.Laws.{IsSettled, OneAnswer}
+use Rattle.plus_run.proofs.OneAnswer.{both_checks, both_shows, domain_spelled_once, problem_spelled_once, domain_refused_once, problem_refused_once, domain_or_not, problem_or_not, no_usage}
+use Rattle.plus_run.proofs.OneNumeric.{both_numeric}
+
+-- the words are no command
+usage_once : (old new new' : Option (List ℕ)) (c d c' d' : ℕ) (x y : Status) → IsSettled x → IsSettled y → Writes usage_line s.Usage old new c d x → Writes usage_line s.Usage old new' c' d' y → (x ≡ y) × (new ≡ new')
+usage_once old new new' c d c' d' x y g h (inl a) (inl b) = (a.0 ∙ sym b.0, a.1 ∙ sym b.1)
+usage_once old new new' c d c' d' x y g h (inl a) (inr b) = absurd (subst IsSettled b.0 h)
+usage_once old new new' c d c' d' x y g h (inr a) b = absurd (subst IsSettled a.0 g)
+
+pub one_answer : OneAnswer
+one_answer None bytes old new new' a b c d a' b' c' d' x y t h k g i =
+    usage_once old new new' c d c' d' x y g i (h.no_command refl) (k.no_command refl)
+one_answer (Some (Check dn pn ln n)) bytes old new new' a b c d a' b' c' d' x y t h k g i =
+    both_checks n (bytes dn) (bytes pn) (bytes ln) old new new' x y t.0 t.1.0 t.1.1.0 g i
+    h.valid h.refused (no_usage (Check dn pn ln n) x h.usage) k.valid k.refused (no_usage (Check dn pn ln n) y k.usage)
+one_answer (Some (ShowDomain f)) bytes old new new' a b c d a' b' c' d' x y t h k g i =
+    both_shows (SpellsWithin depth_limit) domain_text DomainRefused (bytes f) old new new' x y t.0
+    domain_spelled_once domain_refused_once domain_or_not g i
+    h.valid h.refused (no_usage (ShowDomain f) x h.usage) k.valid k.refused (no_usage (ShowDomain f) y k.usage)
+one_answer (Some (ShowProblem f)) bytes old new new' a b c d a' b' c' d' x y t h k g i =
+    both_shows (SpellsProblemWithin depth_limit) problem_text ProblemRefused (bytes f) old new new' x y t.0
+    problem_spelled_once problem_refused_once problem_or_not g i
+    h.valid h.refused (no_usage (ShowProblem f) x h.usage) k.valid k.refused (no_usage (ShowProblem f) y k.usage)
+one_answer (Some (Numeric dn pn ln)) bytes old new new' a b c d a' b' c' d' x y t h k g i =
+    both_numeric (bytes dn) (bytes pn) (bytes ln) old new new' x y t.0 t.1.0 t.1.1.0 g i
+    h.valid h.refused (no_usage (Numeric dn pn ln) x h.usage) k.valid k.refused (no_usage (Numeric dn pn ln) y k.usage)

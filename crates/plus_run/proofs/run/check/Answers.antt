@@ -1,0 +1,53 @@
+use Rattle.std.proofs.Common.{[], ◌∷◌, ap, sym, ◌∙◌}
+use Rattle.plus_io.proofs.Pieces.{KeepsFiles-trans}
+use Rattle.plus_io.proofs.Readings.{each_then, of_more}
+use Rattle.plus_run.proofs.RunLemmas.{only_broken, only_read, only_memory, no_usage, rose_before, valid_run, plan_refused, plan_broken, pair_refused, pair_broken}
+use Rattle.plus_run.proofs.AnswerLemmas.{some_none, line_answer}
+use Rattle.plus_run.proofs.run.check.Goals as goal
+
+pub returns-in-Ok-clause-answers : goal.returns-in-Ok-clause-answers
+returns-in-Ok-clause-answers g c =
+    let same = ap (λ f. f c.args.files.plan.now) c.in-Ok.ensures.keeps.same_bytes in
+    record {
+      valid = λ v. valid_run _ _ _ _ _ c.in-Ok.typed.domain c.in-Ok.typed.problem _ _ _ _ same c.in-Ok.ensures.read c.in-Ok.typed.well_typed
+          c.validate.ensures.valid c.of.ensures v;
+      refused = plan_refused _ _ _ _ _ c.in-Ok.typed.domain c.in-Ok.typed.problem _ _ _ _ same c.in-Ok.ensures.read c.in-Ok.typed.well_typed
+          c.validate.ensures.refused c.of.ensures;
+      usage = λ v. absurd (no_usage c.validate.result c.of.result c.of.ensures v);
+      no_command = λ n. some_none _ n;
+      read_fault = λ v.
+          let h = c.validate.ensures.read_fault (only_read c.validate.result (sym c.of.ensures ∙ v)) in
+          (rose_before _ _ _ c.in-Ok.ensures.keeps.no_fall h.0, h.1);
+      write_fault = λ v. (
+        (c.validate.ensures.write_fault (only_broken c.validate.result (sym c.of.ensures ∙ v))).0,
+        plan_broken _ _ _ _ _ c.in-Ok.typed.domain c.in-Ok.typed.problem _ _ _ _ _ _ same c.in-Ok.ensures.read c.in-Ok.typed.well_typed
+            c.validate.ensures.write_fault c.of.ensures v,
+      );
+      no_memory = λ v. c.validate.ensures.no_memory (only_memory c.validate.result (sym c.of.ensures ∙ v));
+    }
+
+pub returns-in-Err-Early-clause-answers : goal.returns-in-Err-Early-clause-answers
+returns-in-Err-Early-clause-answers g c =
+    let line = rw c.in-Err-Early.early-is at c.refuse.ensures.writes in
+    let cause = rw c.in-Err-Early.field-0-is at c.in-Err-Early.ensures.not_read in
+    line_answer _ _ _ _ _ _ _ _ _ c.in-Err-Early.early line (pair_refused _ _ _ _ c.in-Err-Early.early _ _ _ _ _ cause line)
+    (pair_broken _ _ _ _ c.in-Err-Early.early _ _ _ _ _ cause line)
+
+pub returns-in-Ok-clause-keeps : goal.returns-in-Ok-clause-keeps
+returns-in-Ok-clause-keeps g c = KeepsFiles-trans _ _ _ c.in-Ok.ensures.keeps c.validate.ensures.keeps
+
+pub returns-in-Ok-clause-reads : goal.returns-in-Ok-clause-reads
+returns-in-Ok-clause-reads g c =
+    each_then _ _ _ _ _ (c.args.files.domain.now ∷ c.args.files.problem.now ∷ []) (c.args.files.plan.now ∷ []) _ _ _ c.in-Ok.ensures.both c.validate.ensures.reads
+
+pub returns-in-Err-Early-clause-reads : goal.returns-in-Err-Early-clause-reads
+returns-in-Err-Early-clause-reads g c =
+    of_more _ _ _ _ _ (c.args.files.domain.now ∷ c.args.files.problem.now ∷ []) (c.args.files.plan.now ∷ []) _ _ c.in-Err-Early.ensures.reads
+
+pub returns-in-Err-ReadFault-clause-reads : goal.returns-in-Err-ReadFault-clause-reads
+returns-in-Err-ReadFault-clause-reads g c =
+    of_more _ _ _ _ _ (c.args.files.domain.now ∷ c.args.files.problem.now ∷ []) (c.args.files.plan.now ∷ []) _ _ c.in-Err-ReadFault.ensures.reads
+
+pub returns-in-Err-NoMemory-clause-reads : goal.returns-in-Err-NoMemory-clause-reads
+returns-in-Err-NoMemory-clause-reads g c =
+    of_more _ _ _ _ _ (c.args.files.domain.now ∷ c.args.files.problem.now ∷ []) (c.args.files.plan.now ∷ []) _ _ c.in-Err-NoMemory.ensures.reads

@@ -1,0 +1,30 @@
+use Rattle.std.proofs.Common.{◌∙◌, subst}
+use Rattle.plus_parser.specs.SpellsDomain.{SpellsWithin}
+use Rattle.plus_printer.specs.Canon.{domain_text}
+use Rattle.plus_reply.specs.declared.status.Status.TheVariants as s
+use Rattle.plus_pair.specs.Pair.{depth_limit, DomainRefused}
+use Rattle.plus_reply.specs.Statuses.{Writes}
+use Rattle.plus_run.proofs.ShowLemmas.{shown, shown_in_part, not_shown, not_shown_in_part}
+use Rattle.plus_run.proofs.AnswerLemmas.{text_answer, line_answer}
+use Rattle.plus_run.proofs.show.show_domain.Goals as goal
+
+pub returns-in-Ok-domain_text-clause-answers : goal.returns-in-Ok-domain_text-clause-answers
+returns-in-Ok-domain_text-clause-answers g c =
+    let old = g.O.Sink.taken c.args.out.now in
+    let new = g.O.Sink.taken c.write.new.out in
+    let before = g.O.Sink.faults c.args.out.now in
+    let now = g.O.Sink.faults c.write.new.out in
+    let bytes = g.S.Shelf.bytes c.args.shelf.now c.args.name.now in
+    let text = subst (λ t. Writes t s.Valid old new before now c.write.result) (c.deref.ensures.value ∙ c.in-Ok-domain_text.ensures) c.write.ensures.writes in
+    text_answer _ _ _ _ _ _ _ _ _ _ text
+    (shown (SpellsWithin depth_limit) domain_text bytes c.in-Ok.domain old new before now c.write.result c.in-Ok.ensures.read text)
+    (shown_in_part (SpellsWithin depth_limit) domain_text DomainRefused bytes c.in-Ok.domain old new before now c.write.result c.in-Ok.ensures.read text)
+
+pub returns-in-Err-Early-clause-answers : goal.returns-in-Err-Early-clause-answers
+returns-in-Err-Early-clause-answers g c =
+    let line = rw c.in-Err-Early.early-is at c.refuse.ensures.writes in
+    let cause = rw c.in-Err-Early.field-0-is at c.in-Err-Early.ensures.not_read in
+    let bytes = g.S.Shelf.bytes c.args.shelf.now c.args.name.now in
+    line_answer _ _ _ _ _ _ _ _ _ c.in-Err-Early.early line
+    (not_shown DomainRefused bytes c.in-Err-Early.early _ _ _ _ _ cause line)
+    (not_shown_in_part (SpellsWithin depth_limit) domain_text DomainRefused bytes c.in-Err-Early.early _ _ _ _ _ cause line)

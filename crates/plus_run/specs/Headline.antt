@@ -1,0 +1,110 @@
+-- What an answer of the top call shows.
+use Rattle.std.specs.Prelude.{◌≡◌, ℕ, List, [], Option, Some, None, IfSome, codes}
+use Rattle.plus_io.specs.Faults.{Rose}
+use Rattle.plus_io.specs.Taken.{Took, TookPart}
+use Rattle.plus_tree.specs.declared.trees.Domain.{Domain}
+use Rattle.plus_tree.specs.declared.trees.Problem.{Problem}
+use Rattle.plus_report.specs.declared.refusals.Early.{Early}
+use Rattle.plus_validator.specs.declared.judge.Outcome.{Outcome}
+use Rattle.plus_reply.specs.declared.status.Status.{Status}
+use Rattle.plus_reply.specs.declared.status.Status.TheVariants as s
+use Rattle.plus_report.specs.Refusals.{early_text}
+use Rattle.plus_validator.specs.Validates.{Accepts, Refuses, BreaksOff, RefusesPair, RefusesPairInPart}
+use Rattle.plus_parser.specs.SpellsDomain.{SpellsWithin}
+use Rattle.plus_parser.specs.SpellsProblem.{SpellsProblemWithin}
+use Rattle.plus_printer.specs.Canon.{domain_text, problem_text}
+use Rattle.plus_run.specs.Command.{Command, Check, ShowDomain, ShowProblem, Numeric}
+use Rattle.plus_pair.specs.Pair.{depth_limit, PairRefused, DomainRefused, ProblemRefused}
+pub use Rattle.plus_pair.specs.Pair.{SpellsWellTyped}
+use Rattle.plus_reply.specs.Statuses.{early_status, Writes}
+pub use Rattle.plus_reply.specs.Statuses.{status_of, exit_number}
+use Rattle.plus_run.specs.Numeric.{RunsNumeric, RefusesNumeric, BreaksNumeric}
+use Rattle.plus_run.specs.Shown.{IsShown, IsNotShown, IsShownInPart}
+
+-- The bytes under the three names spell a well-typed pair and a plan of lines, exactly one trajectory of the pair has
+-- that plan's actions, and between old and new the sink took that trajectory's text and `valid`. The plan enters at most
+-- so many moments.
+pub record IsValidRun (happenings : ℕ) (domain problem plan : List ℕ) (old new : Option (List ℕ)) : Type 0 where
+  pub d : Domain
+  pub p : Problem
+  pub pair : SpellsWellTyped domain problem d p
+  pub accepted : Accepts d p happenings plan old new
+
+-- the same for a command, where the shelf tells what stands under its names
+abbrev pub RunsValid : Option Command → (List ℕ → Option (List ℕ)) → Option (List ℕ) → Option (List ℕ) → Type 0
+RunsValid None bytes old new = ⊥
+RunsValid (Some (Check d p l n)) bytes old new =
+    IfSome (bytes d) (λ ds. IfSome (bytes p) (λ ps. IfSome (bytes l) (λ ls. IsValidRun n ds ps ls old new)))
+RunsValid (Some (ShowDomain file)) bytes old new =
+    IfSome (bytes file) (λ text. IsShown (SpellsWithin depth_limit) domain_text text old new)
+RunsValid (Some (ShowProblem file)) bytes old new =
+    IfSome (bytes file) (λ text. IsShown (SpellsProblemWithin depth_limit) problem_text text old new)
+RunsValid (Some (Numeric d p l)) bytes old new =
+    IfSome (bytes d) (λ ds. IfSome (bytes p) (λ ps. IfSome (bytes l) (λ ls. RunsNumeric ds ps ls old new)))
+
+-- the line that is written where the words mean no command
+abbrev pub usage_line : List ℕ
+usage_line = codes "usage: planplus COMMAND ARGUMENTS\n"
+
+-- The command is refused, and between old and new the sink took: one line, where the two texts are no well-typed pair;
+-- one line, where the pair is not grounded; else the report of what happens before the refusal, and the verdict line.
+pub data IsRefusedRun (happenings : ℕ) (domain problem : List ℕ) (plan : Option (List ℕ)) (old new : Option (List ℕ)) (status : Status) : Type 0 where
+  for_pair : (e : Early) → PairRefused domain problem e → status ≡ early_status e → Took old new (early_text e) → IsRefusedRun happenings domain problem plan old new status
+  for_ground :
+      (d : Domain) (p : Problem) → SpellsWellTyped domain problem d p → status ≡ s.Beyond → RefusesPair d p old new
+      → IsRefusedRun happenings domain problem plan old new status
+  for_plan :
+      (d : Domain) (p : Problem) (outcome : Outcome) → SpellsWellTyped domain problem d p → status ≡ status_of outcome
+      → IfSome plan (λ text. Refuses d p happenings text outcome old new) → IsRefusedRun happenings domain problem plan old new status
+
+-- The sink failed, and took the beginning of what was to be written, and not all of it.
+pub data IsBrokenRun (happenings : ℕ) (domain problem : List ℕ) (plan : Option (List ℕ)) (old new : Option (List ℕ)) : Type 0 where
+  in_pair : (e : Early) → PairRefused domain problem e → TookPart old new (early_text e) → IsBrokenRun happenings domain problem plan old new
+  in_ground :
+      (d : Domain) (p : Problem) → SpellsWellTyped domain problem d p → RefusesPairInPart d p old new
+      → IsBrokenRun happenings domain problem plan old new
+  in_plan :
+      (d : Domain) (p : Problem) → SpellsWellTyped domain problem d p
+      → IfSome plan (λ text. BreaksOff d p happenings text old new) → IsBrokenRun happenings domain problem plan old new
+
+-- what is said where a command is refused: its plan is not valid, a limit stands, or a text is none
+abbrev pub OnRefusal : Status → Type 0 → Type 0
+OnRefusal s.Invalid P = P
+OnRefusal s.Beyond P = P
+OnRefusal s.BadText P = P
+OnRefusal _ P = Unit {0}
+
+abbrev pub RunsRefused : Option Command → (List ℕ → Option (List ℕ)) → Option (List ℕ) → Option (List ℕ) → Status → Type 0
+RunsRefused None bytes old new status = ⊥
+RunsRefused (Some (Check d p l n)) bytes old new status =
+    IfSome (bytes d) (λ ds. IfSome (bytes p) (λ ps. IsRefusedRun n ds ps (bytes l) old new status))
+RunsRefused (Some (ShowDomain file)) bytes old new status = IfSome (bytes file) (λ text. IsNotShown DomainRefused text old new status)
+RunsRefused (Some (ShowProblem file)) bytes old new status = IfSome (bytes file) (λ text. IsNotShown ProblemRefused text old new status)
+RunsRefused (Some (Numeric d p l)) bytes old new status =
+    IfSome (bytes d) (λ ds. IfSome (bytes p) (λ ps. IfSome (bytes l) (λ ls. RefusesNumeric ds ps ls old new status)))
+
+-- the same where the sink failed
+abbrev pub RunsBroken : Option Command → (List ℕ → Option (List ℕ)) → Option (List ℕ) → Option (List ℕ) → Type 0
+RunsBroken None bytes old new = TookPart old new usage_line
+RunsBroken (Some (Check d p l n)) bytes old new =
+    IfSome (bytes d) (λ ds. IfSome (bytes p) (λ ps. IsBrokenRun n ds ps (bytes l) old new))
+RunsBroken (Some (ShowDomain file)) bytes old new =
+    IfSome (bytes file) (λ text. IsShownInPart (SpellsWithin depth_limit) domain_text DomainRefused text old new)
+RunsBroken (Some (ShowProblem file)) bytes old new =
+    IfSome (bytes file) (λ text. IsShownInPart (SpellsProblemWithin depth_limit) problem_text ProblemRefused text old new)
+RunsBroken (Some (Numeric d p l)) bytes old new =
+    IfSome (bytes d) (λ ds. IfSome (bytes p) (λ ps. IfSome (bytes l) (λ ls. BreaksNumeric ds ps ls old new)))
+
+-- What the status of the top call shows: of the files and the output, and of the counts of faults before and now.
+pub record IsAnswer (command : Option Command) (bytes : List ℕ → Option (List ℕ)) (old new : Option (List ℕ)) (read_before read_now write_before write_now : ℕ) (status : Status) : Type 0 where
+  pub valid : status ≡ s.Valid → RunsValid command bytes old new
+  pub refused : OnRefusal status (RunsRefused command bytes old new status)
+  pub usage : status ≡ s.Usage → command ≡ None
+  pub no_command : command ≡ None → Writes usage_line s.Usage old new write_before write_now status
+  pub read_fault : status ≡ s.ReadFault → Rose read_before read_now × (new ≡ old)
+  pub write_fault : status ≡ s.WriteFault → Rose write_before write_now × RunsBroken command bytes old new
+  pub no_memory : status ≡ s.NoMemory → new ≡ old
+
+-- a process ends with this number, which is that of a status that shows so much
+abbrev pub EndsWith : ℕ → (Status → Type 0) → Type 0
+EndsWith number P = (status : Status) × (number ≡ exit_number status) × P status

@@ -1,0 +1,6 @@
+pub mod Command
+pub mod Meant
+pub mod Shown
+pub mod Numeric
+pub mod Headline
+pub mod Laws

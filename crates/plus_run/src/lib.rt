@@ -1,0 +1,8 @@
+//! The public call `run`: it carries out the command that the words mean, and what its answer tells is proved.
+#![tactic(auto)]
+
+pub mod command;
+pub mod laws;
+mod numeric;
+pub mod run;
+mod show;
