@@ -1,3 +1,4 @@
 pub mod PairLemmas
 pub mod SpelledLemmas
 pub mod TextLemmas
+pub mod OnePair

@@ -53,3 +53,11 @@ pub record RepliedInPart (Replies : Status → List ℕ → Type 0) (old new : O
   pub written : List ℕ
   pub reply : Replies status written
   pub part : TookPart old new written
+
+-- two replies with the same status and the same text
+abbrev pub Same : Status → Status → List ℕ → List ℕ → Type 0
+Same x y w v = (x ≡ y) × (w ≡ v)
+
+-- the statuses and texts that may be replied are one
+abbrev pub HasOneReply : (Status → List ℕ → Type 0) → Type 0
+HasOneReply Replies = (x y : Status) (w v : List ℕ) → Replies x w → Replies y v → Same x y w v

@@ -10,7 +10,8 @@ use Rattle.plus_pair.specs.Pair.{depth_limit, DomainRefused, ProblemRefused}
 use Rattle.plus_run.specs.Headline.{usage_line}
 use Rattle.plus_reply.specs.Statuses.{Writes}
 use Rattle.plus_run.specs.Laws.{IsSettled, OneAnswer}
-use Rattle.plus_run.proofs.OneAnswer.{both_checks, both_shows, domain_spelled_once, problem_spelled_once, domain_refused_once, problem_refused_once, domain_or_not, problem_or_not, no_usage}
+use Rattle.plus_pair.proofs.OnePair.{domain_spelled_once, problem_spelled_once, domain_refused_once, problem_refused_once, domain_or_not, problem_or_not}
+use Rattle.plus_run.proofs.OneAnswer.{both_checks, both_shows, no_usage}
 use Rattle.plus_run.proofs.OneNumeric.{both_numeric}
 
 -- the words are no command

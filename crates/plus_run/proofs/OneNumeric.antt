@@ -16,7 +16,9 @@ use Rattle.plus_run.specs.Numeric.{valid_line, kind_status, IsNumeric, IsNotNume
 use Rattle.plus_run.specs.Headline.{OnRefusal}
 use Rattle.plus_reply.specs.Statuses.{early_status}
 use Rattle.plus_run.specs.Laws.{IsSettled}
-use Rattle.plus_run.proofs.OneAnswer.{Same, Wrote, wrote_once, pair_once, pair_refused_once, pair_or_not}
+use Rattle.plus_pair.proofs.OnePair.{pair_once, pair_refused_once, pair_or_not}
+use Rattle.plus_reply.specs.Reply.{Same}
+use Rattle.plus_run.proofs.OneAnswer.{Wrote, wrote_once}
 
 -- what is said of three texts, with its status
 data Said (ds ps ls : List ℕ) (status : Status) (written : List ℕ) : Type 0 where
