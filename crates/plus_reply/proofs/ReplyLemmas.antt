@@ -104,3 +104,35 @@ pub two_taken_as :
     → IfSome domain (λ ds. IfSome problem (λ ps. Replied (P ds ps) old new wanted))
 two_taken_as domain problem P old new status wanted text h e t =
     subst (λ x. IfSome domain (λ ds. IfSome problem (λ ps. Replied (P ds ps) old new x))) e (two_taken domain problem P old new status text h t)
+
+-- ---- the same of three texts
+
+on_three :
+    (domain problem plan : Option (List ℕ)) (Q R : List ℕ → List ℕ → List ℕ → Type 0) → ((ds ps ls : List ℕ) → Q ds ps ls → R ds ps ls)
+    → IfSome domain (λ ds. IfSome problem (λ ps. IfSome plan (λ ls. Q ds ps ls)))
+    → IfSome domain (λ ds. IfSome problem (λ ps. IfSome plan (λ ls. R ds ps ls)))
+on_three None problem plan Q R f h = tt
+on_three (Some ds) None plan Q R f h = tt
+on_three (Some ds) (Some ps) None Q R f h = tt
+on_three (Some ds) (Some ps) (Some ls) Q R f h = f ds ps ls h
+
+module _ (domain problem plan : Option (List ℕ)) (P : List ℕ → List ℕ → List ℕ → Status → List ℕ → Type 0) (old new : Option (List ℕ)) where
+  pub three_taken :
+      (status : Status) (text : List ℕ) → IfSome domain (λ ds. IfSome problem (λ ps. IfSome plan (λ ls. P ds ps ls status text))) → Took old new text
+      → IfSome domain (λ ds. IfSome problem (λ ps. IfSome plan (λ ls. Replied (P ds ps ls) old new status)))
+  three_taken status text h t =
+      on_three domain problem plan (λ ds ps ls. P ds ps ls status text) (λ ds ps ls. Replied (P ds ps ls) old new status)
+      (λ ds ps ls k. record { written = text; reply = k; took = t }) h
+
+  pub three_in_part :
+      (status : Status) (text : List ℕ) → IfSome domain (λ ds. IfSome problem (λ ps. IfSome plan (λ ls. P ds ps ls status text))) → TookPart old new text
+      → IfSome domain (λ ds. IfSome problem (λ ps. IfSome plan (λ ls. RepliedInPart (P ds ps ls) old new)))
+  three_in_part status text h t =
+      on_three domain problem plan (λ ds ps ls. P ds ps ls status text) (λ ds ps ls. RepliedInPart (P ds ps ls) old new)
+      (λ ds ps ls k. record { status = status; written = text; reply = k; part = t }) h
+
+  pub three_taken_as :
+      (status wanted : Status) (text : List ℕ) → IfSome domain (λ ds. IfSome problem (λ ps. IfSome plan (λ ls. P ds ps ls status text))) → status ≡ wanted
+      → Took old new text → IfSome domain (λ ds. IfSome problem (λ ps. IfSome plan (λ ls. Replied (P ds ps ls) old new wanted)))
+  three_taken_as status wanted text h e t =
+      subst (λ x. IfSome domain (λ ds. IfSome problem (λ ps. IfSome plan (λ ls. Replied (P ds ps ls) old new x)))) e (three_taken status text h t)
