@@ -1,3 +1,4 @@
 pub mod Numbers
 pub mod Happenings
 pub mod Tanks
+pub mod Decisions
