@@ -52,8 +52,8 @@ fn bad_byte(text: Text, at: usize, word: Word) -> Refusal
     })
 }
 
-// Why a text of this length spells no tree.
-fn refuse_text(text: Text, length: usize, fault: TextFault) -> Refusal
+/// Why a text of this length spells no tree.
+pub fn refuse_text(text: Text, length: usize, fault: TextFault) -> Refusal
     ensures { result ≡ text_refusal text length fault }
 {
     match fault {
@@ -100,7 +100,8 @@ pub fn text_for(file: File) -> Text
     }
 }
 
-fn refuse_types(fault: TypeFault) -> Refusal
+/// Why a pair is not well typed.
+pub fn refuse_types(fault: TypeFault) -> Refusal
     ensures { result ≡ type_refusal fault }
 {
     match fault {
