@@ -4,7 +4,7 @@ use Rattle.plus_pair.specs.Pair.{text_refusal}
 use Rattle.plus_pair.proofs.TextLemmas.{domain_not}
 use Rattle.plus_pair.proofs.texts.domain_of.Goals as goal
 
-pub returns-clause-not_read : goal.returns-clause-not_read
-returns-clause-not_read c =
+pub returns-in-Err-clause-not_read : goal.returns-in-Err-clause-not_read
+returns-in-Err-clause-not_read c =
     domain_not c.args.text.now c.in-Err.fault c.refuse_text.result (omega arith) c.in-Err.ensures.placed
     (c.refuse_text.ensures ∙ ap (λ n. text_refusal Domain n c.in-Err.fault) c.len-2.ensures)
