@@ -1,10 +1,7 @@
-use Rattle.std.proofs.Common.{◌∙◌, ap, arith}
-use Rattle.plus_report.specs.declared.refusals.Text.TheVariants.{Domain}
-use Rattle.plus_pair.specs.Pair.{text_refusal}
+use Rattle.std.proofs.Common.{arith}
 use Rattle.plus_pair.proofs.TextLemmas.{domain_not}
 use Rattle.plus_pair.proofs.texts.domain_of.Goals as goal
 
 pub returns-in-Err-clause-not_read : goal.returns-in-Err-clause-not_read
 returns-in-Err-clause-not_read c =
-    domain_not c.args.text.now c.in-Err.fault c.refuse_text.result (omega arith) c.in-Err.ensures.placed
-    (c.refuse_text.ensures ∙ ap (λ n. text_refusal Domain n c.in-Err.fault) c.len-2.ensures)
+    domain_not c.args.text.now c.in-Err.fault c.refuse_text.result (omega arith) c.in-Err.ensures.placed c.refuse_text.ensures
