@@ -2,10 +2,11 @@
 
 use plus_explain::{Ending, Kept, append_place, append_reasons, word_for};
 use plus_io::{Shelf, Sink};
-use plus_places::{read_domain, read_problem};
+use plus_pair::pair::release;
+use plus_pair::texts::pair_of;
 use plus_plan::PlanForm;
 use plus_replay::append_unmet;
-use plus_types::{Typed, check};
+use plus_types::Typed;
 use std::alloc::{AllocError, Global};
 use std::process::ExitCode;
 use std::str;
@@ -50,13 +51,6 @@ fn is_unmet(verdict: &str) -> bool {
         || verdict.contains(": wrong arguments of ")
 }
 
-// The well-typed pair that two texts spell.
-fn pair(alloc: Global, domain: &[u8], problem: &[u8]) -> Option<Typed> {
-    let domain = read_domain(alloc, domain).ok()?;
-    let problem = read_problem(alloc, problem).ok()?;
-    check(alloc, domain, problem).ok()
-}
-
 // Appends the place of a goal.
 fn append_goal(into: &mut Vec<u8>, problem: File<'_>, typed: &Typed) -> Result<(), AllocError> {
     let span = typed.problem.goal.span;
@@ -73,8 +67,24 @@ fn append_goal(into: &mut Vec<u8>, problem: File<'_>, typed: &Typed) -> Result<(
     )
 }
 
-// Appends what was not met where a plan was refused with this verdict: the place of the goal, if the goal it was, and
-// the member that does not hold, or what is wrong with the arguments of an action.
+// Appends the place of the goal, if the goal it was, and the member that does not hold, or what is wrong with the
+// arguments of an action.
+fn append_told(
+    into: &mut Vec<u8>,
+    alloc: Global,
+    problem: File<'_>,
+    typed: &Typed,
+    plan: &[u8],
+    form: PlanForm,
+    verdict: &str,
+) -> Result<(), AllocError> {
+    if verdict == GOAL {
+        append_goal(into, problem, typed)?;
+    }
+    append_unmet(into, alloc, typed, plan, form)
+}
+
+// Appends what was not met where a plan was refused with this verdict.
 fn append_why<S: Shelf + Drop>(
     into: &mut Vec<u8>,
     alloc: Global,
@@ -90,13 +100,14 @@ fn append_why<S: Shelf + Drop>(
     ) else {
         return Ok(());
     };
-    let Some(typed) = pair(alloc, domain.text, problem.text) else {
-        return Ok(());
-    };
-    if verdict == GOAL {
-        append_goal(into, problem, &typed)?;
+    match pair_of(alloc, domain.text, problem.text) {
+        Ok(typed) => {
+            let told = append_told(into, alloc, problem, &typed, plan.text, form, verdict);
+            release(typed);
+            told
+        }
+        Err(_) => Ok(()),
     }
-    append_unmet(into, alloc, &typed, plan.text, form)
 }
 
 // What there is to tell.
