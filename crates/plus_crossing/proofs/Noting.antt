@@ -1,6 +1,9 @@
 -- The changes of a state that moves.
-use Rattle.std.proofs.Common.{◌≡◌, ℕ, ◌<◌, ◌≤◌, ◌+◌, zero, suc, Bool, true, false, List, [], ◌∷◌, ◌++◌, length, get_or, drop, refl, ap, ap₂, sym, subst, ◌∙◌, append_assoc, arith, pos, length-append, drop-cons}
+use Rattle.std.proofs.Common.{◌≡◌, ℕ, ◌<◌, ◌≤◌, ◌+◌, zero, suc, Bool, true, false, List, [], ◌∷◌, ◌++◌, length, drop, refl, ap, ap₂, sym, subst, ◌∙◌, append_assoc, arith, pos, length-append}
 use Rattle.std.proofs.lemmas.List.{set_at, append-nil, drop_all}
+use Rattle.std.specs.List.Sorted.{IsStrictlySortedBy}
+use Rattle.std.specs.Map.{keys_of}
+use Rattle.std.specs.Ordering.{nat_cmp}
 use Rattle.std.specs.Prelude.{Option, Some, None, not, slice_get, unwrap_or, if◌then◌else◌}
 use Rattle.plus_fraction.specs.Fraction.{Fraction, ◌+ℚ◌, ◌*ℚ◌}
 use Rattle.plus_fraction.proofs.Ring.{var, num, ◌⊕◌, ◌⊗◌}
@@ -11,7 +14,6 @@ use Rattle.plus_model.specs.Firing.{numbers_of}
 use Rattle.plus_model.specs.Piece.{rate_of}
 use Rattle.plus_model.specs.Running.{moved_values, moved}
 use Rattle.plus_model.proofs.Along.{from_zero}
-use Rattle.plus_state.specs.declared.term.FluentId.{FluentId}
 use Rattle.plus_state.specs.declared.term.Sign.TheVariants.{Plus, Times}
 use Rattle.plus_state.specs.Node.{Node}
 use Rattle.plus_state.specs.Asked.{node, NodeFits, AllFit, FirstUnfit}
@@ -22,9 +24,10 @@ use Rattle.plus_state.specs.Changes.{Changes, patched_list, patched, AreIn, Over
 use Rattle.plus_state.proofs.Testing.{pass_none, pass_append, fail_left, fail_right}
 use Rattle.plus_crossing.specs.declared.moves.MoveStop.{MoveStop}
 use Rattle.plus_crossing.specs.declared.moves.MoveStop.TheVariants.{Number, Memory}
-use Rattle.plus_crossing.specs.Rated.{moving_of, fluent_numbers}
+use Rattle.plus_crossing.specs.Rated.{all_rates, moving_of}
 use Rattle.plus_crossing.specs.Moves.{moved_value, fluent_nodes, moved_nodes, change_if, moving_changes, MovesTo, MoveStops}
 use Rattle.plus_crossing.proofs.Moving.{next_rate}
+use Rattle.plus_crossing.proofs.Rated.{AreRates, rates_given, moving_keys, moving_is}
 
 -- ---- the list of changes leads to the moment
 no_time : (v : Option Fraction) (r x y : Fraction) → is_zero r ≡ true → moved_value v r x ≡ moved_value v r y
@@ -159,69 +162,93 @@ among zero k vs rs x h l =
     }
 among (suc n) k vs rs x h l = next_among k vs rs x (omega arith) (omega arith) (among n (suc k) vs rs x (omega arith) l)
 
--- each number is below n
-abbrev pub Inside : ℕ → List ℕ → Type 0
-Inside n [] = Unit {0}
-Inside n (k ∷ ks) = (k < n) × Inside n ks
+-- ---- the rates that are given alone
+module _ {Q : Type 0} (v : Q → Fraction) where
+  abbrev pub changes_by : List (ℕ × Q) → List (Option Fraction) → Fraction → List (ℕ × Option Fraction)
+  changes_by [] vs x = []
+  changes_by (e ∷ es) vs x = change_if e.0 (unwrap_or (slice_get vs e.0) None) (v e.1) x ++ changes_by es vs x
 
-inside_if : (b : Bool) (n k : ℕ) (ks : List ℕ) → k < n → Inside n ks → Inside n (if b then k ∷ ks else ks)
-inside_if true n k ks h i = (h, i)
-inside_if false n k ks h i = i
+  abbrev pub nodes_by : List (ℕ × Q) → List (Option Fraction) → Fraction → List Node
+  nodes_by [] vs x = []
+  nodes_by (e ∷ es) vs x = fluent_nodes (unwrap_or (slice_get vs e.0) None) (v e.1) x ++ nodes_by es vs x
 
-numbers_inside : {A : Type 0} (test : A → Bool) (n k : ℕ) (xs : List A) → k + length xs ≤ n → Inside n (numbers_of test k xs)
-numbers_inside test n k [] h = tt
-numbers_inside test n k (x ∷ xs) h = inside_if (test x) n k (numbers_of test (suc k) xs) (omega arith) (numbers_inside test n (suc k) xs (omega arith))
+  one_given : (b : Bool) (k : ℕ) (ks : List ℕ) (vs : List (Option Fraction)) (rs : List Fraction) (x r : Fraction) → rate_of rs k ≡ r → (if b then [] else (k, moved_value (unwrap_or (slice_get vs k) None) r x) ∷ []) ++ changes_among ks vs rs x ≡ changes_among (if b then ks else k ∷ ks) vs rs x
+  one_given true k ks vs rs x r e = refl
+  one_given false k ks vs rs x r e = ap (λ (q : Fraction). (k, moved_value (unwrap_or (slice_get vs k) None) q x) ∷ changes_among ks vs rs x) (sym e)
 
-pub record Noting (fits : Fraction → Type 0) (found : List (ℕ × Option Fraction)) (ks : List ℕ) (vs : List (Option Fraction)) (rs : List Fraction) (x : Fraction) : Type 0 where
-  pub inside : Inside (length vs) ks
-  pub so_far : found ++ changes_among ks vs rs x ≡ moving_changes 0 vs rs x
-  pub fit : AllFit fits (nodes_among ks vs rs x) → AllFit fits (moved_nodes vs rs x)
-  pub unfit : (m : Node) → FirstUnfit fits (nodes_among ks vs rs x) m → FirstUnfit fits (moved_nodes vs rs x) m
+  one_needed : (b : Bool) (k : ℕ) (ks : List ℕ) (vs : List (Option Fraction)) (rs : List Fraction) (x r : Fraction) → is_zero r ≡ b → rate_of rs k ≡ r → fluent_nodes (unwrap_or (slice_get vs k) None) r x ++ nodes_among ks vs rs x ≡ nodes_among (if b then ks else k ∷ ks) vs rs x
+  one_needed true k ks vs rs x r z e = ap (λ (ns : List Node). ns ++ nodes_among ks vs rs x) (sym (no_nodes (unwrap_or (slice_get vs k) None) r x z))
+  one_needed false k ks vs rs x r z e = ap (λ (q : Fraction). fluent_nodes (unwrap_or (slice_get vs k) None) q x ++ nodes_among ks vs rs x) (sym e)
 
-pub noting_start : (fits : Fraction → Type 0) (found : List (ℕ × Option Fraction)) (ks : List ℕ) (vs : List (Option Fraction)) (rs : List Fraction) (x : Fraction) → found ≡ [] → ks ≡ moving_of rs → length rs ≡ length vs → Noting fits found ks vs rs x
-noting_start fits found ks vs rs x e d l =
-    let z : 0 + length vs ≡ length vs = omega arith in
-    let a = among (length vs) 0 vs rs x z l in
-    let n : nodes_among ks vs rs x ≡ moved_nodes vs rs x = ap (λ (js : List ℕ). nodes_among js vs rs x) d ∙ a.nodes in
-    record {
-      inside = subst (Inside (length vs)) (sym d) (numbers_inside (λ r. not (is_zero r)) (length vs) 0 rs (omega arith));
-      so_far = ap₂ (λ (f : List (ℕ × Option Fraction)) (js : List ℕ). f ++ changes_among js vs rs x) e d ∙ a.changes;
-      fit = subst (AllFit fits) n;
-      unfit = λ m. subst (λ (ns : List Node). FirstUnfit fits ns m) n;
-    }
+  given_changes : (es : List (ℕ × Q)) (vs : List (Option Fraction)) (rs : List Fraction) (x : Fraction) → AreRates v rs es → changes_by es vs x ≡ changes_among (moving_keys v es) vs rs x
+  given_changes [] vs rs x h = refl
+  given_changes (e ∷ es) vs rs x h =
+      ap (λ (cs : List (ℕ × Option Fraction)). change_if e.0 (unwrap_or (slice_get vs e.0) None) (v e.1) x ++ cs) (given_changes es vs rs x h.1)
+      ∙ one_given (is_zero (v e.1)) e.0 (moving_keys v es) vs rs x (v e.1) h.0
 
-module _ (fits : Fraction → Type 0) (found : List (ℕ × Option Fraction)) (k : ℕ) (ks : List ℕ) (vs : List (Option Fraction)) (rs : List Fraction) (x : Fraction) (h : Noting fits found (k ∷ ks) vs rs x) where
-  pub noting_inside : k < length vs
-  noting_inside = h.inside.0
+  given_nodes : (es : List (ℕ × Q)) (vs : List (Option Fraction)) (rs : List Fraction) (x : Fraction) → AreRates v rs es → nodes_by es vs x ≡ nodes_among (moving_keys v es) vs rs x
+  given_nodes [] vs rs x h = refl
+  given_nodes (e ∷ es) vs rs x h =
+      ap (λ (ns : List Node). fluent_nodes (unwrap_or (slice_get vs e.0) None) (v e.1) x ++ ns) (given_nodes es vs rs x h.1)
+      ∙ one_needed (is_zero (v e.1)) e.0 (moving_keys v es) vs rs x (v e.1) refl h.0
 
-  pub noting_stop : {Q : Type 0} (v : Q → Fraction) (w : Option Fraction) (q : Fraction) (stop : MoveStop Q) → w ≡ unwrap_or (slice_get vs k) None → q ≡ rate_of rs k → MoveStops v fits (fluent_nodes w q x) stop → MoveStops v fits (moved_nodes vs rs x) stop
-  noting_stop v w q (Number o) e d u =
-      h.unfit (overflow_of v o) (fail_left (NodeFits fits) _ _ (overflow_of v o) (subst (λ (y : Option Fraction). FirstUnfit fits (fluent_nodes y (rate_of rs k) x) (overflow_of v o)) e (subst (λ (y : Fraction). FirstUnfit fits (fluent_nodes w y x) (overflow_of v o)) d u)))
-  noting_stop v w q Memory e d u = tt
+  pub record Noting (fits : Fraction → Type 0) (found : List (ℕ × Option Fraction)) (left : List (ℕ × Q)) (vs : List (Option Fraction)) (rs : List Fraction) (x : Fraction) : Type 0 where
+    pub inside : AreIn (length vs) left
+    pub so_far : found ++ changes_by left vs x ≡ moving_changes 0 vs rs x
+    pub fit : AllFit fits (nodes_by left vs x) → AllFit fits (moved_nodes vs rs x)
+    pub unfit : (m : Node) → FirstUnfit fits (nodes_by left vs x) m → FirstUnfit fits (moved_nodes vs rs x) m
 
-  pub noting_next : (w : Option Fraction) (q : Fraction) (new : List (ℕ × Option Fraction)) → w ≡ unwrap_or (slice_get vs k) None → q ≡ rate_of rs k → AllFit fits (fluent_nodes w q x) → new ≡ found ++ (k, moved_value w q x) ∷ [] → Noting fits new ks vs rs x
-  noting_next w q new e d a n =
-      let c : ℕ × Option Fraction = (k, moved_value (unwrap_or (slice_get vs k) None) (rate_of rs k) x) in
-      let b : AllFit fits (fluent_nodes (unwrap_or (slice_get vs k) None) (rate_of rs k) x) = subst (λ (y : Option Fraction). AllFit fits (fluent_nodes y (rate_of rs k) x)) e (subst (λ (y : Fraction). AllFit fits (fluent_nodes w y x)) d a) in
-      let is : new ≡ found ++ c ∷ [] = n ∙ ap₂ (λ (y : Option Fraction) (r : Fraction). found ++ (k, moved_value y r x) ∷ []) e d in
+  pub noting_start : (fits : Fraction → Type 0) (found : List (ℕ × Option Fraction)) (es left : List (ℕ × Q)) (vs : List (Option Fraction)) (rs : List Fraction) (x : Fraction) → found ≡ [] → all_rates v es 0 (length rs) ≡ rs → IsStrictlySortedBy nat_cmp (keys_of es) → AreIn (length rs) es → left ≡ es → length rs ≡ length vs → Noting fits found left vs rs x
+  noting_start fits found es left vs rs x e r s i d l =
+      let z : 0 + length vs ≡ length vs = omega arith in
+      let a = among (length vs) 0 vs rs x z l in
+      let g = rates_given v es (length rs) rs r s i in
+      let k : moving_keys v es ≡ moving_of rs = moving_is v es (length rs) rs r s i in
+      let c : changes_by left vs x ≡ moving_changes 0 vs rs x = ap (λ (js : List (ℕ × Q)). changes_by js vs x) d ∙ given_changes es vs rs x g ∙ ap (λ (js : List ℕ). changes_among js vs rs x) k ∙ a.changes in
+      let n : nodes_by left vs x ≡ moved_nodes vs rs x = ap (λ (js : List (ℕ × Q)). nodes_by js vs x) d ∙ given_nodes es vs rs x g ∙ ap (λ (js : List ℕ). nodes_among js vs rs x) k ∙ a.nodes in
       record {
-        inside = h.inside.1;
-        so_far = ap (λ (l : List (ℕ × Option Fraction)). l ++ changes_among ks vs rs x) is ∙ append_assoc found (c ∷ []) (changes_among ks vs rs x) ∙ h.so_far;
-        fit = λ f. h.fit (pass_append (NodeFits fits) _ _ b f);
-        unfit = λ m u. h.unfit m (fail_right (NodeFits fits) _ _ m b u);
+        inside = subst (AreIn (length vs)) (sym d) (subst (λ (m : ℕ). AreIn m es) l i);
+        so_far = ap (λ (f : List (ℕ × Option Fraction)). f ++ changes_by left vs x) e ∙ c;
+        fit = subst (AllFit fits) n;
+        unfit = λ m. subst (λ (ns : List Node). FirstUnfit fits ns m) n;
       }
 
-pub noting_end : (fits : Fraction → Type 0) (found : List (ℕ × Option Fraction)) (vs : List (Option Fraction)) (rs : List Fraction) (x : Fraction) → Noting fits found [] vs rs x → AllFit fits (moved_nodes vs rs x) × (found ≡ moving_changes 0 vs rs x)
-noting_end fits found vs rs x h = (h.fit (pass_none (NodeFits fits)), sym (append-nil found) ∙ h.so_far)
+  module _ (fits : Fraction → Type 0) (found : List (ℕ × Option Fraction)) (k : ℕ) (q : Q) (left more : List (ℕ × Q)) (vs : List (Option Fraction)) (rs : List Fraction) (x : Fraction) (d : left ≡ (k, q) ∷ more) (h : Noting fits found left vs rs x) where
+    pub noting_inside : k < length vs
+    noting_inside = (subst (AreIn (length vs)) d h.inside).0
 
--- the numbers from place i on
-pub next_fluent : (xs : List FluentId) (i : ℕ) (d : FluentId) → i < length xs → fluent_numbers (drop i xs) ≡ (get_or xs i d).0 ∷ fluent_numbers (drop (i + 1) xs)
-next_fluent xs i d h =
-    let one : suc i ≡ i + 1 = omega arith in
-    ap fluent_numbers (drop-cons xs i d h) ∙ ap (λ (n : ℕ). (get_or xs i d).0 ∷ fluent_numbers (drop n xs)) one
+    here : nodes_by left vs x ≡ fluent_nodes (unwrap_or (slice_get vs k) None) (v q) x ++ nodes_by more vs x
+    here = ap (λ (js : List (ℕ × Q)). nodes_by js vs x) d
 
-pub no_fluent : (xs : List FluentId) (i : ℕ) → length xs ≤ i → fluent_numbers (drop i xs) ≡ []
-no_fluent xs i h = ap fluent_numbers (drop_all i xs h)
+    pub noting_stop : (w : Option Fraction) (stop : MoveStop Q) → w ≡ unwrap_or (slice_get vs k) None → MoveStops v fits (fluent_nodes w (v q) x) stop → MoveStops v fits (moved_nodes vs rs x) stop
+    noting_stop w (Number o) e u =
+        h.unfit (overflow_of v o) (subst (λ (ns : List Node). FirstUnfit fits ns (overflow_of v o)) (sym here) (fail_left (NodeFits fits) _ _ (overflow_of v o) (subst (λ (y : Option Fraction). FirstUnfit fits (fluent_nodes y (v q) x) (overflow_of v o)) e u)))
+    noting_stop w Memory e u = tt
+
+    pub noting_next : (w : Option Fraction) (new : List (ℕ × Option Fraction)) → w ≡ unwrap_or (slice_get vs k) None → AllFit fits (fluent_nodes w (v q) x) → new ≡ found ++ change_if k w (v q) x → Noting fits new more vs rs x
+    noting_next w new e a n =
+        let c : List (ℕ × Option Fraction) = change_if k (unwrap_or (slice_get vs k) None) (v q) x in
+        let b : AllFit fits (fluent_nodes (unwrap_or (slice_get vs k) None) (v q) x) = subst (λ (y : Option Fraction). AllFit fits (fluent_nodes y (v q) x)) e a in
+        let is : new ≡ found ++ c = n ∙ ap (λ (y : Option Fraction). found ++ change_if k y (v q) x) e in
+        record {
+          inside = (subst (AreIn (length vs)) d h.inside).1;
+          so_far = ap (λ (l : List (ℕ × Option Fraction)). l ++ changes_by more vs x) is ∙ append_assoc found c (changes_by more vs x) ∙ ap (λ (js : List (ℕ × Q)). found ++ changes_by js vs x) (sym d) ∙ h.so_far;
+          fit = λ f. h.fit (subst (AllFit fits) (sym here) (pass_append (NodeFits fits) _ _ b f));
+          unfit = λ m u. h.unfit m (subst (λ (ns : List Node). FirstUnfit fits ns m) (sym here) (fail_right (NodeFits fits) _ _ m b u));
+        }
+
+  pub noting_end : (fits : Fraction → Type 0) (found : List (ℕ × Option Fraction)) (left : List (ℕ × Q)) (vs : List (Option Fraction)) (rs : List Fraction) (x : Fraction) → left ≡ [] → Noting fits found left vs rs x → AllFit fits (moved_nodes vs rs x) × (found ≡ moving_changes 0 vs rs x)
+  noting_end fits found left vs rs x d h = (
+    h.fit (subst (λ (js : List (ℕ × Q)). AllFit fits (nodes_by js vs x)) (sym d) (pass_none (NodeFits fits))),
+    sym (append-nil found) ∙ ap (λ (js : List (ℕ × Q)). found ++ changes_by js vs x) (sym d) ∙ h.so_far,
+  )
+
+-- ---- one note
+pub still_asks : (fits : Fraction → Type 0) (w : Option Fraction) (r x : Fraction) → is_zero r ≡ true → AllFit fits (fluent_nodes w r x)
+still_asks fits w r x z = subst (AllFit fits) (no_nodes w r x z) (pass_none (NodeFits fits))
+
+pub still_changes : (found : List (ℕ × Option Fraction)) (k : ℕ) (w : Option Fraction) (r x : Fraction) → is_zero r ≡ true → found ≡ found ++ change_if k w r x
+still_changes found k w r x z = sym (append-nil found) ∙ ap (λ (b : Bool). found ++ (if b then [] else (k, moved_value w r x) ∷ [])) (sym z)
 
 -- no atoms
 abbrev pub noted : List (ℕ × Bool) → List (ℕ × Option Fraction) → Changes

@@ -5,7 +5,7 @@ use Rattle.std.proofs.lemmas.List.{append-nil, map-append, length-set, length-re
 use Rattle.std.proofs.lemmas.Map.{lookup-none}
 use Rattle.std.proofs.lemmas.Map.Entries.{lookup_head, lookup_tail, none_below_head}
 use Rattle.std.proofs.lemmas.Map.Keys.{sorted_head, sorted_tail}
-use Rattle.std.specs.Prelude.{◌⊎◌, Option, Some, cond, not, option_map, unwrap_or, if◌then◌else◌}
+use Rattle.std.specs.Prelude.{◌⊎◌, Option, Some, None, cond, not, option_map, unwrap_or, if◌then◌else◌}
 use Rattle.std.specs.declared.cmp.Ordering.{Ordering}
 use Rattle.std.specs.declared.cmp.Ordering.TheVariants.{Less, Equal, Greater}
 use Rattle.std.specs.Ordering.{nat_cmp, is_eq, match_ordering}
@@ -49,6 +49,17 @@ in_case Greater n k q e es more h d a b = (d, b)
 pub in_insert : {Q : Type 0} (n k : ℕ) (q : Q) (es : List (ℕ × Q)) → k < n → AreIn n es → AreIn n (insert_entry nat_cmp es k q)
 in_insert n k q [] h a = (h, tt)
 in_insert n k q (e ∷ es) h a = in_case (nat_cmp k e.0) n k q e es (insert_entry nat_cmp es k q) h a.0 a.1 (in_insert n k q es h a.1)
+
+-- ---- entries below a number
+pub in_more : {Q : Type 0} (n m : ℕ) (es : List (ℕ × Q)) → n ≤ m → AreIn n es → AreIn m es
+in_more n m [] l a = tt
+in_more n m (e ∷ es) l a = (let b = a.0 in omega arith, in_more n m es l a.1)
+
+pub not_given : {Q : Type 0} (n k : ℕ) (es : List (ℕ × Q)) → AreIn n es → n ≤ k → None ≡ lookup (is_at (nat_cmp k)) es
+not_given n k [] a l = refl
+not_given n k (e ∷ es) a l =
+    let b = a.0 in
+    not_given n k es a.1 l ∙ sym (lookup_tail (is_at (nat_cmp k)) e es (not_at k e.0 (omega arith)))
 
 module _ {Q : Type 0} (v : Q → Fraction) where
   -- ---- the rates by their numbers
@@ -168,6 +179,32 @@ module _ {Q : Type 0} (v : Q → Fraction) where
   moving_is es n rates e s a =
       let z : n ≡ 0 + n = omega arith in
       moving_from es 0 n s (starts_at_zero es) (subst (λ (m : ℕ). AreIn m es) z a) ∙ ap moving_of e
+
+  -- ---- the rate of each number that is given
+  abbrev pub AreRates : List Fraction → List (ℕ × Q) → Type 0
+  AreRates rs [] = Unit {0}
+  AreRates rs (e ∷ es) = (rate_of rs e.0 ≡ v e.1) × AreRates rs es
+
+  are_given : (rs : List Fraction) (n k : ℕ) (whole_list es : List (ℕ × Q)) → IsStrictlySortedBy nat_cmp (keys_of es) → StartsAt k es → AreIn n es → ((i : ℕ) → i < n → rate_of rs i ≡ given_rate v whole_list i) → ((i : ℕ) → k ≤ i → given_rate v es i ≡ given_rate v whole_list i) → AreRates rs es
+  are_given rs n k whole_list [] s st a r h = tt
+  are_given rs n k whole_list (e ∷ es) s st a r h = (
+    r e.0 a.0 ∙ sym (h e.0 st) ∙ given_here e es e.0 refl,
+    are_given rs n (suc e.0) whole_list es (sorted_tail nat_cmp e.0 (keys_of es) s) (starts_behind e.0 es (sorted_head nat_cmp e.0 (keys_of es) s)) a.1 r
+        (λ i o. given_behind e es i (omega arith) ∙ h i (omega arith)),
+  )
+
+  pub rates_given : (es : List (ℕ × Q)) (n : ℕ) (rates : List Fraction) → all_rates v es 0 n ≡ rates → IsStrictlySortedBy nat_cmp (keys_of es) → AreIn n es → AreRates rates es
+  rates_given es n rates e s a =
+      are_given rates n 0 es es s (starts_at_zero es) a
+      (λ i o. ap (λ (rs : List Fraction). rate_of rs i) (sym e) ∙ rate_there es 0 n i o ∙ (let z : 0 + i ≡ i = omega arith in ap (given_rate v es) z))
+      (λ i o. refl)
+
+  -- the entries are in as many as there are rates
+  pub given_inside : (es : List (ℕ × Q)) (n : ℕ) (rates : List Fraction) → all_rates v es 0 n ≡ rates → AreIn n es → AreIn (length rates) es
+  given_inside es n rates e a = subst (λ (m : ℕ). AreIn m es) (sym (length-all_rates es 0 n) ∙ ap length e) a
+
+  pub given_rates : (es : List (ℕ × Q)) (n : ℕ) (rates : List Fraction) → all_rates v es 0 n ≡ rates → all_rates v es 0 (length rates) ≡ rates
+  given_rates es n rates e = ap (λ (m : ℕ). all_rates v es 0 m) (ap length (sym e) ∙ length-all_rates es 0 n) ∙ e
 
   -- ---- one entry after the other
   pub noted_still : (found : List FluentId) (left more : List (ℕ × Q)) (e : ℕ × Q) (all : List ℕ) → is_zero (v e.1) ≡ true → left ≡ e ∷ more → fluent_numbers found ++ moving_keys left ≡ all → fluent_numbers found ++ moving_keys more ≡ all

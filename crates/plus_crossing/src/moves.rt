@@ -1,5 +1,5 @@
 //! Moved states.
-ghost use Rattle.std.specs.Prelude.{◌≡◌, ◌<◌, [], ◌∷◌, ◌++◌, length, option_map, slice_set, IfOk, MatchResult};
+ghost use Rattle.std.specs.Prelude.{◌≡◌, ◌<◌, [], ◌++◌, length, option_map, slice_set, IfOk, MatchResult};
 ghost use Rattle.plus_fraction.specs.Fraction.{◌+ℚ◌, ◌*ℚ◌};
 ghost use Rattle.plus_model.specs.Value.{fluent_of};
 ghost use Rattle.plus_state.specs.Asked.{AllFit};
@@ -7,7 +7,7 @@ ghost use Rattle.plus_state.specs.Changes.{RisesIn};
 ghost use Rattle.plus_state.specs.ChangesView.{fluent_changes};
 ghost use Rattle.plus_state.specs.Fits.{StateFits};
 ghost use Rattle.plus_state.specs.Tells.{Tells};
-ghost use Rattle.plus_crossing.specs.Moves.{fluent_nodes, moved_value as moved_value_of, MoveAnswers, MoveStops, MovesTell};
+ghost use Rattle.plus_crossing.specs.Moves.{fluent_nodes, moved_value as moved_value_of, change_if, MoveAnswers, MoveStops, MovesTell};
 
 use crate::node::exact;
 use crate::rates::Rates;
@@ -98,7 +98,7 @@ pub fn moved<Q: Exact>(
     }
 }
 
-// Notes the value of a fluent after so much time at this rate.
+// Notes the value of a fluent after so much time at this rate, if it moves.
 fn note<Q: Exact>(
     into: &mut Vec<FluentChange<Q>>,
     fluent: FluentId,
@@ -108,9 +108,12 @@ fn note<Q: Exact>(
 ) -> Result<(), MoveStop<Q>>
     ensures { MatchResult result
         (λ _. AllFit Q.fits (fluent_nodes (option_map Q.value now) (Q.value rate) (Q.value delay))
-        × (fluent_changes Q.value into.new.items ≡ fluent_changes Q.value into.old.items ++ (fluent.0, moved_value_of (option_map Q.value now) (Q.value rate) (Q.value delay)) ∷ []))
+        × (fluent_changes Q.value into.new.items ≡ fluent_changes Q.value into.old.items ++ change_if fluent.0 (option_map Q.value now) (Q.value rate) (Q.value delay)))
         (λ stop. MoveStops Q.value Q.fits (fluent_nodes (option_map Q.value now) (Q.value rate) (Q.value delay)) stop) }
 {
+    if is_zero(rate) {
+        return Ok(());
+    }
     match moved_value(now, rate, delay) {
         Err(overflow) => Err(MoveStop::Number(overflow)),
         Ok(value) => match into.push(FluentChange { fluent, value }) {
@@ -134,13 +137,13 @@ pub fn moved_changes<Q: Exact>(
     ensures rises { IfOk result (RisesIn state.now) }
     ensures fluents { IfOk result (λ c. c.atoms ≡ []) }
 {
-    let Ok(moving) = rates.moving(alloc) else {
+    let given = rates.given();
+    let Ok(mut fluents) = Vec::with_capacity(alloc, given.len()) else {
         return Err(MoveStop::Memory);
     };
-    let mut fluents = Vec::new(alloc);
-    'each: for fluent in &moving {
-        let now = state.fluent(*fluent);
-        match note(&mut fluents, *fluent, now, rates.get(*fluent), delay) {
+    'each: for (number, rate) in given {
+        let fluent = FluentId(*number);
+        match note(&mut fluents, fluent, state.fluent(fluent), *rate, delay) {
             Err(stop) => return Err(stop),
             Ok(()) => {}
         }

@@ -1,8 +1,9 @@
 //! Net rates: how much each fluent gains in a unit of time.
-ghost use Rattle.std.specs.Prelude.{◌≡◌, ◌<◌, replicate, length, slice_set, pos, IfOk, OnOk, OnErr};
+ghost use Rattle.std.specs.Prelude.{◌≡◌, ◌<◌, ◌≤◌, ℕ, replicate, length, slice_set, pos, IfOk, OnOk, OnErr};
 ghost use Rattle.plus_fraction.specs.Fraction.{whole};
 ghost use Rattle.plus_model.specs.Piece.{rate_of};
-ghost use Rattle.plus_crossing.specs.Rated.{fluent_numbers, moving_of};
+ghost use Rattle.plus_state.specs.Changes.{AreIn};
+ghost use Rattle.plus_crossing.specs.Rated.{all_rates, fluent_numbers, moving_of};
 
 use plus_number::consts::zero;
 use plus_number::exact::Exact;
@@ -19,11 +20,13 @@ use std::marker::Model;
 pub struct Rates<Q: Exact> {
     // How many there are: the length of the list that contracts see.
     fluents: usize,
+    // Above all fluents whose rates were given: a look at another one costs nothing.
+    below: usize,
     given: BTreeMap<u32, Q>,
 }
 
 impl<Q: Exact> Model for Rates<Q> {
-    ghost use Rattle.std.specs.Prelude.{List};
+    ghost use Rattle.std.specs.Prelude.{List, ◌≤◌};
     ghost use Rattle.std.specs.Coded.{coded_list};
     ghost use Rattle.plus_fraction.specs.Fraction.{Fraction};
     ghost use Rattle.plus_fraction.specs.FractionCode.{coded_fraction};
@@ -36,7 +39,15 @@ impl<Q: Exact> Model for Rates<Q> {
 
     ghost view = { λ r. all_rates Q.value r.given.entries 0 r.fluents };
 
-    ghost invariant = { λ r. AreIn r.fluents r.given.entries };
+    ghost invariant = { λ r. AreIn r.below r.given.entries × (r.below ≤ r.fluents) };
+}
+
+fn greater(x: usize, y: usize) -> usize
+    ensures first { x ≤ result }
+    ensures second { y ≤ result }
+    ensures least { (n : ℕ) → x ≤ n → y ≤ n → result ≤ n }
+{
+    if x < y { y } else { x }
 }
 
 impl<Q: Exact> Rates<Q> {
@@ -46,6 +57,7 @@ impl<Q: Exact> Rates<Q> {
     {
         Rates {
             fluents,
+            below: 0,
             given: BTreeMap::new(alloc),
         }
     }
@@ -66,6 +78,9 @@ impl<Q: Exact> Rates<Q> {
         requires { fluent.0 < length self.now }
         ensures { Q.value result ≡ rate_of self.now fluent.0 }
     {
+        if self.below <= fluent.0 as usize {
+            return zero();
+        }
         match self.given.get(&fluent.0) {
             Some(rate) => *rate,
             None => zero(),
@@ -79,7 +94,16 @@ impl<Q: Exact> Rates<Q> {
         ensures err { OnErr result (self.new ≡ self.old) }
     {
         self.given.insert(fluent.0, rate)?;
+        self.below = greater(self.below, fluent.0 as usize + 1);
         Ok(())
+    }
+
+    // The rates that were given, by the numbers of the fluents.
+    pub fn given(&self) -> &BTreeMap<u32, Q>
+        ensures rates { all_rates Q.value result.now.entries 0 (length self.now) ≡ self.now }
+        ensures inside { AreIn (length self.now) result.now.entries }
+    {
+        &self.given
     }
 
     /// The fluents whose rate is not zero, by their numbers.

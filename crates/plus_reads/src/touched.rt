@@ -13,13 +13,14 @@ use plus_state::term::{EventId, FluentId};
 use plus_state::walk::Conditional;
 use std::alloc::{AllocError, Global};
 
-// In order, each once.
-fn sort_once(numbers: &mut Vec<u32>)
-    ensures rises { IsRising 0 numbers.new.items }
-    ensures same { (k : ℕ) → is_in numbers.new.items k ≡ true ↔ is_in numbers.old.items k ≡ true }
+// In order, each once. The numbers are a few lists that rise, one behind the other, and this sort merges such.
+fn sort_once(numbers: &mut Vec<u32>) -> Result<(), AllocError>
+    ensures rises { IfOk result (λ _. IsRising 0 numbers.new.items) }
+    ensures same { IfOk result (λ _. (k : ℕ) → is_in numbers.new.items k ≡ true ↔ is_in numbers.old.items k ≡ true) }
 {
-    numbers.sort_unstable();
+    numbers.sort()?;
     numbers.dedup();
+    Ok(())
 }
 
 /// In ground order and without repeats: these numbers, and those of the readers of all that is changed.
@@ -38,7 +39,7 @@ pub fn touched<Q: Exact>(
     'fluents: for change in &changes.fluents {
         numbers.extend_from_slice(readers.fluents.readers(change.fluent.0))?;
     }
-    sort_once(&mut numbers);
+    sort_once(&mut numbers)?;
     Ok(numbers)
 }
 
@@ -54,7 +55,7 @@ fn numbers_by(
     'fluents: for fluent in fluents {
         numbers.extend_from_slice(readers.fluents.readers(fluent.0))?;
     }
-    sort_once(&mut numbers);
+    sort_once(&mut numbers)?;
     Ok(numbers)
 }
 
@@ -75,7 +76,7 @@ pub fn readers_by<I: Conditional>(
 pub fn numbers_of(alloc: Global, events: &[EventId]) -> Result<Vec<u32>, AllocError>
     ensures { IfOk result (λ numbers. numbers.items ≡ event_numbers events.now) }
 {
-    let mut numbers = Vec::new(alloc);
+    let mut numbers = Vec::with_capacity(alloc, events.len())?;
     'each: for event in events {
         numbers.push(event.0)?;
     }
@@ -86,7 +87,7 @@ pub fn numbers_of(alloc: Global, events: &[EventId]) -> Result<Vec<u32>, AllocEr
 pub fn members_of<I: Conditional>(alloc: Global, numbers: &[u32]) -> Result<Vec<I>, AllocError>
     ensures { IfOk result (λ members. map I.number members.items ≡ numbers.now) }
 {
-    let mut members = Vec::new(alloc);
+    let mut members = Vec::with_capacity(alloc, numbers.len())?;
     'each: for number in numbers {
         members.push(I::with_number(*number))?;
     }

@@ -14,4 +14,4 @@ fluents-preserved c =
 pub returns : goal.returns
 returns c =
     let g = gathers_all _ c.args.readers.now.fluents _ _ _ _ _ c.fluents-test.false refl c.fluents.invariant in
-    reads_any c.args.readers.now _ _ _ g (λ k. (c.sort_once.ensures.same k).1) (λ k. (c.sort_once.ensures.same k).0) c.sort_once.ensures.rises
+    reads_any c.args.readers.now _ _ _ g (λ k. (c.in_ok-sort_once.ensures.same k).1) (λ k. (c.in_ok-sort_once.ensures.same k).0) c.in_ok-sort_once.ensures.rises

@@ -31,7 +31,7 @@ returns-clause-wakes g c =
     let p = gathers_all _ t.atoms _ _ _ _ _ c.atoms-test.false (ap (map _) c.deref-change-items.ensures.value ∙ atoms_named ats) c.atoms.invariant in
     let q = gathers_all _ t.fluents _ _ _ _ _ c.fluents-test.false (ap (map _) c.deref-change-items-2.ensures.value ∙ fluents_named v fs) c.fluents.invariant in
     subst (λ (ch : Changes). Wakes t ch c.args.numbers.items c.sort_once.new.numbers.items) c.changes.view_is
-    (wakes t _ _ _ _ _ p q (λ k. (c.sort_once.ensures.same k).1) (λ k. (c.sort_once.ensures.same k).0))
+    (wakes t _ _ _ _ _ p q (λ k. (c.in_ok-sort_once.ensures.same k).1) (λ k. (c.in_ok-sort_once.ensures.same k).0))
 
 pub returns-clause-members : goal.returns-clause-members
 returns-clause-members g c = λ n b inside.
@@ -40,4 +40,4 @@ returns-clause-members g c = λ n b inside.
     let ats = c.changes.inside.atoms.items in let fs = c.changes.inside.fluents.items in
     let p = gathers_all _ t.atoms _ _ _ _ _ c.atoms-test.false (ap (map _) c.deref-change-items.ensures.value ∙ atoms_named ats) c.atoms.invariant in
     let q = gathers_all _ t.fluents _ _ _ _ _ c.fluents-test.false (ap (map _) c.deref-change-items-2.ensures.value ∙ fluents_named v fs) c.fluents.invariant in
-    members t (record { atoms = atom_changes ats; fluents = fluent_changes v fs }) _ _ _ _ p q (λ k. (c.sort_once.ensures.same k).1) (λ k. (c.sort_once.ensures.same k).0) n b inside c.sort_once.ensures.rises
+    members t (record { atoms = atom_changes ats; fluents = fluent_changes v fs }) _ _ _ _ p q (λ k. (c.in_ok-sort_once.ensures.same k).1) (λ k. (c.in_ok-sort_once.ensures.same k).0) n b inside c.in_ok-sort_once.ensures.rises

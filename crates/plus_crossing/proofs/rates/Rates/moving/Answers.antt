@@ -1,13 +1,13 @@
 use Rattle.std.proofs.Common.{◌∙◌, ◌++◌, ap₂, sym}
 use Rattle.plus_crossing.specs.Rated.{fluent_numbers}
-use Rattle.plus_crossing.proofs.Rated.{moving_keys, moving_is, noted_still, noted_moving, noted_end}
+use Rattle.plus_crossing.proofs.Rated.{in_more, moving_keys, moving_is, noted_still, noted_moving, noted_end}
 use Rattle.plus_crossing.proofs.rates.Rates.moving.Goals as goal
 
 pub each-init : goal.each-init
 each-init g c =
     let i = c.into_iter-fluent-iterator.ensures.into_iter_gives in
     ap₂ (λ fs es. fluent_numbers fs ++ moving_keys g.Q.Exact.value es) c.new-fluents.ensures.items i.0
-    ∙ moving_is g.Q.Exact.value _ _ _ c.self.view_is i.5 c.self.invariant
+    ∙ moving_is g.Q.Exact.value _ _ _ c.self.view_is i.5 (in_more _ _ _ c.self.invariant.1 c.self.invariant.0)
 
 pub each-preserved-in-Continue-1 : goal.each-preserved-in-Continue-1
 each-preserved-in-Continue-1 g c =
