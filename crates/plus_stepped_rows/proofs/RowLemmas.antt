@@ -1,5 +1,5 @@
 -- Conditions and effects of a few members fit where their members do.
-use Rattle.std.proofs.Common.{◌≡◌, ℕ, ◌+◌, ◌<◌, ◌^◌, List, [], ◌∷◌, ◌++◌, ap, subst, sym, ◌∙◌, refl, arith}
+use Rattle.std.proofs.Common.{◌≡◌, ◌<◌, ◌^◌, List, [], ◌∷◌, ◌++◌, ap, subst, sym, ◌∙◌, refl, arith}
 use Rattle.std.specs.Prelude.{map, Vec}
 use Rattle.std.specs.declared.alloc.Global.{Global}
 use Rattle.plus_fraction.specs.Fraction.{Fraction}
