@@ -1,8 +1,10 @@
 -- An instance that is kept is that of its call.
 use Rattle.std.proofs.Common.{◌≡◌, ◌≤◌, ◌<◌, ◌-◌, true, take, drop, get_or, arith, ℕ, List, [], ◌∷◌, ◌++◌, length, refl, ap, sym, subst, ◌∙◌}
 use Rattle.std.specs.Prelude.{Option, Some, All, option_map, slice_get}
-use Rattle.std.proofs.lemmas.List.Elements.{All-append, All-cons}
-use Rattle.std.proofs.lemmas.Option.{slice_get_read}
+use Rattle.std.proofs.Math.ListN.{set, length-set}
+use Rattle.std.proofs.lemmas.List.{get_or-set_same}
+use Rattle.std.proofs.lemmas.List.Elements.{All-append, All-cons, All-set}
+use Rattle.std.proofs.lemmas.Option.{slice_get-get_or}
 use Rattle.std.specs.Str.{bytes_eq}
 use Rattle.plus_types.proofs.TypesLemmas.{same-bytes}
 use Rattle.plus_ground.proofs.CallsLemmas.{rest_all}
@@ -12,7 +14,7 @@ use Rattle.plus_state.specs.View.{action_of}
 use Rattle.plus_types.specs.declared.typed.Typed.{Typed}
 use Rattle.plus_instances.specs.declared.instances.Kept.{Kept}
 use Rattle.plus_instances.specs.declared.instances.Place.{Place}
-use Rattle.plus_instances.specs.declared.instances.Place.TheVariants.{Listed}
+use Rattle.plus_instances.specs.declared.instances.Place.TheVariants.{Large, Small}
 use Rattle.plus_instances.specs.declared.instances.Instances.{Instances}
 use Rattle.plus_instances.specs.Made.{IsMade, IsKept, made_at, HasMade}
 
@@ -24,30 +26,44 @@ pub made_here : (t : Typed) (i : Instances) (name : List ℕ) (args : List (List
     → HasMade t i name args place → made_at i place ≡ Some a → IsMade t name args a
 made_here t i name args place a h e = subst (IsMade t name args) (same_some h.action a (made_at i place) h.is e) h.made
 
-all_at : {A : Type 0} (P : A → Type 0) (xs : List A) (i : ℕ) (x : A) → All P xs → i < length xs → x ≡ get_or xs i x → P x
-all_at P xs i x a l e = subst P (sym e) (a i x l)
-
 slice_get_end : {A : Type 0} (xs : List A) (x : A) → slice_get (xs ++ x ∷ []) (length xs) ≡ Some x
 slice_get_end [] x = refl
 slice_get_end (y ∷ ys) x = slice_get_end ys x
 
--- a kept instance of the same call is that of this call
-pub kept_here : (t : Typed) (i : Instances) (name : List ℕ) (args : List (List ℕ)) (place : ℕ) (k : Kept)
-    → All (IsKept t) i.kept.items → place < length i.kept.items → k ≡ get_or i.kept.items place k → k.call.name ≡ name
-    → k.call.args ≡ args → HasMade t i name args (Listed place)
-kept_here t i name args place k a l e n b = record {
-  action = action_of fraction_of k.action;
-  is = ap (option_map (λ (k : Kept). action_of fraction_of k.action)) (slice_get_read i.kept.items (length i.kept.items) place k refl l e);
-  made = subst (λ m. IsMade t m args (action_of fraction_of k.action)) n (subst (λ m. IsMade t k.call.name m (action_of fraction_of k.action)) b (all_at (IsKept t) i.kept.items place k a l e));
-}
+-- an instance that is kept is kept of the same pair
+pub kept_too : (t u : Typed) (k : Kept) → u ≡ t → IsKept t k → IsKept u k
+kept_too t u k e h = subst (λ v. IsKept v k) (sym e) h
 
 -- a copy of a call has its instance
-pub kept_copy : (t u : Typed) (k : Kept) (name : List ℕ) (args : List (List ℕ)) → u ≡ t → k.call.name ≡ name
-    → k.call.args ≡ args → IsMade t name args (action_of fraction_of k.action) → IsKept u k
-kept_copy t u k name args e n b h =
-    subst (λ v. IsKept v k) (sym e)
-    (subst (λ m. IsMade t k.call.name m (action_of fraction_of k.action)) (sym b)
-    (subst (λ m. IsMade t m args (action_of fraction_of k.action)) (sym n) h))
+pub kept_copy : (t : Typed) (k : Kept) (name : List ℕ) (args : List (List ℕ)) → k.call.name ≡ name → k.call.args ≡ args
+    → IsMade t name args (action_of fraction_of k.action) → IsKept t k
+kept_copy t k name args n b h =
+    subst (λ m. IsMade t k.call.name m (action_of fraction_of k.action)) (sym b)
+    (subst (λ m. IsMade t m args (action_of fraction_of k.action)) (sym n) h)
+
+-- another one stands at a place
+pub all_set : (t : Typed) (k : Kept) (xs : List Kept) (i : ℕ) → All (IsKept t) xs → IsKept t k → All (IsKept t) (set xs i k)
+all_set t k xs i a h = All-set (IsKept t) xs i k h a
+
+pub slice_get_set : {A : Type 0} (xs : List A) (i : ℕ) (x : A) → i < length xs → slice_get (set xs i x) i ≡ Some x
+slice_get_set xs i x l = slice_get-get_or (set xs i x) i x (omega (arith, length-set xs i x, l)) ∙ ap Some (get_or-set_same xs i x x l)
+
+-- what stands at a place is the instance of its call
+pub small_made : (t : Typed) (i : Instances) (k : Kept) (place : ℕ) (name : List ℕ) (args : List (List ℕ))
+    → slice_get i.small.items place ≡ Some k → IsMade t name args (action_of fraction_of k.action) → HasMade t i name args (Small place)
+small_made t i k place name args e h = record {
+  action = action_of fraction_of k.action;
+  is = ap (option_map (λ (k : Kept). action_of fraction_of k.action)) e;
+  made = h;
+}
+
+pub large_made : (t : Typed) (i : Instances) (k : Kept) (place : ℕ) (name : List ℕ) (args : List (List ℕ))
+    → slice_get i.large.items place ≡ Some k → IsMade t name args (action_of fraction_of k.action) → HasMade t i name args (Large place)
+large_made t i k place name args e h = record {
+  action = action_of fraction_of k.action;
+  is = ap (option_map (λ (k : Kept). action_of fraction_of k.action)) e;
+  made = h;
+}
 
 -- one more is kept
 pub all_kept : (t : Typed) (k : Kept) (xs ys : List Kept) → All (IsKept t) xs → IsKept t k → ys ≡ xs ++ k ∷ []

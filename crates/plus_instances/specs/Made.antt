@@ -11,7 +11,7 @@ use Rattle.plus_expansion.specs.Calls.{called_of}
 use Rattle.plus_ground.specs.Refusals.{IsInstance}
 use Rattle.plus_instances.specs.declared.instances.Kept.{Kept}
 use Rattle.plus_instances.specs.declared.instances.Place.{Place}
-use Rattle.plus_instances.specs.declared.instances.Place.TheVariants.{Listed, Last}
+use Rattle.plus_instances.specs.declared.instances.Place.TheVariants.{Large, Small}
 use Rattle.plus_instances.specs.declared.instances.Instances.{Instances}
 
 -- the instance of this call in a pair: it is inside the limits, and its ids are those of the pair
@@ -25,17 +25,22 @@ IsKept t k = IsMade t k.call.name k.call.args (action_of fraction_of k.action)
 
 -- all that are kept are instances of their calls
 pub record AreMade (i : Instances) : Type 0 where
-  pub all : All (IsKept i.numbering.now.typed.now) i.kept.items
+  pub large : All (IsKept i.numbering.now.typed.now) i.large.items
+  pub small : All (IsKept i.numbering.now.typed.now) i.small.items
 
 -- more or fewer instances of the same pair are kept
 pub record StayMade (old new : Instances) : Type 0 where
   pub same : new.numbering ≡ old.numbering
   pub made : AreMade new
 
+-- the instance at a place of a list
+abbrev pub kept_at : List Kept → ℕ → Option model.Action
+kept_at kept place = option_map (λ (k : Kept). action_of fraction_of k.action) (slice_get kept place)
+
 -- the instance at a place
 abbrev pub made_at : Instances → Place → Option model.Action
-made_at i (Listed place) = option_map (λ (k : Kept). action_of fraction_of k.action) (slice_get i.kept.items place)
-made_at i Last = option_map (action_of fraction_of) i.last
+made_at i (Large place) = kept_at i.large.items place
+made_at i (Small place) = kept_at i.small.items place
 
 -- the instance of this call in a pair stands at a place
 pub record HasMade (t : Typed) (i : Instances) (name : List ℕ) (args : List (List ℕ)) (place : Place) : Type 0 where

@@ -1,10 +1,10 @@
 //! The instances of actions that a plan calls. Those that were made are kept.
-ghost use Rattle.std.specs.Prelude.{◌≡◌, Some, IsSome, IsTrue, IfOk, IfErr, IfSome};
+ghost use Rattle.std.specs.Prelude.{◌≡◌, ◌<◌, length, slice_get, Some, IsSome, IsTrue, IfOk, IfErr, IfSome};
 ghost use Rattle.plus_number.specs.Frac.{fraction_of, IsFrac64};
 ghost use Rattle.plus_state.specs.View.{action_of};
 ghost use Rattle.plus_expansion.specs.Calls.{called_of};
 ghost use Rattle.plus_ground.specs.Refusals.{RefusesCall};
-ghost use Rattle.plus_instances.specs.Made.{IsMade, AreMade, StayMade, HasMade, made_at};
+ghost use Rattle.plus_instances.specs.Made.{IsMade, IsKept, AreMade, StayMade, HasMade, made_at};
 ghost use Rattle.plus_instances.specs.declared.instances.Place.{Place};
 
 use indexmap::IndexMap;
@@ -16,20 +16,22 @@ use plus_state::term::Cond;
 use plus_tree::{Call, Name, NameArgs};
 use std::alloc::{AllocError, Global};
 
-/// The most conditions and effects of the instances that are kept together.
+/// The most conditions and effects of the large instances that are kept together.
 const MOST_KEPT: u32 = 1_000_000;
 
-/// The fewest conditions and effects of an instance that is kept where its call has arguments: a smaller
-/// one is made faster than it is found.
-const LEAST_KEPT: u32 = 64;
+/// The fewest conditions and effects of a large instance.
+const LARGE: u32 = 64;
+
+/// How many slots the small instances have.
+const SLOTS: usize = 4096;
 
 /// Where an instance stands, until the next call of `place`.
 #[derive(Clone, Copy)]
 pub enum Place {
-    /// Among those that are kept.
-    Listed(usize),
-    /// It is the last one made, and not kept.
-    Last,
+    /// Among the large ones.
+    Large(usize),
+    /// Among the small ones.
+    Small(usize),
 }
 
 /// An instance, with its call.
@@ -39,21 +41,20 @@ struct Kept {
     action: Action<Frac64>,
 }
 
-/// The instances of the actions of a pair. A large one is kept, and one without arguments, and found
-/// again by its call, until those kept have more than 1,000,000 conditions and effects together: then all
-/// are let go.
+/// The instances of the actions of a pair. Each that is made is kept, and found again by its call. Large ones
+/// are kept until they have more than 1,000,000 conditions and effects together: then all of them are let go.
+/// A small one is kept at the slot of its call, until one of another call takes the slot.
 #[derive(Drop)]
 pub struct Instances<'a> {
     pub numbering: &'a Numbering<'a>,
-    kept: Vec<Kept>,
-    // the places of the instances, by the texts of their calls
+    large: Vec<Kept>,
+    // the places of the large ones, by the texts of their calls
     places: IndexMap<Vec<u8>, usize>,
-    // how many conditions and effects they have
+    // how many conditions and effects the large ones have
     size: u32,
-    // whether one with arguments is kept
-    with_arguments: bool,
-    // the last one that was made and not kept
-    last: Option<Action<Frac64>>,
+    small: Vec<Kept>,
+    // the places of the small ones, by the slots of their calls; no slot before there is a small one
+    slots: Vec<Option<usize>>,
 }
 
 // How many conditions a condition has, with itself.
@@ -99,8 +100,30 @@ fn spelled(alloc: Global, call: &Call) -> Result<Vec<u8>, AllocError> {
     Ok(text)
 }
 
-fn has_arguments(call: &Call) -> bool {
-    !call.args.as_slice().is_empty()
+// The hash FNV-1a of no byte, and its factor.
+const BASIS: u64 = 0xcbf29ce484222325;
+
+const FACTOR: u64 = 0x100000001b3;
+
+// A byte that no name has.
+const BETWEEN: u64 = 0xff;
+
+// The hash of a name behind what has this hash.
+fn mixed(hash: u64, name: &[u8]) -> u64 {
+    let mut hash = hash;
+    'bytes: for byte in name {
+        hash = (hash ^ *byte as u64).wrapping_mul(FACTOR);
+    }
+    (hash ^ BETWEEN).wrapping_mul(FACTOR)
+}
+
+// The slot of a call.
+fn slot_of(call: &Call) -> usize {
+    let mut hash = mixed(BASIS, call.name.bytes());
+    'args: for arg in call.args.as_slice() {
+        hash = mixed(hash, arg.bytes());
+    }
+    (hash % SLOTS as u64) as usize
 }
 
 fn copied_args(alloc: Global, args: &[Name]) -> Result<NameArgs, AllocError>
@@ -135,6 +158,17 @@ fn are_same(names: &[Name], others: &[Name]) -> bool
     }
 }
 
+impl Kept {
+    // Whether it is the instance of a call.
+    fn is_of(&self, call: &Call) -> bool
+        ensures name { IsTrue result → self.now.call.name ≡ call.now.name }
+        ensures args { IsTrue result → self.now.call.args ≡ call.now.args }
+    {
+        self.call.name.bytes() == call.name.bytes()
+            && are_same(self.call.args.as_slice(), call.args.as_slice())
+    }
+}
+
 impl<'a> Instances<'a> {
     /// No instance is made yet.
     pub fn new(alloc: Global, numbering: &'a Numbering<'a>) -> Instances<'a>
@@ -143,11 +177,11 @@ impl<'a> Instances<'a> {
     {
         Instances {
             numbering,
-            kept: Vec::new(alloc),
+            large: Vec::new(alloc),
             places: IndexMap::new(alloc),
             size: 0,
-            with_arguments: false,
-            last: None,
+            small: Vec::new(alloc),
+            slots: Vec::new(alloc),
         }
     }
 
@@ -160,16 +194,15 @@ impl<'a> Instances<'a> {
         ensures refused { IfErr result (RefusesCall IsFrac64 self.old.numbering.now.typed.now.domain call.now.name
             (called_of self.old.numbering.now.typed.now.domain self.old.numbering.now.typed.now.problem call.now.name call.now.args)) }
     {
-        if let Some(place) = self.kept_place(alloc, call)? {
-            return Ok(Place::Listed(place));
+        let slot = slot_of(call);
+        if let Some(place) = self.small_place(slot, call) {
+            return Ok(Place::Small(place));
+        }
+        if let Some(place) = self.large_place(alloc, call)? {
+            return Ok(Place::Large(place));
         }
         let action = instance::<Frac64>(alloc, self.numbering, call)?;
-        let size = size_of(&action);
-        if size < LEAST_KEPT && has_arguments(call) {
-            self.last = Some(action);
-            return Ok(Place::Last);
-        }
-        Ok(Place::Listed(self.keep(alloc, call, action, size)?))
+        Ok(self.keep(alloc, slot, call, action)?)
     }
 
     /// The instance at a place.
@@ -178,44 +211,124 @@ impl<'a> Instances<'a> {
         ensures { made_at self.now place ≡ Some (action_of fraction_of result.now) }
     {
         match place {
-            Place::Listed(place) => &self.kept[place].action,
-            Place::Last => match &self.last {
-                Some(action) => action,
-                None => unreachable!(),
-            },
+            Place::Large(place) => &self.large[place].action,
+            Place::Small(place) => &self.small[place].action,
         }
     }
 
-    // The place of the instance of a call, where it is kept.
-    fn kept_place(&self, alloc: Global, call: &Call) -> Result<Option<usize>, AllocError>
+    // The place of the small instance of a call with this slot, where it is kept.
+    fn small_place(&self, slot: usize, call: &Call) -> Option<usize>
+        requires { AreMade self.now }
+        ensures { IfSome result (λ place.
+            HasMade self.now.numbering.now.typed.now self.now call.now.name call.now.args (Place.Small place)) }
+    {
+        let place = (*self.slots.get(slot)?)?;
+        let kept = self.small.get(place)?;
+        if kept.is_of(call) { Some(place) } else { None }
+    }
+
+    // The place of the large instance of a call, where it is kept.
+    fn large_place(&self, alloc: Global, call: &Call) -> Result<Option<usize>, AllocError>
         requires { AreMade self.now }
         ensures { IfOk result (λ found. IfSome found (λ place.
-            HasMade self.now.numbering.now.typed.now self.now call.now.name call.now.args (Place.Listed place))) }
+            HasMade self.now.numbering.now.typed.now self.now call.now.name call.now.args (Place.Large place))) }
     {
-        if has_arguments(call) && !self.with_arguments {
+        if self.large.is_empty() {
             return Ok(None);
         }
         let text = spelled(alloc, call)?;
         Ok(self.found(&text, call))
     }
 
-    // The place of the instance of a call that is spelled so, where it is kept.
+    // The place of the large instance of a call that is spelled so, where it is kept.
     fn found(&self, text: &[u8], call: &Call) -> Option<usize>
         requires { AreMade self.now }
         ensures { IfSome result (λ place.
-            HasMade self.now.numbering.now.typed.now self.now call.now.name call.now.args (Place.Listed place)) }
+            HasMade self.now.numbering.now.typed.now self.now call.now.name call.now.args (Place.Large place)) }
     {
         let place = *self.places.get(text)?;
-        let kept = self.kept.get(place)?;
-        if kept.call.name.bytes() == call.name.bytes()
-            && are_same(kept.call.args.as_slice(), call.args.as_slice())
-        {
-            return Some(place);
-        }
-        None
+        let kept = self.large.get(place)?;
+        if kept.is_of(call) { Some(place) } else { None }
     }
 
-    // Lets all instances go where one more of this size would be too much.
+    // Keeps the instance of a call with this slot, and answers its place.
+    fn keep(
+        &mut self,
+        alloc: Global,
+        slot: usize,
+        call: &Call,
+        action: Action<Frac64>,
+    ) -> Result<Place, AllocError>
+        requires kept { AreMade self.old }
+        requires made { IsMade self.old.numbering.now.typed.now call.now.name call.now.args (action_of fraction_of action) }
+        ensures kept { StayMade self.old self.new }
+        ensures made { IfOk result (HasMade self.old.numbering.now.typed.now self.new call.now.name call.now.args) }
+    {
+        let size = size_of(&action);
+        let kept = Kept {
+            call: copied(alloc, call)?,
+            action,
+        };
+        if size < LARGE {
+            Ok(Place::Small(self.keep_small(alloc, slot, kept)?))
+        } else {
+            Ok(Place::Large(self.keep_large(alloc, kept, size)?))
+        }
+    }
+
+    // Keeps a small instance at a slot, and answers its place.
+    fn keep_small(&mut self, alloc: Global, slot: usize, kept: Kept) -> Result<usize, AllocError>
+        requires kept { AreMade self.old }
+        requires made { IsKept self.old.numbering.now.typed.now kept }
+        ensures kept { StayMade self.old self.new }
+        ensures stands { IfOk result (λ place. slice_get self.new.small.items place ≡ Some kept) }
+    {
+        self.make_slots(alloc)?;
+        if let Some(place) = self.taken(slot) {
+            self.small[place] = kept;
+            return Ok(place);
+        }
+        let place = self.small.len();
+        self.small.push(kept)?;
+        self.mark(slot, place);
+        Ok(place)
+    }
+
+    // Makes the slots, where there are none yet.
+    fn make_slots(&mut self, alloc: Global) -> Result<(), AllocError>
+        requires { AreMade self.old }
+        ensures { StayMade self.old self.new }
+    {
+        if self.slots.is_empty() {
+            self.slots = vec![in alloc; None; SLOTS]?;
+        }
+        Ok(())
+    }
+
+    // The place at a slot, where it is taken.
+    fn taken(&self, slot: usize) -> Option<usize>
+        ensures { IfSome result (λ place. place < length self.now.small.items) }
+    {
+        let place = (*self.slots.get(slot)?)?;
+        if place < self.small.len() {
+            Some(place)
+        } else {
+            None
+        }
+    }
+
+    // Says which place a slot has.
+    fn mark(&mut self, slot: usize, place: usize)
+        requires { AreMade self.old }
+        ensures kept { StayMade self.old self.new }
+        ensures small { self.new.small ≡ self.old.small }
+    {
+        if slot < self.slots.len() {
+            self.slots[slot] = Some(place);
+        }
+    }
+
+    // Lets all large instances go where one more of this size would be too much.
     fn make_room(&mut self, size: u32)
         requires { AreMade self.old }
         ensures { StayMade self.old self.new }
@@ -223,34 +336,24 @@ impl<'a> Instances<'a> {
         if size <= MOST_KEPT.saturating_sub(self.size) {
             return;
         }
-        self.kept.clear();
+        self.large.clear();
         self.places.clear();
         self.size = 0;
-        self.with_arguments = false;
     }
 
-    // Keeps the instance of a call, and answers its place.
-    fn keep(
-        &mut self,
-        alloc: Global,
-        call: &Call,
-        action: Action<Frac64>,
-        size: u32,
-    ) -> Result<usize, AllocError>
+    // Keeps a large instance of this size, and answers its place.
+    fn keep_large(&mut self, alloc: Global, kept: Kept, size: u32) -> Result<usize, AllocError>
         requires kept { AreMade self.old }
-        requires made { IsMade self.old.numbering.now.typed.now call.now.name call.now.args (action_of fraction_of action) }
+        requires made { IsKept self.old.numbering.now.typed.now kept }
         ensures kept { StayMade self.old self.new }
-        ensures made { IfOk result (λ place.
-            HasMade self.old.numbering.now.typed.now self.new call.now.name call.now.args (Place.Listed place)) }
+        ensures stands { IfOk result (λ place. slice_get self.new.large.items place ≡ Some kept) }
     {
         self.make_room(size);
-        let text = spelled(alloc, call)?;
-        let copy = copied(alloc, call)?;
-        let place = self.kept.len();
+        let text = spelled(alloc, &kept.call)?;
+        let place = self.large.len();
         self.places.insert(text, place)?;
-        self.kept.push(Kept { call: copy, action })?;
+        self.large.push(kept)?;
         self.size = self.size.saturating_add(size);
-        self.with_arguments = self.with_arguments || has_arguments(call);
         Ok(place)
     }
 }
