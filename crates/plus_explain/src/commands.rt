@@ -11,7 +11,7 @@ pub struct Form {
 }
 
 /// The commands, in the order in which they are listed. A command is added by a line here.
-pub static FORMS: [Form; 5] = [
+pub static FORMS: [Form; 10] = [
     Form {
         words: "check DOMAIN PROBLEM PLAN",
         does: "checks a plan, and writes what happens",
@@ -32,10 +32,30 @@ pub static FORMS: [Form; 5] = [
         words: "show problem PROBLEM",
         does: "writes the canonical text of a problem",
     },
+    Form {
+        words: "translate domain INTERVAL DOMAIN PROBLEM",
+        does: "writes the domain of the problem in steps",
+    },
+    Form {
+        words: "translate problem INTERVAL DOMAIN PROBLEM",
+        does: "writes the problem in steps",
+    },
+    Form {
+        words: "lift INTERVAL DOMAIN PROBLEM PLAN",
+        does: "gives a plan of the problem in steps its times",
+    },
+    Form {
+        words: "plan INTERVAL DECISIONS TRIES DOMAIN PROBLEM",
+        does: "searches for a plan on a grid of times",
+    },
+    Form {
+        words: "trial TANKS",
+        does: "checks a farm of so many tanks",
+    },
 ];
 
 /// The widest words of a command that others are lined up with.
-const WIDTH: usize = 42;
+const WIDTH: usize = 46;
 
 // Whether a word of a form stands for a word of the user's.
 fn is_open(word: &str) -> bool {
@@ -101,6 +121,6 @@ pub fn append_commands(into: &mut Vec<u8>) -> Result<(), AllocError> {
         append_form(into, form)?;
     }
     into.extend_from_slice(
-        b"The words in capital letters are yours: names of files, and a number.\n",
+        b"The words in capital letters are yours: names of files, and numbers.\n",
     )
 }

@@ -10,7 +10,7 @@ use Rattle.plus_validator.proofs.Excluding.{not_groundable}
 use Rattle.plus_validator.proofs.Deciding as plan
 use Rattle.plus_reply.specs.declared.status.Status.{Status}
 use Rattle.plus_reply.specs.declared.status.Status.TheVariants as s
-use Rattle.plus_run.specs.Command.{Command, Check, ShowDomain, ShowProblem, Numeric}
+use Rattle.plus_run.specs.Command.{Command, Check, ShowDomain, ShowProblem, Numeric, Trial, Translate, Lift, Plan}
 use Rattle.plus_run.specs.Headline.{SpellsWellTyped, IsValidRun, IsRefusedRun, OnRefusal, status_of, IsAnswer}
 use Rattle.plus_run.specs.Laws.{IsSettled, IsInside, IsDecided, is_valid, is_invalid, Decides, DecidesFor}
 use Rattle.plus_pair.proofs.OnePair.{pair_once, pair_or_not}
@@ -61,5 +61,9 @@ decides_for None bytes old new a b c e status h = tt
 decides_for (Some (ShowDomain file)) bytes old new a b c e status h = tt
 decides_for (Some (ShowProblem file)) bytes old new a b c e status h = tt
 decides_for (Some (Numeric dn pn ln)) bytes old new a b c e status h = tt
+decides_for (Some (Trial n)) bytes old new a b c e status h = tt
+decides_for (Some (Translate file q d p)) bytes old new a b c e status h = tt
+decides_for (Some (Lift q d p l)) bytes old new a b c e status h = tt
+decides_for (Some (Plan q k n d p)) bytes old new a b c e status h = tt
 decides_for (Some (Check dn pn ln n)) bytes old new a b c e status h = λ ds ps ls d p i j l k g.
     decides dn pn ln n bytes old new a b c e status ds ps ls d p i j l k h g

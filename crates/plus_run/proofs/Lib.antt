@@ -1,6 +1,8 @@
 pub mod AnswerLemmas
+pub mod CommandLemmas
 pub mod OneAnswer
 pub mod OneNumeric
+pub mod OneReply
 pub mod OneCommand
 pub mod NumericLemmas
 pub mod ReplyLemmas

@@ -5,7 +5,13 @@ use Rattle.plus_parser.specs.SpellsProblem.{SpellsProblemWithin}
 use Rattle.plus_printer.specs.Canon.{domain_text, problem_text}
 use Rattle.plus_reply.specs.declared.status.Status.{Status}
 use Rattle.plus_reply.specs.declared.status.Status.TheVariants as s
-use Rattle.plus_run.specs.Command.{Command, Check, ShowDomain, ShowProblem, Numeric}
+use Rattle.plus_trial_command.specs.Trial.{IsTrial}
+use Rattle.plus_trial_command.proofs.OneReply as trials
+use Rattle.plus_translate_command.specs.Translate.{Translates}
+use Rattle.plus_translate_command.proofs.OneReply as translations
+use Rattle.plus_lift_command.specs.Lift.{Lifts}
+use Rattle.plus_lift_command.proofs.OneReply as lifts
+use Rattle.plus_run.specs.Command.{Command, Check, ShowDomain, ShowProblem, Numeric, Trial, Translate, Lift, Plan}
 use Rattle.plus_pair.specs.Pair.{depth_limit, DomainRefused, ProblemRefused}
 use Rattle.plus_run.specs.Headline.{usage_line}
 use Rattle.plus_reply.specs.Statuses.{Writes}
@@ -13,6 +19,7 @@ use Rattle.plus_run.specs.Laws.{IsSettled, OneAnswer}
 use Rattle.plus_pair.proofs.OnePair.{domain_spelled_once, problem_spelled_once, domain_refused_once, problem_refused_once, domain_or_not, problem_or_not}
 use Rattle.plus_run.proofs.OneAnswer.{both_checks, both_shows, no_usage}
 use Rattle.plus_run.proofs.OneNumeric.{both_numeric}
+use Rattle.plus_run.proofs.OneReply.{both_replies, both_on_two, both_on_three}
 
 -- the words are no command
 usage_once : (old new new' : Option (List ℕ)) (c d c' d' : ℕ) (x y : Status) → IsSettled x → IsSettled y → Writes usage_line s.Usage old new c d x → Writes usage_line s.Usage old new' c' d' y → (x ≡ y) × (new ≡ new')
@@ -21,19 +28,29 @@ usage_once old new new' c d c' d' x y g h (inl a) (inr b) = absurd (subst IsSett
 usage_once old new new' c d c' d' x y g h (inr a) b = absurd (subst IsSettled a.0 g)
 
 pub one_answer : OneAnswer
-one_answer None bytes old new new' a b c d a' b' c' d' x y t h k g i =
+one_answer None bytes old new new' a b c d a' b' c' d' x y t h k g i whole =
     usage_once old new new' c d c' d' x y g i (h.no_command refl) (k.no_command refl)
-one_answer (Some (Check dn pn ln n)) bytes old new new' a b c d a' b' c' d' x y t h k g i =
+one_answer (Some (Check dn pn ln n)) bytes old new new' a b c d a' b' c' d' x y t h k g i whole =
     both_checks n (bytes dn) (bytes pn) (bytes ln) old new new' x y t.0 t.1.0 t.1.1.0 g i
     h.valid h.refused (no_usage (Check dn pn ln n) x h.usage) k.valid k.refused (no_usage (Check dn pn ln n) y k.usage)
-one_answer (Some (ShowDomain f)) bytes old new new' a b c d a' b' c' d' x y t h k g i =
+one_answer (Some (ShowDomain f)) bytes old new new' a b c d a' b' c' d' x y t h k g i whole =
     both_shows (SpellsWithin depth_limit) domain_text DomainRefused (bytes f) old new new' x y t.0
     domain_spelled_once domain_refused_once domain_or_not g i
     h.valid h.refused (no_usage (ShowDomain f) x h.usage) k.valid k.refused (no_usage (ShowDomain f) y k.usage)
-one_answer (Some (ShowProblem f)) bytes old new new' a b c d a' b' c' d' x y t h k g i =
+one_answer (Some (ShowProblem f)) bytes old new new' a b c d a' b' c' d' x y t h k g i whole =
     both_shows (SpellsProblemWithin depth_limit) problem_text ProblemRefused (bytes f) old new new' x y t.0
     problem_spelled_once problem_refused_once problem_or_not g i
     h.valid h.refused (no_usage (ShowProblem f) x h.usage) k.valid k.refused (no_usage (ShowProblem f) y k.usage)
-one_answer (Some (Numeric dn pn ln)) bytes old new new' a b c d a' b' c' d' x y t h k g i =
+one_answer (Some (Numeric dn pn ln)) bytes old new new' a b c d a' b' c' d' x y t h k g i whole =
     both_numeric (bytes dn) (bytes pn) (bytes ln) old new new' x y t.0 t.1.0 t.1.1.0 g i
     h.valid h.refused (no_usage (Numeric dn pn ln) x h.usage) k.valid k.refused (no_usage (Numeric dn pn ln) y k.usage)
+one_answer (Some (Trial n)) bytes old new new' a b c d a' b' c' d' x y t h k g i whole =
+    both_replies (IsTrial n) old new new' x y (trials.one_reply n) g i
+    h.valid h.refused (no_usage (Trial n) x h.usage) k.valid k.refused (no_usage (Trial n) y k.usage)
+one_answer (Some (Translate file q dn pn)) bytes old new new' a b c d a' b' c' d' x y t h k g i whole =
+    both_on_two (Translates file q) (bytes dn) (bytes pn) old new new' x y (translations.one_reply file q) t.0 t.1.0 g i
+    h.valid h.refused (no_usage (Translate file q dn pn) x h.usage) k.valid k.refused (no_usage (Translate file q dn pn) y k.usage)
+one_answer (Some (Lift q dn pn ln)) bytes old new new' a b c d a' b' c' d' x y t h k g i whole =
+    both_on_three (Lifts q) (bytes dn) (bytes pn) (bytes ln) old new new' x y (lifts.one_reply q) t.0 t.1.0 t.1.1.0 g i
+    h.valid h.refused (no_usage (Lift q dn pn ln) x h.usage) k.valid k.refused (no_usage (Lift q dn pn ln) y k.usage)
+one_answer (Some (Plan q k n dn pn)) bytes old new new' a b c d a' b' c' d' x y t h m g i whole = absurd whole

@@ -1,6 +1,8 @@
 -- From a reply to the answer of a command.
 use Rattle.std.proofs.Common.{◌≡◌, ℕ, List, Option, Some, subst, sym, refl, inl, inr}
-use Rattle.std.specs.Prelude.{IfOk, IfErr, Result, Ok, Err}
+use Rattle.std.specs.Prelude.{IfSome, IfOk, IfErr, Result, Ok, Err}
+use Rattle.plus_fraction.specs.Fraction.{Fraction}
+use Rattle.plus_types.specs.declared.faults.File.{File}
 use Rattle.plus_io.specs.Taken.{Took, TookPart}
 use Rattle.plus_reply.specs.declared.status.Status.{Status}
 use Rattle.plus_reply.specs.declared.status.Status.TheVariants as s
@@ -9,7 +11,13 @@ use Rattle.plus_reply.specs.declared.reply.Fault.{Fault}
 use Rattle.plus_reply.specs.declared.reply.Fault.TheVariants as faults
 use Rattle.plus_reply.specs.Statuses.{Writes}
 use Rattle.plus_reply.specs.Reply.{IsPlain, HasCause, Gives}
-use Rattle.plus_run.specs.Command.{Command}
+use Rattle.plus_reply.specs.Reply.{Replied, RepliedInPart}
+use Rattle.plus_reply.proofs.ReplyLemmas.{two_taken, two_taken_as, two_in_part, three_taken, three_taken_as, three_in_part}
+use Rattle.plus_trial_command.specs.Trial.{IsTrial}
+use Rattle.plus_translate_command.specs.Translate.{Translates}
+use Rattle.plus_lift_command.specs.Lift.{Lifts}
+use Rattle.plus_plan_command.specs.Plan.{Plans}
+use Rattle.plus_run.specs.Command.{Command, Trial, Translate, Lift, Plan}
 use Rattle.plus_run.specs.Headline.{RunsValid, RunsRefused, RunsBroken, IsAnswer}
 use Rattle.plus_run.proofs.AnswerLemmas.{by_fault, by_text, file_answer, memory_answer}
 use Rattle.plus_run.proofs.NumericLemmas.{refusal_at}
@@ -39,3 +47,54 @@ module _ (command : Command) (bytes : List ℕ → Option (List ℕ)) (old new :
       subst (λ n. IsAnswer (Some command) bytes old n a b c d r) (sym g.1) (subst (IsAnswer (Some command) bytes old old a b c d) (sym g.0) (file_answer command bytes old a b c d e))
   reply_answer (Err faults.NoMemory) H h p e g v f k =
       subst (λ n. IsAnswer (Some command) bytes old n a b c d r) (sym g.1) (subst (IsAnswer (Some command) bytes old old a b c d) (sym g.0) (memory_answer command bytes old a b c d))
+
+-- ---- command by command
+
+no_faults : (a b : ℕ) (reply : Result Reply Fault) → IfErr reply (λ f. f ≡ faults.NoMemory) → IfErr reply (HasCause a b)
+no_faults a b (Ok x) h = tt
+no_faults a b (Err faults.ReadFault) h = cc h
+no_faults a b (Err faults.NoMemory) h = tt
+
+module _ (bytes : List ℕ → Option (List ℕ)) (old new : Option (List ℕ)) (a b c d : ℕ) (r : Status) (reply : Result Reply Fault) where
+  pub trial_answer :
+      (n : ℕ) → IfOk reply (λ x. IsTrial n x.status x.text.items) → IfOk reply (λ x. IsPlain x.status) → IfErr reply (λ f. f ≡ faults.NoMemory)
+      → Gives reply old new c d r → IsAnswer (Some (Trial n)) bytes old new a b c d r
+  trial_answer n h p e g =
+      reply_answer (Trial n) bytes old new a b c d r reply (λ x. IsTrial n x.status x.text.items) h p (no_faults a b reply e) g
+      (λ x k v t. subst (Replied (IsTrial n) old new) v (record { written = x.text.items; reply = k; took = t }))
+      (λ x k t. record { written = x.text.items; reply = k; took = t })
+      (λ x k t. record { status = x.status; written = x.text.items; reply = k; part = t })
+
+  pub translate_answer :
+      (file : File) (q : Fraction) (dn pn : List ℕ) → IfOk reply (λ x. IfSome (bytes dn) (λ ds. IfSome (bytes pn) (λ ps. Translates file q ds ps x.status x.text.items)))
+      → IfOk reply (λ x. IsPlain x.status) → IfErr reply (HasCause a b) → Gives reply old new c d r
+      → IsAnswer (Some (Translate file q dn pn)) bytes old new a b c d r
+  translate_answer file q dn pn h p e g =
+      reply_answer (Translate file q dn pn) bytes old new a b c d r reply
+      (λ x. IfSome (bytes dn) (λ ds. IfSome (bytes pn) (λ ps. Translates file q ds ps x.status x.text.items))) h p e g
+      (λ x k v t. two_taken_as (bytes dn) (bytes pn) (Translates file q) old new x.status s.Valid x.text.items k v t)
+      (λ x k t. two_taken (bytes dn) (bytes pn) (Translates file q) old new x.status x.text.items k t)
+      (λ x k t. two_in_part (bytes dn) (bytes pn) (Translates file q) old new x.status x.text.items k t)
+
+  pub lift_answer :
+      (q : Fraction) (dn pn ln : List ℕ)
+      → IfOk reply (λ x. IfSome (bytes dn) (λ ds. IfSome (bytes pn) (λ ps. IfSome (bytes ln) (λ ls. Lifts q ds ps ls x.status x.text.items))))
+      → IfOk reply (λ x. IsPlain x.status) → IfErr reply (HasCause a b) → Gives reply old new c d r
+      → IsAnswer (Some (Lift q dn pn ln)) bytes old new a b c d r
+  lift_answer q dn pn ln h p e g =
+      reply_answer (Lift q dn pn ln) bytes old new a b c d r reply
+      (λ x. IfSome (bytes dn) (λ ds. IfSome (bytes pn) (λ ps. IfSome (bytes ln) (λ ls. Lifts q ds ps ls x.status x.text.items)))) h p e g
+      (λ x k v t. three_taken_as (bytes dn) (bytes pn) (bytes ln) (Lifts q) old new x.status s.Valid x.text.items k v t)
+      (λ x k t. three_taken (bytes dn) (bytes pn) (bytes ln) (Lifts q) old new x.status x.text.items k t)
+      (λ x k t. three_in_part (bytes dn) (bytes pn) (bytes ln) (Lifts q) old new x.status x.text.items k t)
+
+  pub plan_answer :
+      (q : Fraction) (k n : ℕ) (dn pn : List ℕ) → IfOk reply (λ x. IfSome (bytes dn) (λ ds. IfSome (bytes pn) (λ ps. Plans q k n ds ps x.status x.text.items)))
+      → IfOk reply (λ x. IsPlain x.status) → IfErr reply (HasCause a b) → Gives reply old new c d r
+      → IsAnswer (Some (Plan q k n dn pn)) bytes old new a b c d r
+  plan_answer q k n dn pn h p e g =
+      reply_answer (Plan q k n dn pn) bytes old new a b c d r reply
+      (λ x. IfSome (bytes dn) (λ ds. IfSome (bytes pn) (λ ps. Plans q k n ds ps x.status x.text.items))) h p e g
+      (λ x f v t. two_taken_as (bytes dn) (bytes pn) (Plans q k n) old new x.status s.Valid x.text.items f v t)
+      (λ x f t. two_taken (bytes dn) (bytes pn) (Plans q k n) old new x.status x.text.items f t)
+      (λ x f t. two_in_part (bytes dn) (bytes pn) (Plans q k n) old new x.status x.text.items f t)

@@ -13,11 +13,16 @@ use Rattle.plus_validator.specs.Validates.{Accepts, Refuses, BreaksOff, RefusesP
 use Rattle.plus_parser.specs.SpellsDomain.{SpellsWithin}
 use Rattle.plus_parser.specs.SpellsProblem.{SpellsProblemWithin}
 use Rattle.plus_printer.specs.Canon.{domain_text, problem_text}
-use Rattle.plus_run.specs.Command.{Command, Check, ShowDomain, ShowProblem, Numeric}
+use Rattle.plus_run.specs.Command.{Command, Check, ShowDomain, ShowProblem, Numeric, Trial, Translate, Lift, Plan}
 use Rattle.plus_pair.specs.Pair.{depth_limit, PairRefused, DomainRefused, ProblemRefused}
 pub use Rattle.plus_pair.specs.Pair.{SpellsWellTyped}
 use Rattle.plus_reply.specs.Statuses.{early_status, Writes}
 pub use Rattle.plus_reply.specs.Statuses.{status_of, exit_number}
+use Rattle.plus_reply.specs.Reply.{Replied, RepliedInPart}
+use Rattle.plus_trial_command.specs.Trial.{IsTrial}
+use Rattle.plus_translate_command.specs.Translate.{Translates}
+use Rattle.plus_lift_command.specs.Lift.{Lifts}
+use Rattle.plus_plan_command.specs.Plan.{Plans}
 use Rattle.plus_run.specs.Numeric.{RunsNumeric, RefusesNumeric, BreaksNumeric}
 use Rattle.plus_run.specs.Shown.{IsShown, IsNotShown, IsShownInPart}
 
@@ -41,6 +46,13 @@ RunsValid (Some (ShowProblem file)) bytes old new =
     IfSome (bytes file) (λ text. IsShown (SpellsProblemWithin depth_limit) problem_text text old new)
 RunsValid (Some (Numeric d p l)) bytes old new =
     IfSome (bytes d) (λ ds. IfSome (bytes p) (λ ps. IfSome (bytes l) (λ ls. RunsNumeric ds ps ls old new)))
+RunsValid (Some (Trial n)) bytes old new = Replied (IsTrial n) old new s.Valid
+RunsValid (Some (Translate file q d p)) bytes old new =
+    IfSome (bytes d) (λ ds. IfSome (bytes p) (λ ps. Replied (Translates file q ds ps) old new s.Valid))
+RunsValid (Some (Lift q d p l)) bytes old new =
+    IfSome (bytes d) (λ ds. IfSome (bytes p) (λ ps. IfSome (bytes l) (λ ls. Replied (Lifts q ds ps ls) old new s.Valid)))
+RunsValid (Some (Plan q k n d p)) bytes old new =
+    IfSome (bytes d) (λ ds. IfSome (bytes p) (λ ps. Replied (Plans q k n ds ps) old new s.Valid))
 
 -- the line that is written where the words mean no command
 abbrev pub usage_line : List ℕ
@@ -82,6 +94,13 @@ RunsRefused (Some (ShowDomain file)) bytes old new status = IfSome (bytes file) 
 RunsRefused (Some (ShowProblem file)) bytes old new status = IfSome (bytes file) (λ text. IsNotShown ProblemRefused text old new status)
 RunsRefused (Some (Numeric d p l)) bytes old new status =
     IfSome (bytes d) (λ ds. IfSome (bytes p) (λ ps. IfSome (bytes l) (λ ls. RefusesNumeric ds ps ls old new status)))
+RunsRefused (Some (Trial n)) bytes old new status = Replied (IsTrial n) old new status
+RunsRefused (Some (Translate file q d p)) bytes old new status =
+    IfSome (bytes d) (λ ds. IfSome (bytes p) (λ ps. Replied (Translates file q ds ps) old new status))
+RunsRefused (Some (Lift q d p l)) bytes old new status =
+    IfSome (bytes d) (λ ds. IfSome (bytes p) (λ ps. IfSome (bytes l) (λ ls. Replied (Lifts q ds ps ls) old new status)))
+RunsRefused (Some (Plan q k n d p)) bytes old new status =
+    IfSome (bytes d) (λ ds. IfSome (bytes p) (λ ps. Replied (Plans q k n ds ps) old new status))
 
 -- the same where the sink failed
 abbrev pub RunsBroken : Option Command → (List ℕ → Option (List ℕ)) → Option (List ℕ) → Option (List ℕ) → Type 0
@@ -94,6 +113,13 @@ RunsBroken (Some (ShowProblem file)) bytes old new =
     IfSome (bytes file) (λ text. IsShownInPart (SpellsProblemWithin depth_limit) problem_text ProblemRefused text old new)
 RunsBroken (Some (Numeric d p l)) bytes old new =
     IfSome (bytes d) (λ ds. IfSome (bytes p) (λ ps. IfSome (bytes l) (λ ls. BreaksNumeric ds ps ls old new)))
+RunsBroken (Some (Trial n)) bytes old new = RepliedInPart (IsTrial n) old new
+RunsBroken (Some (Translate file q d p)) bytes old new =
+    IfSome (bytes d) (λ ds. IfSome (bytes p) (λ ps. RepliedInPart (Translates file q ds ps) old new))
+RunsBroken (Some (Lift q d p l)) bytes old new =
+    IfSome (bytes d) (λ ds. IfSome (bytes p) (λ ps. IfSome (bytes l) (λ ls. RepliedInPart (Lifts q ds ps ls) old new)))
+RunsBroken (Some (Plan q k n d p)) bytes old new =
+    IfSome (bytes d) (λ ds. IfSome (bytes p) (λ ps. RepliedInPart (Plans q k n ds ps) old new))
 
 -- What the status of the top call shows: of the files and the output, and of the counts of faults before and now.
 pub record IsAnswer (command : Option Command) (bytes : List ℕ → Option (List ℕ)) (old new : Option (List ℕ)) (read_before read_now write_before write_now : ℕ) (status : Status) : Type 0 where

@@ -5,7 +5,7 @@ use Rattle.plus_tree.specs.declared.trees.Problem.{Problem}
 use Rattle.plus_validator.specs.Tame.{IsTameText, HasTrajectory}
 use Rattle.plus_reply.specs.declared.status.Status.{Status}
 use Rattle.plus_reply.specs.declared.status.Status.TheVariants as s
-use Rattle.plus_run.specs.Command.{Command, Check, files_of}
+use Rattle.plus_run.specs.Command.{Command, Check, Plan, files_of}
 use Rattle.plus_run.specs.Headline.{SpellsWellTyped, IsAnswer}
 
 -- the status tells of no fault of a file or of the output, and of no want of memory
@@ -20,13 +20,18 @@ abbrev pub AreTold : (List ℕ → Option (List ℕ)) → List (List ℕ) → Ty
 AreTold bytes [] = Unit {0}
 AreTold bytes (name ∷ names) = IsSome (bytes name) × AreTold bytes names
 
--- A command over the same files has one answer: two that tell of no fault and of no want of memory have the same status, and
+-- `plan` may find one of several plans, and may spend its tries or not; of every other command the answer is said whole
+abbrev pub IsSaidWhole : Option Command → Type 0
+IsSaidWhole (Some (Plan q k n d p)) = ⊥
+IsSaidWhole _ = Unit {0}
+
+-- Such a command over the same files has one answer: two that tell of no fault and of no want of memory have the same status, and
 -- the output took the same bytes.
 abbrev pub OneAnswer : Type 0
 OneAnswer =
     (command : Option Command) (bytes : List ℕ → Option (List ℕ)) (old new new' : Option (List ℕ)) (a b c d a' b' c' d' : ℕ) (status status' : Status)
     → AreTold bytes (files_of command) → IsAnswer command bytes old new a b c d status → IsAnswer command bytes old new' a' b' c' d' status'
-    → IsSettled status → IsSettled status' → (status ≡ status') × (new ≡ new')
+    → IsSettled status → IsSettled status' → IsSaidWhole command → (status ≡ status') × (new ≡ new')
 
 -- the three texts spell a well-typed pair and a plan, and all of it stays inside the limits, with so many moments
 pub record IsInside (happenings : ℕ) (domain problem plan : List ℕ) (d : Domain) (p : Problem) : Type 0 where

@@ -4,5 +4,6 @@
 pub mod command;
 pub mod laws;
 mod numeric;
+mod replies;
 pub mod run;
 mod show;

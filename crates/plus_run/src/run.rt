@@ -12,6 +12,7 @@ ghost use Rattle.plus_run.specs.Meant.{meant};
 
 use crate::command::{Check, Command, parse};
 use crate::numeric::numeric;
+use crate::replies::{lift, plan, translate, trial};
 use crate::show::{show_domain, show_problem};
 use plus_io::{Shelf, Sink};
 use plus_pair::pair::{Refusal, pair};
@@ -74,6 +75,10 @@ fn carry_out<S: Shelf, O: Sink>(
         Some(Command::ShowDomain(file)) => show_domain(alloc, file, shelf, out),
         Some(Command::ShowProblem(file)) => show_problem(alloc, file, shelf, out),
         Some(Command::Numeric(files)) => numeric(alloc, files, shelf, out),
+        Some(Command::Trial(tanks)) => trial(alloc, tanks, out),
+        Some(Command::Translate(file, words)) => translate(alloc, file, words, shelf, out),
+        Some(Command::Lift(words)) => lift(alloc, words, shelf, out),
+        Some(Command::Plan(words)) => plan(alloc, words, shelf, out),
     }
 }
 

@@ -1,0 +1,169 @@
+//! Rows of `plan`.
+
+use crate::tests::{expect_run, shelf_of};
+use plus_io::MemSink;
+use plus_reply::status::Status;
+use plus_run::run::run;
+use std::alloc::Global;
+use std::process::Abort;
+use std::test::Fail;
+
+const TANK: &str =
+    "(define (domain tank)\n (:predicates (open))\n (:functions (level))\n (:action open-valve :parameters () :precondition (not (open)) :effect (open))\n (:process fill :parameters () :precondition (open) :effect (increase (level) (* #t 2)))\n (:event full :parameters () :precondition (and (open) (>= (level) 5)) :effect (not (open))))\n";
+
+const TANK1: &str =
+    "(define (problem tank1) (:domain tank) (:init (= (level) 0)) (:goal (and (not (open)) (>= (level) 5))))\n";
+
+// The tank that nobody opens, and a timetable that does.
+const CLOSED: &str =
+    "(define (domain tank)\n (:predicates (open))\n (:functions (level))\n (:process fill :parameters () :precondition (open) :effect (increase (level) (* #t 2)))\n (:event full :parameters () :precondition (and (open) (>= (level) 5)) :effect (not (open))))\n";
+
+const TIMETABLE: &str =
+    "(define (problem tq) (:domain tank) (:init (= (level) 0) (at 2 (open)) (at 3 (not (open)))) (:goal (>= (level) 2)))\n";
+
+// A row: the words behind `plan`, the domain, the problem, the status and what is written.
+#[derive(Clone, Copy)]
+struct Row {
+    interval: &'static str,
+    decisions: &'static str,
+    tries: &'static str,
+    domain: &'static str,
+    problem: &'static str,
+    status: Status,
+    output: &'static str,
+}
+
+const ROWS: [Row; 10] = [
+    Row {
+        interval: "1",
+        decisions: "2",
+        tries: "1000",
+        domain: TANK,
+        problem: TANK1,
+        status: Status::Invalid,
+        output: "none: 2 decisions, 0 beyond\n",
+    },
+    Row {
+        interval: "1",
+        decisions: "4",
+        tries: "1000",
+        domain: TANK,
+        problem: TANK1,
+        status: Status::Valid,
+        output: "0: (open-valve)\n3: @end\n",
+    },
+    Row {
+        interval: "1",
+        decisions: "4",
+        tries: "1",
+        domain: TANK,
+        problem: TANK1,
+        status: Status::Beyond,
+        output: "spent: 1 tried\n",
+    },
+    Row {
+        interval: "1",
+        decisions: "3",
+        tries: "100",
+        domain: CLOSED,
+        problem: TIMETABLE,
+        status: Status::Valid,
+        output: "3: @end\n",
+    },
+    Row {
+        interval: "1",
+        decisions: "2",
+        tries: "100",
+        domain: CLOSED,
+        problem: TIMETABLE,
+        status: Status::Invalid,
+        output: "none: 2 decisions, 0 beyond\n",
+    },
+    // Times off the whole numbers.
+    Row {
+        interval: "1/2",
+        decisions: "6",
+        tries: "10000",
+        domain: TANK,
+        problem: TANK1,
+        status: Status::Valid,
+        output: "0: (open-valve)\n5/2: @end\n",
+    },
+    // The goal holds at the beginning.
+    Row {
+        interval: "1",
+        decisions: "0",
+        tries: "1",
+        domain: TANK,
+        problem: "(define (problem q) (:domain tank) (:init (= (level) 0)) (:goal (not (open))))\n",
+        status: Status::Valid,
+        output: "0: @end\n",
+    },
+    // An action has a literal that is no number of the program: 1/10^9 and 2^63 - 1 do not go together.
+    Row {
+        interval: "1",
+        decisions: "1",
+        tries: "1",
+        domain: "(define (domain d) (:functions (x)) (:action a :parameters () :effect (assign (x) 9223372036854775807.000000001)))\n",
+        problem: "(define (problem q) (:domain d) (:init (= (x) 0)) (:goal (and)))\n",
+        status: Status::Beyond,
+        output: "beyond: literal in domain 82-111\n",
+    },
+    Row {
+        interval: "1",
+        decisions: "65",
+        tries: "1",
+        domain: TANK,
+        problem: TANK1,
+        status: Status::Usage,
+        output: "usage: planplus COMMAND ARGUMENTS\n",
+    },
+    Row {
+        interval: "0",
+        decisions: "1",
+        tries: "1",
+        domain: TANK,
+        problem: TANK1,
+        status: Status::Usage,
+        output: "usage: planplus COMMAND ARGUMENTS\n",
+    },
+];
+
+// Runs one row.
+fn expect_row(rt: &impl Abort, alloc: Global, row: &Row) -> Result<(), Fail> {
+    let mut shelf = shelf_of(alloc, row.domain, row.problem, "")?;
+    let mut said = Vec::new(alloc);
+    for word in ["plan", row.interval, row.decisions, row.tries, "d", "p"] {
+        said.push(String::from_str(alloc, word)?)?;
+    }
+    let mut out = MemSink::new(alloc, 64);
+    let answer = run(alloc, &said, &mut shelf, &mut out);
+    assert_eq!(rt; out.bytes(), row.output.as_bytes());
+    assert_eq!(rt; answer, row.status);
+    Ok(())
+}
+
+#[test]
+fn rows_of_plan(rt: HostRuntime) -> Result<(), Fail> {
+    let alloc = rt.alloc();
+    for row in ROWS {
+        expect_row(&rt, alloc, &row)?;
+    }
+    Ok(())
+}
+
+// `check` accepts what `plan` writes.
+#[test]
+fn check_accepts_a_plan(rt: HostRuntime) -> Result<(), Fail> {
+    let alloc = rt.alloc();
+    let shelf = shelf_of(alloc, TANK, TANK1, "0: (open-valve)\n3: @end\n")?;
+    let out = MemSink::new(alloc, 64);
+    expect_run(
+        &rt,
+        alloc,
+        shelf,
+        out,
+        Status::Valid,
+        "at 0\n  act (open-valve)\n    + (open)\n  run (fill)\nat 5/2\n  (level) = 5\n  events (full)\n    - (open)\n  run\nat 3\nvalid\n",
+    )
+}

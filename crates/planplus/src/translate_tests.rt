@@ -1,0 +1,97 @@
+//! Rows of `translate`.
+
+use crate::tests::shelf_of;
+use plus_io::MemSink;
+use plus_reply::status::Status;
+use plus_run::run::run;
+use std::alloc::Global;
+use std::process::Abort;
+use std::test::Fail;
+
+const TANK: &str =
+    "(define (domain tank)\n (:predicates (open))\n (:functions (level))\n (:action open-valve :parameters () :precondition (not (open)) :effect (open))\n (:process fill :parameters () :precondition (open) :effect (increase (level) (* #t 2)))\n (:event full :parameters () :precondition (and (open) (>= (level) 5)) :effect (not (open))))\n";
+
+// A row: the half, the length of a step, the domain, the problem, the status and what is written.
+#[derive(Clone, Copy)]
+struct Row {
+    half: &'static str,
+    interval: &'static str,
+    domain: &'static str,
+    problem: &'static str,
+    status: Status,
+    output: &'static str,
+}
+
+const ROWS: [Row; 6] = [
+    Row {
+        half: "domain",
+        interval: "1/2",
+        domain: TANK,
+        problem: "(define (problem tank1) (:domain tank) (:init (= (level) 0)) (:goal (and (not (open)) (>= (level) 5))))\n",
+        status: Status::Valid,
+        output: "(define (domain tank)\n (:requirements :adl :fluents)\n (:predicates (open) (pp-f1))\n (:functions (level))\n (:action open-valve :parameters () :precondition (and (not (open)) (not (and (open) (>= (level) 5)))) :effect (and (open) (not (pp-f1))))\n (:action pp-step :parameters () :precondition (and (not (and (open) (>= (level) 5)))) :effect (and (when (open) (increase (level) (* (/ 1 2) 2))) (not (pp-f1))))\n (:action pp-fire :parameters () :precondition (and (or (and (open) (>= (level) 5))) (not (and (and (open) (>= (level) 5)) (pp-f1)))) :effect (and (when (and (open) (>= (level) 5)) (not (open))) (when (and (open) (>= (level) 5)) (pp-f1))))\n)\n",
+    },
+    Row {
+        half: "problem",
+        interval: "1/2",
+        domain: TANK,
+        problem: "(define (problem tank1) (:domain tank) (:init (= (level) 0)) (:goal (and (not (open)) (>= (level) 5))))\n",
+        status: Status::Valid,
+        output: "(define (problem tank1)\n (:domain tank)\n (:init (= (level) 0))\n (:goal (and (and (not (open)) (>= (level) 5)) (not (and (open) (>= (level) 5)))))\n)\n",
+    },
+    Row {
+        half: "domain",
+        interval: "1",
+        domain: "(define (domain d) (:predicates (pp-x)))",
+        problem: "(define (problem q) (:domain d) (:init) (:goal (and)))",
+        status: Status::BadText,
+        output: "bad text: domain 33-37: name taken\n",
+    },
+    Row {
+        half: "domain",
+        interval: "1",
+        domain: TANK,
+        problem: "(define (problem tq) (:domain tank) (:init (= (level) 0) (at 2 (open)) (at 3 (not (open)))) (:goal (>= (level) 2)))\n",
+        status: Status::Valid,
+        output: "(define (domain tank)\n (:requirements :adl :fluents)\n (:predicates (open) (pp-f1))\n (:functions (level) (pp-clock))\n (:action open-valve :parameters () :precondition (and (not (open)) (not (and (open) (>= (level) 5)))) :effect (and (open) (not (pp-f1))))\n (:action pp-step :parameters () :precondition (and (not (and (open) (>= (level) 5)))) :effect (and (when (open) (increase (level) (* 1 2))) (increase (pp-clock) 1) (when (= (pp-clock) 1) (open)) (when (= (pp-clock) 2) (not (open))) (not (pp-f1))))\n (:action pp-fire :parameters () :precondition (and (or (and (open) (>= (level) 5))) (not (and (and (open) (>= (level) 5)) (pp-f1)))) :effect (and (when (and (open) (>= (level) 5)) (not (open))) (when (and (open) (>= (level) 5)) (pp-f1))))\n)\n",
+    },
+    Row {
+        half: "problem",
+        interval: "1",
+        domain: TANK,
+        problem: "(define (problem tq) (:domain tank) (:init (= (level) 0) (at 2 (open)) (at 3 (not (open)))) (:goal (>= (level) 2)))\n",
+        status: Status::Valid,
+        output: "(define (problem tq)\n (:domain tank)\n (:init (= (level) 0) (= (pp-clock) 0))\n (:goal (and (>= (level) 2) (not (and (open) (>= (level) 5)))))\n)\n",
+    },
+    Row {
+        half: "domain",
+        interval: "2",
+        domain: TANK,
+        problem: "(define (problem q) (:domain tank) (:init (= (level) 0) (at 3 (open))) (:goal (and)))",
+        status: Status::BadText,
+        output: "bad text: problem 60-61: off grid\n",
+    },
+];
+
+// Runs one row.
+fn expect_row(rt: &impl Abort, alloc: Global, row: &Row) -> Result<(), Fail> {
+    let mut shelf = shelf_of(alloc, row.domain, row.problem, "")?;
+    let mut said = Vec::new(alloc);
+    for word in ["translate", row.half, row.interval, "d", "p"] {
+        said.push(String::from_str(alloc, word)?)?;
+    }
+    let mut out = MemSink::new(alloc, 64);
+    let answer = run(alloc, &said, &mut shelf, &mut out);
+    assert_eq!(rt; out.bytes(), row.output.as_bytes());
+    assert_eq!(rt; answer, row.status);
+    Ok(())
+}
+
+#[test]
+fn rows_of_translate(rt: HostRuntime) -> Result<(), Fail> {
+    let alloc = rt.alloc();
+    for row in ROWS {
+        expect_row(&rt, alloc, &row)?;
+    }
+    Ok(())
+}

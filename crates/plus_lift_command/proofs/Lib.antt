@@ -1,0 +1,4 @@
+pub mod AgainLemmas
+pub mod CallsLemmas
+pub mod LiftLemmas
+pub mod OneReply

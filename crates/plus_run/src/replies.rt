@@ -1,0 +1,100 @@
+//! The commands that have one reply.
+
+ghost use Rattle.std.specs.Prelude.{◌≡◌, ℕ, ◌≤◌, ◌+◌, List, Option, [], ◌∷◌, Some};
+ghost use Rattle.plus_io.specs.Files.{KeepsFiles};
+ghost use Rattle.plus_io.specs.Picks.{ReadsInOrder};
+ghost use Rattle.plus_pair.specs.Pair.{text_limit};
+ghost use Rattle.plus_run.specs.Command.{Trial};
+ghost use Rattle.plus_run.specs.Headline.{IsAnswer};
+ghost use Rattle.plus_run.specs.Meant.{meant};
+
+use crate::command::{Command, LiftFiles, Searched, Stepped};
+use plus_io::{Shelf, Sink};
+use plus_reply::reply::give;
+use plus_reply::status::Status;
+use plus_types::File;
+use plus_words::tanks::Tanks;
+use std::alloc::Global;
+
+/// `trial`: writes the line that sums up the check of a farm of so many tanks. No file is read.
+pub fn trial<O: Sink>(alloc: Global, tanks: Tanks, out: &mut O) -> Status
+    ensures answers { (bytes : List ℕ → Option (List ℕ)) (before now : ℕ)
+        → IsAnswer (Some (Trial tanks.number)) bytes (O.taken out.old) (O.taken out.new) before now
+        (O.faults out.old) (O.faults out.new) result }
+    ensures no_fall { O.faults out.old ≤ O.faults out.new }
+{
+    let reply = plus_trial_command::answer(alloc, tanks);
+    give(out, &reply)
+}
+
+/// `translate`: writes one half of the translation of a pair.
+pub fn translate<S: Shelf, O: Sink>(
+    alloc: Global,
+    file: File,
+    words: Stepped<'_>,
+    shelf: &mut S,
+    out: &mut O,
+) -> Status
+    ensures answers { IsAnswer (Some (meant (Command.Translate file words.entry))) (S.bytes shelf.old)
+        (O.taken out.old) (O.taken out.new) (S.faults shelf.old) (S.faults shelf.new)
+        (O.faults out.old) (O.faults out.new) result }
+    ensures reads { ReadsInOrder S.bytes S.picked S.rest S.picks (text_limit + 1)
+        (words.entry.domain.now ∷ words.entry.problem.now ∷ []) shelf.old shelf.new }
+    ensures keeps { KeepsFiles S.names S.bytes S.faults shelf.old shelf.new }
+    ensures no_fall { O.faults out.old ≤ O.faults out.new }
+{
+    let reply = plus_translate_command::answer(
+        alloc,
+        file,
+        words.interval,
+        words.domain,
+        words.problem,
+        shelf,
+    );
+    give(out, &reply)
+}
+
+/// `lift`: writes the timed plan that an untimed plan of the translation stands for, and the verdict on it.
+pub fn lift<S: Shelf, O: Sink>(
+    alloc: Global,
+    words: LiftFiles<'_>,
+    shelf: &mut S,
+    out: &mut O,
+) -> Status
+    ensures answers { IsAnswer (Some (meant (Command.Lift words.entry))) (S.bytes shelf.old)
+        (O.taken out.old) (O.taken out.new) (S.faults shelf.old) (S.faults shelf.new)
+        (O.faults out.old) (O.faults out.new) result }
+    ensures reads { ReadsInOrder S.bytes S.picked S.rest S.picks (text_limit + 1)
+        (words.entry.domain.now ∷ words.entry.problem.now ∷ words.entry.plan.now ∷ []) shelf.old shelf.new }
+    ensures keeps { KeepsFiles S.names S.bytes S.faults shelf.old shelf.new }
+    ensures no_fall { O.faults out.old ≤ O.faults out.new }
+{
+    let reply = plus_lift_command::answer(
+        alloc,
+        words.interval,
+        words.domain,
+        words.problem,
+        words.plan,
+        shelf,
+    );
+    give(out, &reply)
+}
+
+/// `plan`: searches for a plan of a pair, and writes it, or the line that says why there is none.
+pub fn plan<S: Shelf, O: Sink>(
+    alloc: Global,
+    words: Searched<'_>,
+    shelf: &mut S,
+    out: &mut O,
+) -> Status
+    ensures answers { IsAnswer (Some (meant (Command.Plan words.entry))) (S.bytes shelf.old)
+        (O.taken out.old) (O.taken out.new) (S.faults shelf.old) (S.faults shelf.new)
+        (O.faults out.old) (O.faults out.new) result }
+    ensures reads { ReadsInOrder S.bytes S.picked S.rest S.picks (text_limit + 1)
+        (words.entry.domain.now ∷ words.entry.problem.now ∷ []) shelf.old shelf.new }
+    ensures keeps { KeepsFiles S.names S.bytes S.faults shelf.old shelf.new }
+    ensures no_fall { O.faults out.old ≤ O.faults out.new }
+{
+    let reply = plus_plan_command::answer(alloc, words.search, words.domain, words.problem, shelf);
+    give(out, &reply)
+}

@@ -1,0 +1,2 @@
+pub mod TranslateLemmas
+pub mod OneReply

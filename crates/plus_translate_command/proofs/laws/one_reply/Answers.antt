@@ -1,0 +1,5 @@
+use Rattle.plus_translate_command.proofs.OneReply.{one_reply}
+use Rattle.plus_translate_command.proofs.laws.one_reply.Goals as goal
+
+pub returns : goal.returns
+returns c = one_reply

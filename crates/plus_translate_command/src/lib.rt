@@ -1,0 +1,7 @@
+//! The command `translate`: from a pair to the canonical text of one half of its translation.
+#![tactic(auto)]
+
+pub mod laws;
+pub mod translate;
+
+pub use translate::{answer, translated};

@@ -1,0 +1,119 @@
+//! The command `translate`.
+
+ghost use Rattle.std.specs.Prelude.{◌≡◌, ◌+◌, [], ◌∷◌, IfOk, IfErr, IfSome, MatchResult};
+ghost use Rattle.plus_io.specs.Files.{KeepsFiles};
+ghost use Rattle.plus_io.specs.Picks.{ReadsInOrder};
+ghost use Rattle.plus_number.specs.Frac.{fraction_of};
+ghost use Rattle.plus_pair.specs.Pair.{text_limit};
+ghost use Rattle.plus_reply.specs.Reply.{IsPlain, HasCause};
+ghost use Rattle.plus_translate.specs.Translates.{IsTranslation};
+ghost use Rattle.plus_translate_command.specs.Translate.{trans_refusal, half_text, IsUntranslated, TranslatesPair, Translates};
+
+use plus_interval::Interval;
+use plus_io::Shelf;
+use plus_pair::pair::{Refusal, bad_text, pair, release, release_trees, text_for};
+use plus_reply::canonical::{domain_text, problem_text};
+use plus_reply::reply::{Fault, Reply, refused};
+use plus_reply::status::Status;
+use plus_report::{Early, Text, Word};
+use plus_translate::{TransFault, translate};
+use plus_tree::{Domain, Problem};
+use plus_types::{File, Typed};
+use std::alloc::{AllocError, Global};
+
+// Why a pair has no translation.
+fn refuse_translation(fault: TransFault) -> Refusal
+    ensures { result ≡ trans_refusal fault }
+{
+    match fault {
+        TransFault::NameTaken { file, span } => bad_text(text_for(file), span, Word::NameTaken),
+        TransFault::OffGrid { span } => bad_text(Text::Problem, span, Word::OffGrid),
+        TransFault::TooDeep => Refusal::Early(Early::DepthOut),
+        TransFault::Memory => Refusal::NoMemory,
+    }
+}
+
+/// The translation of a well-typed pair in steps of this length.
+#[tactic(none)]
+pub fn translated(
+    alloc: Global,
+    typed: &Typed,
+    interval: Interval,
+) -> Result<(Domain, Problem), Refusal>
+    ensures { MatchResult result
+        (λ t. IsTranslation (fraction_of interval.value) typed.now.domain typed.now.problem t.0 t.1)
+        (IsUntranslated (fraction_of interval.value) typed.now.domain typed.now.problem) }
+{
+    match translate(alloc, typed, interval.value) {
+        Ok(trees) => Ok(trees),
+        Err(fault) => Err(refuse_translation(fault)),
+    }
+}
+
+// The text of one half.
+#[tactic(none)]
+fn half(
+    alloc: Global,
+    file: File,
+    domain: &Domain,
+    problem: &Problem,
+) -> Result<Vec<u8>, AllocError>
+    ensures { IfOk result (λ text. text.items ≡ half_text file domain.now problem.now) }
+{
+    match file {
+        File::Domain => domain_text(alloc, domain),
+        File::Problem => problem_text(alloc, problem),
+    }
+}
+
+// What is replied on a well-typed pair.
+#[tactic(none)]
+fn of_pair(alloc: Global, file: File, interval: Interval, typed: &Typed) -> Result<Reply, Fault>
+    ensures replies { IfOk result (λ r. TranslatesPair file (fraction_of interval.value)
+        typed.now.domain typed.now.problem r.status r.text.items) }
+    ensures memory { IfErr result (λ fault. fault ≡ Fault.NoMemory) }
+{
+    match translated(alloc, typed, interval) {
+        Ok((domain, problem)) => {
+            let text = half(alloc, file, &domain, &problem);
+            release_trees(domain, problem);
+            match text {
+                Ok(text) => Ok(Reply {
+                    status: Status::Valid,
+                    text,
+                }),
+                Err(_) => Err(Fault::NoMemory),
+            }
+        }
+        Err(refusal) => refused(alloc, refusal),
+    }
+}
+
+/// What is replied on the texts under two names.
+#[tactic(none)]
+pub fn answer<S: Shelf>(
+    alloc: Global,
+    file: File,
+    interval: Interval,
+    domain: &str,
+    problem: &str,
+    shelf: &mut S,
+) -> Result<Reply, Fault>
+    ensures replies { IfOk result (λ r. IfSome (S.bytes shelf.old domain.now) (λ ds.
+        IfSome (S.bytes shelf.old problem.now) (λ ps.
+        Translates file (fraction_of interval.value) ds ps r.status r.text.items))) }
+    ensures plain { IfOk result (λ r. IsPlain r.status) }
+    ensures fault { IfErr result (HasCause (S.faults shelf.old) (S.faults shelf.new)) }
+    ensures reads { ReadsInOrder S.bytes S.picked S.rest S.picks (text_limit + 1)
+        (domain.now ∷ problem.now ∷ []) shelf.old shelf.new }
+    ensures keeps { KeepsFiles S.names S.bytes S.faults shelf.old shelf.new }
+{
+    match pair(alloc, shelf, domain, problem) {
+        Ok(typed) => {
+            let reply = of_pair(alloc, file, interval, &typed);
+            release(typed);
+            reply
+        }
+        Err(refusal) => refused(alloc, refusal),
+    }
+}

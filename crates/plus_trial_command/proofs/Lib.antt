@@ -1,0 +1,2 @@
+mod TrialLemmas
+pub mod OneReply

@@ -1,0 +1,7 @@
+//! The command `trial`: the check of a farm of tanks that is made in memory, in one line.
+#![tactic(auto)]
+
+pub mod laws;
+mod trial;
+
+pub use trial::answer;

@@ -1,0 +1,8 @@
+(define (domain kettle)
+ (:requirements :adl :fluents)
+ (:predicates (on) (pp-f1))
+ (:functions (temperature))
+ (:action switch-on :parameters () :precondition (and (not (on)) (not (and (on) (>= (temperature) 100)))) :effect (and (on) (not (pp-f1))))
+ (:action pp-step :parameters () :precondition (and (not (and (on) (>= (temperature) 100)))) :effect (and (when (on) (increase (temperature) (* (/ 1 2) 30))) (not (pp-f1))))
+ (:action pp-fire :parameters () :precondition (and (or (and (on) (>= (temperature) 100))) (not (and (and (on) (>= (temperature) 100)) (pp-f1)))) :effect (and (when (and (on) (>= (temperature) 100)) (not (on))) (when (and (on) (>= (temperature) 100)) (pp-f1))))
+)

@@ -1,0 +1,5 @@
+(define (problem tea)
+ (:domain kettle)
+ (:init (= (temperature) 15))
+ (:goal (and (and (>= (temperature) 100) (not (on))) (not (and (on) (>= (temperature) 100)))))
+)

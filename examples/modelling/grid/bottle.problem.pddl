@@ -1,0 +1,4 @@
+(define (problem bottle-it)
+ (:domain basin)
+ (:init (= (level) 0))
+ (:goal (bottled)))

@@ -1,0 +1,4 @@
+(define (problem fill-it)
+ (:domain basin)
+ (:init (= (level) 0))
+ (:goal (full)))
