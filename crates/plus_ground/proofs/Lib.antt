@@ -8,3 +8,4 @@ pub mod Sorting
 pub mod TimedLemmas
 pub mod CallsLemmas
 pub mod NothingLemmas
+pub mod AmongLemmas

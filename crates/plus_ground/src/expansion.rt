@@ -3,6 +3,7 @@
 ghost use Rattle.std.specs.Prelude.{◌≡◌, None, Some, length, slice_get, nat_eq, IfOk, MatchResult, MatchOption, if◌then◌else◌};
 ghost use Rattle.std.specs.List.{list_any, position_or_len};
 ghost use Rattle.std.specs.Str.{bytes_eq};
+ghost use Rattle.plus_model.specs.Running.{IsRising};
 ghost use Rattle.plus_state.specs.View.{problem_of, labels_of, action_of};
 ghost use Rattle.plus_state.specs.Fits.{ActionFits};
 ghost use Rattle.plus_types.specs.Faults.{action_names};
@@ -103,16 +104,15 @@ fn named<'a>(typed: &'a Typed, name: &[u8]) -> Option<&'a Schema>
     }
 }
 
-// Whether an object is one of these.
+// Whether an object is one of these, which rise.
 fn is_among(object: u32, members: &[u32]) -> bool
+    requires { IsRising 0 members.now }
     ensures { result ≡ list_any (nat_eq object) members.now }
 {
-    'members: for member in members {
-        if object == *member {
-            return true;
-        }
+    match members.binary_search(&object) {
+        Ok(_) => true,
+        Err(_) => false,
     }
-    false
 }
 
 // Binds parameters to the objects with these names, and answers whether there are as many names as

@@ -5,8 +5,13 @@ use Rattle.plus_types.specs.Faults.{problem_context}
 use Rattle.plus_numbering.specs.Objects.{members_of, object_place}
 use Rattle.plus_expansion.specs.Environments.{Environment}
 use Rattle.plus_expansion.specs.Calls.{bound_by}
+use Rattle.plus_ground.proofs.AmongLemmas.{members_rise}
 use Rattle.plus_ground.proofs.CallsLemmas.{bound_none, bound_some, rest_all}
 use Rattle.plus_ground.proofs.expansion.+bind.Goals as goal
+
+pub is_among-requires : goal.is_among-requires
+is_among-requires n c =
+    rw c.members.ensures (members_rise (problem_context c.args.numbering.now.typed.now.domain c.args.numbering.now.typed.now.problem) c.bytes-in-len1-up-args.result.now)
 
 pub returns-else-is_among : goal.returns-else-is_among
 returns-else-is_among n c =
