@@ -1,7 +1,7 @@
 #!/usr/bin/env python3
 """Prints what the statement of a contract stands on: the files of definitions that it cites, and those that they cite.
 
-usage: bench/closure.py FILE.rt FUNCTION      as bench/closure.py crates/planplus/src/run.rt run
+usage: bench/closure.py FILE.rt FUNCTION      as bench/closure.py crates/plus_run/src/run.rt run
 
 It follows the imports of the words that the function's contract uses, through specs/ and through the models of the types
 that are declared in code, and counts for each crate the files, the lines of definitions (imports left out) and the lines of
