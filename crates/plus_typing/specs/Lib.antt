@@ -1,0 +1,5 @@
+pub mod Forms
+pub mod WellTyped
+pub mod Asked
+pub mod Laws
+pub mod Rows

@@ -1,0 +1,18 @@
+//! The laws, the contracts of functions with empty bodies.
+ghost use Rattle.plus_typing.specs.Laws.{WellTypedByStatements, FirstBroken, FaultsNameRules};
+
+/// A pair is well typed exactly where it obeys each rule.
+pub fn well_typed_by_statements()
+    ensures { WellTypedByStatements }
+{}
+
+/// The faults of a pair are those of the rules that are not met, in the order in which they are asked: so the first fault
+/// names the first rule that is broken.
+pub fn first_broken()
+    ensures { FirstBroken }
+{}
+
+/// Each fault names a rule that the pair does not obey, and so does the first, which a check answers.
+pub fn faults_name_rules()
+    ensures { FaultsNameRules }
+{}
