@@ -1,5 +1,6 @@
 pub mod Told
 pub mod Lists
+pub mod Above
 pub mod Rules
 pub mod Typed
 pub mod RulesRows

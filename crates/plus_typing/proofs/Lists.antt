@@ -43,14 +43,14 @@ all_more P Q h (x ∷ xs) a = (h x a.0, all_more P Q h xs a.1)
 
 -- ---- no two the same
 
-or_false : (a b : Bool) → a ≡ false → b ≡ false → (a || b) ≡ false
+pub or_false : (a b : Bool) → a ≡ false → b ≡ false → (a || b) ≡ false
 or_false a b e f = ap (λ x. x || b) e ∙ f
 
-or_first : (a b : Bool) → (a || b) ≡ false → a ≡ false
+pub or_first : (a b : Bool) → (a || b) ≡ false → a ≡ false
 or_first true b e = e
 or_first false b e = refl
 
-or_second : (a b : Bool) → (a || b) ≡ false → b ≡ false
+pub or_second : (a b : Bool) → (a || b) ≡ false → b ≡ false
 or_second true b e = absurd cc
 or_second false b e = e
 

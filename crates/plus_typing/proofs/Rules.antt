@@ -24,8 +24,9 @@ use Rattle.plus_types.specs.declared.faults.TypeFault.TheVariants.{At, Memory}
 use Rattle.plus_types.specs.Types.{Binding, is_among, names_of, bound_names, kind_of, is_under}
 use Rattle.plus_types.specs.Faults.{params_of, term_kind, is_rate, ground_name, same_names}
 use Rattle.plus_typing.specs.Forms.{Place, Form, used, side, binds, clock, writes, guards, Found, Standing, uses_at, terms_at, lists_at, clocks_at, writes_at, guards_at, in_init}
-use Rattle.plus_typing.specs.WellTyped.{NamesOnce, BindsNew, HasType, HasTypes, IsNotAboveItself, IsDeclared, IsObject, IsBound, IsCounted, FitsParameter, Fits, IsRateInProcess, valued_by}
+use Rattle.plus_typing.specs.WellTyped.{IsUnder, NamesOnce, BindsNew, HasType, HasTypes, IsNotAboveItself, IsDeclared, IsObject, IsBound, IsCounted, FitsParameter, Fits, IsRateInProcess, valued_by}
 use Rattle.plus_typing.specs.Asked.{Asked, broken, passes, ask_types, ask_list, unknown, ask_arguments, ask_use, ask_form, ask_forms, ask_each, ask_value, ask_init}
+use Rattle.plus_typing.proofs.Above.{under_from, under_to, not_above, none_above}
 use Rattle.plus_typing.proofs.Lists.{all_both, all_left, all_right, all_inner, all_outer, all_more, Fresh, fresh_differ, differ_fresh, fresh_right, names_decide}
 
 -- all is met
@@ -104,14 +105,14 @@ types_from types earlier [] m = (tt, tt)
 types_from types earlier (t ∷ ts) m =
     let n = not_true (is_among earlier t.name.name) m.0 in
     let rest = types_from types (earlier ++ t.name.name ∷ []) ts m.1.1 in
-    ((n, rest.0), (behind (is_among earlier t.name.name) _ n m.1.0, rest.1))
+    ((n, rest.0), (not_above types t.name.name t.name.name (behind (is_among earlier t.name.name) _ n m.1.0), rest.1))
 
 pub types_to : (W : Wrong → Type 0) (types : List Binding) (earlier : List (List ℕ)) (ts : List TypedName) → (W Twice → New earlier (names_of ts)) → (W TypeLoop → Low types ts)
     → MetFor W (ask_types types earlier ts)
 types_to W types earlier [] n l = tt
 types_to W types earlier (t ∷ ts) n l = (
   λ w. true_not (is_among earlier t.name.name) (n w).0,
-  (λ w. in_front (is_among earlier t.name.name) _ (l w).0, types_to W types (earlier ++ t.name.name ∷ []) ts (λ w. (n w).1) (λ w. (l w).1)),
+  (λ w. in_front (is_among earlier t.name.name) _ (none_above types t.name.name t.name.name (l w).0), types_to W types (earlier ++ t.name.name ∷ []) ts (λ w. (n w).1) (λ w. (l w).1)),
 )
 
 abbrev pub Outside : List (List ℕ) → List TypedName → Type 0
@@ -178,13 +179,13 @@ known_to : (W : Wrong → Type 0) (here : Place) (t : Term) → (W UnknownName �
 known_to W here (Object x) o b w = kind_found here.context.objects x.name ∙ o w
 known_to W here (Variable x) o b w = kind_found here.vars x.name ∙ b w
 
-type_from : (here : Place) (kind : List ℕ) (o : Option (List ℕ)) → passes o (λ k. is_under here.context.types k kind) ≡ true → IfSome o (λ k. IsTrue (is_under here.context.types k kind))
+type_from : (here : Place) (kind : List ℕ) (o : Option (List ℕ)) → passes o (λ k. is_under here.context.types k kind) ≡ true → IfSome o (λ k. IsUnder here.context.types k kind)
 type_from here kind None e = tt
-type_from here kind (Some k) e = e
+type_from here kind (Some k) e = under_from here.context.types k kind e
 
-type_to : (here : Place) (kind : List ℕ) (o : Option (List ℕ)) → IfSome o (λ k. IsTrue (is_under here.context.types k kind)) → passes o (λ k. is_under here.context.types k kind) ≡ true
+type_to : (here : Place) (kind : List ℕ) (o : Option (List ℕ)) → IfSome o (λ k. IsUnder here.context.types k kind) → passes o (λ k. is_under here.context.types k kind) ≡ true
 type_to here kind None e = refl
-type_to here kind (Some k) e = e
+type_to here kind (Some k) e = under_to here.context.types k kind e
 
 abbrev FitAll : Place → List TypedName → List Term → Type 0
 FitAll here ps ts = AllByRecursion (FitsParameter here) (zip ps ts)

@@ -1,11 +1,13 @@
 -- What the rules and the walk of a check have to do with each other.
-use Rattle.std.specs.Prelude.{◌≡◌, ◌↔◌, [], All}
+use Rattle.std.specs.Prelude.{◌≡◌, ◌↔◌, ℕ, List, [], All}
+use Rattle.std.specs.Bool.{Decides}
 use Rattle.plus_tree.specs.declared.trees.Domain.{Domain}
 use Rattle.plus_tree.specs.declared.trees.Problem.{Problem}
 use Rattle.plus_types.specs.declared.faults.TypeFault.{TypeFault}
 use Rattle.plus_types.specs.declared.faults.TypeFault.TheVariants.{At, Memory}
+use Rattle.plus_types.specs.Types.{Binding, is_above}
 use Rattle.plus_types.specs.Faults.{type_faults}
-use Rattle.plus_typing.specs.WellTyped.{Rule, IsWellTyped}
+use Rattle.plus_typing.specs.WellTyped.{IsAbove, Rule, IsWellTyped}
 use Rattle.plus_typing.specs.Asked.{broken, rules_asked}
 
 -- a pair has no faults exactly where it obeys the rules
@@ -24,3 +26,7 @@ NamesBroken d p Memory = ⊥
 -- so does each of its faults, the first one too
 abbrev pub FaultsNameRules : Type 0
 FaultsNameRules = (d : Domain) (p : Problem) → All (NamesBroken d p) (type_faults d p)
+
+-- the test of a check, which takes so many steps up and no more, says exactly whether one type is above another
+abbrev pub AboveIsDecided : Type 0
+AboveIsDecided = (types : List Binding) (high low : List ℕ) → Decides (is_above types high low) (IsAbove types high low)

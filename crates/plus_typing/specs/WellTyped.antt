@@ -1,6 +1,6 @@
 -- When a domain and a problem are well typed, rule by rule (PDDL+: Fox and Long 2003 and 2006). Each rule is asked of
 -- all forms that it speaks of, in whatever order.
-use Rattle.std.specs.Prelude.{◌≡◌, ◌≢◌, ℕ, List, [], ◌∷◌, map, length, zip, flat_map, All, AllPairs, IsTrue, IsFalse, IfSome, Option, ⊤}
+use Rattle.std.specs.Prelude.{◌≡◌, ◌≢◌, ◌⊎◌, ℕ, List, [], ◌∷◌, map, length, zip, flat_map, All, AllPairs, IsTrue, IsFalse, IfSome, Option, ⊤}
 use Rattle.plus_tree.specs.declared.names.Span.{Span}
 use Rattle.plus_tree.specs.declared.terms.Term.{Term}
 use Rattle.plus_tree.specs.declared.terms.Term.TheVariants.{Object, Variable}
@@ -12,7 +12,7 @@ use Rattle.plus_tree.specs.declared.trees.Init.TheVariants.{Value}
 use Rattle.plus_tree.specs.declared.trees.Problem.{Problem}
 use Rattle.plus_types.specs.declared.faults.Wrong.{Wrong}
 use Rattle.plus_types.specs.declared.faults.Wrong.TheVariants.{UnknownType, UnknownName, Arity, WrongType, Twice, Unbound, Shadowed, TypeLoop, RateForm, DomainName}
-use Rattle.plus_types.specs.Types.{Binding, is_among, names_of, bindings_of, bound_names, is_type, is_above, is_under, objects_of}
+use Rattle.plus_types.specs.Types.{Binding, is_among, names_of, bindings_of, bound_names, is_type, right_above, objects_of}
 use Rattle.plus_types.specs.Faults.{params_of, term_kind, is_rate, ground_name, predicate_names, function_names, action_names, process_names, event_names}
 use Rattle.plus_typing.specs.Forms.{Place, UseAt, Standing, all_uses, all_terms, all_lists, all_clocks, all_writes, all_guards}
 
@@ -53,9 +53,22 @@ NothingShadowed d p = All BindsNew (all_lists d p)
 
 -- ---- types
 
+-- one step after the other leads up from the lower type to the higher one, through these
+abbrev pub Steps : List Binding → List ℕ → List (List ℕ) → List ℕ → Type 0
+Steps types low [] high = IsTrue (is_among (right_above types low) high)
+Steps types low (k ∷ ks) high = IsTrue (is_among (right_above types low) k) × Steps types k ks high
+
+-- a type is above another: steps lead up to it
+abbrev pub IsAbove : List Binding → List ℕ → List ℕ → Type 0
+IsAbove types high low = (ks : List (List ℕ)) × Steps types low ks high
+
+-- a type is another, or the other is above it
+abbrev pub IsUnder : List Binding → List ℕ → List ℕ → Type 0
+IsUnder types low high = (low ≡ high) ⊎ IsAbove types high low
+
 -- no type is above itself
 abbrev pub IsNotAboveItself : List Binding → TypedName → Type 0
-IsNotAboveItself types t = IsFalse (is_above types t.name.name t.name.name)
+IsNotAboveItself types t = IsAbove types t.name.name t.name.name → ⊥
 
 abbrev pub NoTypeLoop : Domain → Problem → Type 0
 NoTypeLoop d p = All (IsNotAboveItself (bindings_of d.types)) d.types
@@ -108,7 +121,7 @@ ArgumentsCounted d p = All IsCounted (all_uses d p)
 
 -- the type of a term, if it is known, is this one or is under it
 abbrev pub IsOfType : Place → List ℕ → Term → Type 0
-IsOfType here kind t = IfSome (term_kind here.context here.vars t) (λ k. IsTrue (is_under here.context.types k kind))
+IsOfType here kind t = IfSome (term_kind here.context here.vars t) (λ k. IsUnder here.context.types k kind)
 
 -- an argument at the place of a parameter
 abbrev pub FitsParameter : Place → TypedName × Term → Type 0

@@ -1,5 +1,5 @@
 //! The laws, the contracts of functions with empty bodies.
-ghost use Rattle.plus_typing.specs.Laws.{WellTypedByStatements, FirstBroken, FaultsNameRules};
+ghost use Rattle.plus_typing.specs.Laws.{WellTypedByStatements, FirstBroken, FaultsNameRules, AboveIsDecided};
 
 /// A pair is well typed exactly where it obeys each rule.
 pub fn well_typed_by_statements()
@@ -15,4 +15,10 @@ pub fn first_broken()
 /// Each fault names a rule that the pair does not obey, and so does the first, which a check answers.
 pub fn faults_name_rules()
     ensures { FaultsNameRules }
+{}
+
+/// The test by which a check tells whether one type is above another takes at most as many steps up as
+/// there are listed types, and one: it finds each way up, however long.
+pub fn above_is_decided()
+    ensures { AboveIsDecided }
 {}
