@@ -4,3 +4,4 @@ pub mod Above
 pub mod Rules
 pub mod Typed
 pub mod RulesRows
+pub mod First

@@ -172,20 +172,22 @@ mutual
   exprs_told here (more_exprs e es) = both (in_expr here e) (in_exprs here es) _ _ (expr_told here e) (exprs_told here es)
 
 mutual
-  cond_told : (here : Place) (f : Cond) → told (in_cond here f) ≡ cond_faults here.context here.vars f
-  cond_told here (c_all cs s) = conds_told here cs
-  cond_told here (c_any cs s) = conds_told here cs
-  cond_told here (c_not f s) = cond_told here f
-  cond_told here (c_imply f g s) = both (in_cond here f) (in_cond here g) _ _ (cond_told here f) (cond_told here g)
-  cond_told here (c_forall vs f s) = both (found here (binds vs)) (in_cond (inside here vs) f) _ _ (binds_told here vs) (cond_told (inside here vs) f)
-  cond_told here (c_exists vs f s) = both (found here (binds vs)) (in_cond (inside here vs) f) _ _ (binds_told here vs) (cond_told (inside here vs) f)
-  cond_told here (c_atom u s) = used_told here here.context.predicates u
-  cond_told here (c_same t u s) = both (found here (side t)) (found here (side u)) _ _ (side_told here t) (side_told here u)
-  cond_told here (c_compare op e f s) = both (in_expr (reading here) e) (in_expr (reading here) f) _ _ (expr_told (reading here) e) (expr_told (reading here) f)
+  cond_told : (here : Place) (f : Cond) → here.flows ≡ false → told (in_cond here f) ≡ cond_faults here.context here.vars f
+  cond_told here (c_all cs s) h = conds_told here cs h
+  cond_told here (c_any cs s) h = conds_told here cs h
+  cond_told here (c_not f s) h = cond_told here f h
+  cond_told here (c_imply f g s) h = both (in_cond here f) (in_cond here g) _ _ (cond_told here f h) (cond_told here g h)
+  cond_told here (c_forall vs f s) h = both (found here (binds vs)) (in_cond (inside here vs) f) _ _ (binds_told here vs) (cond_told (inside here vs) f h)
+  cond_told here (c_exists vs f s) h = both (found here (binds vs)) (in_cond (inside here vs) f) _ _ (binds_told here vs) (cond_told (inside here vs) f h)
+  cond_told here (c_atom u s) h = used_told here here.context.predicates u
+  cond_told here (c_same t u s) h = both (found here (side t)) (found here (side u)) _ _ (side_told here t) (side_told here u)
+  cond_told here (c_compare op e f s) h =
+      both (in_expr here e) (in_expr here f) _ _ (expr_told here e ∙ ap (λ b. expr_faults here.context here.vars b e) h)
+      (expr_told here f ∙ ap (λ b. expr_faults here.context here.vars b f) h)
 
-  conds_told : (here : Place) (fs : Conds) → told (in_conds here fs) ≡ conds_faults here.context here.vars fs
-  conds_told here no_conds = refl
-  conds_told here (more_conds f fs) = both (in_cond here f) (in_conds here fs) _ _ (cond_told here f) (conds_told here fs)
+  conds_told : (here : Place) (fs : Conds) → here.flows ≡ false → told (in_conds here fs) ≡ conds_faults here.context here.vars fs
+  conds_told here no_conds h = refl
+  conds_told here (more_conds f fs) h = both (in_cond here f) (in_conds here fs) _ _ (cond_told here f h) (conds_told here fs h)
 
 amount_told : (here : Place) (u : Use) (e : Expr) → told (in_amount here u e) ≡ number_faults here.context here.vars here.flows u e
 amount_told here u e = both (found here (used here.context.functions u)) (in_expr here e) _ _ (used_told here here.context.functions u) (expr_told here e)
@@ -212,8 +214,8 @@ mutual
   effect_told here (e_all es s) = effects_told here es
   effect_told here (e_forall vs e s) = both (found here (binds vs)) (in_effect (inside here vs) e) _ _ (binds_told here vs) (effect_told (inside here vs) e)
   effect_told here (e_when f ls s) =
-      both (found here (guards s)) (in_cond here f ++ flat_map (in_leaf here) ls) _ _ (guards_told here s)
-      (both (in_cond here f) (flat_map (in_leaf here) ls) _ _ (cond_told here f) (leaves_told here ls))
+      both (found here (guards s)) (in_cond (reading here) f ++ flat_map (in_leaf here) ls) _ _ (guards_told here s)
+      (both (in_cond (reading here) f) (flat_map (in_leaf here) ls) _ _ (cond_told (reading here) f refl) (leaves_told here ls))
   effect_told here (e_leaf l s) = leaf_told here l
 
   effects_told : (here : Place) (es : Effects) → told (in_effects here es) ≡ effects_faults here.context here.vars here.flows es
@@ -242,8 +244,8 @@ schema_told : (here : Place) (a : Schema) → told (in_schema here a)
     ≡ variables_faults here.context here.vars a.params
     ++ (cond_faults here.context (here.vars ++ bindings_of a.params) a.condition ++ effect_faults here.context (here.vars ++ bindings_of a.params) here.flows a.effect)
 schema_told here a =
-    both (found here (binds a.params)) (in_cond (inside here a.params) a.condition ++ in_effect (inside here a.params) a.effect) _ _ (binds_told here a.params)
-    (both (in_cond (inside here a.params) a.condition) (in_effect (inside here a.params) a.effect) _ _ (cond_told (inside here a.params) a.condition) (effect_told (inside here a.params) a.effect))
+    both (found here (binds a.params)) (in_cond (reading (inside here a.params)) a.condition ++ in_effect (inside here a.params) a.effect) _ _ (binds_told here a.params)
+    (both (in_cond (reading (inside here a.params)) a.condition) (in_effect (inside here a.params) a.effect) _ _ (cond_told (reading (inside here a.params)) a.condition refl) (effect_told (inside here a.params) a.effect))
 
 schemas_told : (d : Domain) (flows : Bool) (earlier : List (List ℕ)) (ss : List Schema)
     → broken (ask_each (λ (a : Schema). a.name) (in_schema (in_domain flows d)) earlier ss) ≡ schemas_faults (domain_context d) flows earlier ss
@@ -292,7 +294,7 @@ init_told here valued (Value u n s ∷ more) v =
 
 state_told : (d : Domain) (p : Problem) → broken (ask_init (in_problem d p) [] p.init ++ ask_forms (in_cond (in_problem d p) p.goal)) ≡ state_faults d p
 unfolding state_faults
-state_told d p = broken_both (ask_init (in_problem d p) [] p.init) _ _ _ (init_told (in_problem d p) [] p.init refl) (cond_told (in_problem d p) p.goal)
+state_told d p = broken_both (ask_init (in_problem d p) [] p.init) _ _ _ (init_told (in_problem d p) [] p.init refl) (cond_told (in_problem d p) p.goal refl)
 
 problem_told : (d : Domain) (p : Problem) → broken (ask_problem d p) ≡ problem_faults d p
 unfolding problem_faults

@@ -1,6 +1,7 @@
 -- A pair without faults obeys the rules, and one that obeys them has none.
-use Rattle.std.proofs.Common.{◌≡◌, true, false, List, [], ◌∷◌, ◌++◌, sym, subst, ◌∙◌, flat_map, All}
+use Rattle.std.proofs.Common.{◌≡◌, true, false, List, [], ◌∷◌, ◌++◌, refl, ap, sym, subst, ◌∙◌, flat_map, All}
 use Rattle.std.specs.Prelude.{◌↔◌, IsTrue, IsFalse}
+use Rattle.std.specs.Bool.{Decides}
 use Rattle.std.specs.List.{AllByRecursion}
 use Rattle.std.specs.Str.{bytes_eq}
 use Rattle.std.proofs.lemmas.List.Elements.{All-from_recursion, recursion_from_All}
@@ -17,7 +18,7 @@ use Rattle.plus_types.specs.declared.faults.Wrong.TheVariants.{UnknownType, Unkn
 use Rattle.plus_types.specs.declared.faults.TypeFault.{TypeFault}
 use Rattle.plus_types.specs.declared.faults.TypeFault.TheVariants.{At, Memory}
 use Rattle.plus_types.specs.Types.{names_of, bindings_of, bound_names, objects_of}
-use Rattle.plus_types.specs.Faults.{type_faults, predicate_names, function_names, action_names, process_names, event_names, same_names}
+use Rattle.plus_types.specs.Faults.{type_faults, is_empty, is_well_typed, predicate_names, function_names, action_names, process_names, event_names, same_names}
 use Rattle.plus_typing.specs.Forms.{Place, Form, Found, Standing, uses_at, terms_at, lists_at, clocks_at, writes_at, guards_at, in_domain, in_problem, in_head, in_schema, in_init, in_cond, forms}
 use Rattle.plus_typing.specs.WellTyped.{NamesOnce, BindsNew, IsNotAboveItself, HasType, HasTypes, IsDeclared, IsObject, IsBound, IsCounted, Fits, IsRateInProcess, valued_by, Rule, IsWellTyped}
 use Rattle.plus_typing.specs.Asked.{Asked, broken, ask_types, ask_list, ask_forms, ask_heads, ask_schemas, ask_declarations, ask_rules, ask_init, ask_problem, rules_asked}
@@ -323,3 +324,14 @@ faults_name_rules d p =
     (subst (λ fs. AllByRecursion (NamesBroken d p) fs) (sym (first_broken d p))
     (all_more (IsBeside (λ w. Rule w d p)) (NamesBroken d p) (beside_broken d p) (broken (rules_asked d p))
     (faults_beside (λ w. Rule w d p) (rules_asked d p) (parts_to (λ w. Rule w d p) d p (rules_to (λ w. Rule w d p) d p (λ w r. r))))))
+
+-- the test that tells whether there are no faults
+pub well_typed_is_decided : (d : Domain) (p : Problem) → Decides (is_well_typed d p) (IsWellTyped d p)
+well_typed_is_decided d p = (
+  λ e. (well_typed_by_statements d p).0 (none (type_faults d p) e),
+  λ r. ap is_empty ((well_typed_by_statements d p).1 r),
+)
+  where
+    none : (fs : List TypeFault) → is_empty fs ≡ true → fs ≡ []
+    none [] e = refl
+    none (f ∷ fs) e = absurd cc

@@ -19,8 +19,8 @@ use Rattle.plus_tree.specs.Effect.{Effect, Effects, e_all, e_forall, e_when, e_l
 use Rattle.plus_types.specs.Types.{Binding, bindings_of}
 use Rattle.plus_types.specs.Faults.{Context, domain_context, problem_context}
 
--- where a form stands: what is declared there, which variables are bound around it, and whether it is part of what a
--- process writes
+-- where a form stands: what is declared there, which variables are bound around it, and whether it is part of a process
+-- and of no condition
 pub record Place : Type 0 where
   pub context : Context
   pub vars : List Binding
@@ -53,7 +53,7 @@ found here form = record { place = here; form = form } ∷ []
 abbrev pub inside : Place → List TypedName → Place
 inside here vs = record { context = here.context; vars = here.vars ++ bindings_of vs; flows = here.flows }
 
--- in a condition, which writes nothing
+-- in a condition
 abbrev pub reading : Place → Place
 reading here = record { context = here.context; vars = here.vars; flows = false }
 
@@ -84,7 +84,7 @@ abbrev mutual
   in_cond here (c_exists vs f s) = found here (binds vs) ++ in_cond (inside here vs) f
   in_cond here (c_atom u s) = found here (used here.context.predicates u)
   in_cond here (c_same t u s) = found here (side t) ++ found here (side u)
-  in_cond here (c_compare op e f s) = in_expr (reading here) e ++ in_expr (reading here) f
+  in_cond here (c_compare op e f s) = in_expr here e ++ in_expr here f
 
   pub in_conds : Place → Conds → List Found
   in_conds here no_conds = []
@@ -110,7 +110,7 @@ abbrev mutual
   pub in_effect : Place → Effect → List Found
   in_effect here (e_all es s) = in_effects here es
   in_effect here (e_forall vs e s) = found here (binds vs) ++ in_effect (inside here vs) e
-  in_effect here (e_when f ls s) = found here (guards s) ++ (in_cond here f ++ flat_map (in_leaf here) ls)
+  in_effect here (e_when f ls s) = found here (guards s) ++ (in_cond (reading here) f ++ flat_map (in_leaf here) ls)
   in_effect here (e_leaf l s) = in_leaf here l
 
   pub in_effects : Place → Effects → List Found
@@ -133,7 +133,8 @@ in_head d h = found (in_domain false d) (binds h.params)
 -- the parameters, the condition and the effect of an action, a process or an event
 abbrev pub in_schema : Place → Schema → List Found
 in_schema here a =
-    found here (binds a.params) ++ (in_cond (inside here a.params) a.condition ++ in_effect (inside here a.params) a.effect)
+    found here (binds a.params)
+    ++ (in_cond (reading (inside here a.params)) a.condition ++ in_effect (inside here a.params) a.effect)
 
 -- ---- the problem
 

@@ -136,11 +136,11 @@ ArgumentsFit d p = All Fits (all_uses d p)
 
 -- ---- processes
 
--- what a process writes is a rate: an increase or a decrease by `#t`, or by `#t` times something
+-- what a process writes is a rate: an increase or a decrease by `#t`, or by `#t` times something in which no `#t` stands
 abbrev pub IsRateInProcess : Standing Leaf → Type 0
 IsRateInProcess w = IsTrue w.place.flows → IsTrue (is_rate w.form.node)
 
--- `#t` stands only in what a process writes; a process writes only rates, and none under a condition of its own
+-- `#t` stands only in what a process writes; a process writes only rates, and writes none of them under a condition
 pub record ProcessesFlow (d : Domain) (p : Problem) : Type 0 where
   pub clocks : All (λ (k : Standing Span). IsTrue k.place.flows) (all_clocks d p)
   pub rates : All IsRateInProcess (all_writes d p)
