@@ -5,3 +5,4 @@ pub mod Rules
 pub mod Typed
 pub mod RulesRows
 pub mod First
+pub mod AloneRows

@@ -6,7 +6,7 @@ use Rattle.plus_tree.specs.declared.trees.Problem.{Problem}
 use Rattle.plus_types.specs.declared.faults.File.{File}
 use Rattle.plus_types.specs.declared.faults.File.TheVariants as files
 use Rattle.plus_types.specs.declared.faults.Wrong.{Wrong}
-use Rattle.plus_types.specs.declared.faults.Wrong.TheVariants.{UnknownType, UnknownName, Arity, WrongType, Twice, Unbound, Shadowed, TypeLoop, RateForm, DomainName}
+use Rattle.plus_types.specs.declared.faults.Wrong.TheVariants.{UnknownName, WrongType, Twice, TypeLoop, RateForm}
 use Rattle.plus_types.specs.declared.faults.TypeFault.{TypeFault}
 use Rattle.plus_types.specs.declared.faults.TypeFault.TheVariants.{At}
 use Rattle.plus_types.specs.Types.{is_above_within, is_above, is_under}
@@ -19,7 +19,7 @@ use Rattle.std.proofs.lemmas.List.Elements.{All-head}
 use Rattle.std.proofs.Common.{subst}
 
 -- the first fault names a broken rule
-first : (d : Domain) (p : Problem) (w : Wrong) (f : File) (s : Span) (more : List TypeFault) → type_faults d p ≡ At w f s ∷ more → Breaks w d p
+pub first : (d : Domain) (p : Problem) (w : Wrong) (f : File) (s : Span) (more : List TypeFault) → type_faults d p ≡ At w f s ∷ more → Breaks w d p
 first d p w f s more e = record { broken = All-head (NamesBroken d p) (At w f s) more (subst (All (NamesBroken d p)) e (faults_name_rules d p)) }
 
 pub rule_rows : RuleRows
@@ -28,16 +28,9 @@ rule_rows = record {
   well_typed = (well_typed_by_statements busy_depot busy_day).0 refl;
   twice = first _ _ Twice files.Domain (name_at 12) [] refl;
   valued_twice = first _ _ Twice files.Problem (form_at 69) [] refl;
-  shadowed = first _ _ Shadowed files.Problem (name_at 52) [] refl;
   type_loop = first _ _ TypeLoop files.Domain (name_at 10) (At TypeLoop files.Domain (name_at 12) ∷ []) refl;
-  unknown_type = first _ _ UnknownType files.Problem (name_at 41) [] refl;
-  unknown_predicate = first _ _ UnknownName files.Problem (name_at 51) [] refl;
   unknown_object = first _ _ UnknownName files.Problem (name_at 52) [] refl;
-  unbound = first _ _ Unbound files.Problem (name_at 52) [] refl;
-  arity = first _ _ Arity files.Problem (form_at 50) [] refl;
   wrong_type = first _ _ WrongType files.Problem (name_at 52) [] refl;
-  clock = first _ _ RateForm files.Problem (name_at 50) [] refl;
   no_rate = first _ _ RateForm files.Domain (form_at 70) [] refl;
   guarded_rate = first _ _ RateForm files.Domain (form_at 63) [] refl;
-  domain_name = first _ _ DomainName files.Problem (name_at 33) [] refl;
 }

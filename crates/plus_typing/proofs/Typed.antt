@@ -295,7 +295,7 @@ rules_to W d p h = record {
 }
 
 -- a well-typed pair obeys the rule of each word
-each_rule : (d : Domain) (p : Problem) → IsWellTyped d p → (w : Wrong) → Rule w d p
+pub each_rule : (d : Domain) (p : Problem) → IsWellTyped d p → (w : Wrong) → Rule w d p
 each_rule d p r UnknownType = r.types_known
 each_rule d p r UnknownName = r.names_known
 each_rule d p r Arity = r.arguments_counted
