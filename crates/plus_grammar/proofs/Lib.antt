@@ -1,4 +1,9 @@
 pub mod Chains
 pub mod Lists
 pub mod Functions
+pub mod Once
+pub mod Counts
+pub mod Problems
+pub mod Wholes
 pub mod ListRows
+pub mod CountRows

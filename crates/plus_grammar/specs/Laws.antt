@@ -1,12 +1,25 @@
 -- That the grammar by groups and by counts is the one that a reader is held to.
-use Rattle.std.specs.Prelude.{◌↔◌, List}
+use Rattle.std.specs.Prelude.{◌≡◌, ◌↔◌, List, Some}
 use Rattle.plus_tree.specs.declared.terms.TypedName.{TypedName}
 use Rattle.plus_tree.specs.declared.trees.Head.{Head}
+use Rattle.plus_tree.specs.declared.trees.Schema.{Schema}
+use Rattle.plus_tree.specs.declared.trees.Domain.{Domain}
+use Rattle.plus_tree.specs.declared.trees.Problem.{Problem}
 use Rattle.plus_reading.specs.declared.words.Allowed.{Allowed}
 use Rattle.plus_reading.specs.Items.{Piece}
-use Rattle.plus_reading.specs.Spells.{SpellsList}
-use Rattle.plus_parser.specs.SpellsDomain.{SpellsTypes, SpellsFunctions}
+use Rattle.plus_reading.specs.Spells.{added, SpellsList}
+use Rattle.plus_parser.specs.declared.parts.Keys.{Keys}
+use Rattle.plus_parser.specs.declared.parts.DomainParts.{DomainParts}
+use Rattle.plus_parser.specs.declared.parts.ProblemParts.{ProblemParts}
+use Rattle.plus_parser.specs.ReadingDomain.{no_keys, schema_made, no_parts, domain_made}
+use Rattle.plus_parser.specs.ReadingProblem.{no_problem_parts, problem_made}
+use Rattle.plus_parser.specs.SpellsDomain.{SpellsTypes, SpellsFunctions, Key, with_key, SpellsSchema, DomainPart, with_domain_part, DomainTokens}
+use Rattle.plus_parser.specs.SpellsProblem.{ProblemPart, with_problem_part, ProblemTokens}
 use Rattle.plus_grammar.specs.Groups.{IsList, AreTypes, AreFunctions}
+use Rattle.plus_grammar.specs.Counts.{HasKeys, HasSections, HasSectionsOfProblem}
+use Rattle.plus_grammar.specs.Wholes.{IsSchema, IsDomain, IsProblem}
+
+-- ---- groups
 
 abbrev pub ListsByGroups : Type 0
 ListsByGroups = (allowed : Allowed) (xs : List TypedName) (ts : List Piece) → SpellsList allowed xs ts ↔ IsList allowed xs ts
@@ -16,3 +29,32 @@ TypesByGroups = (xs : List TypedName) (ts : List Piece) → SpellsTypes xs ts �
 
 abbrev pub FunctionsByGroups : Type 0
 FunctionsByGroups = (hs : List Head) (ts : List Piece) → SpellsFunctions hs ts ↔ AreFunctions hs ts
+
+-- ---- counts: what a reader adds up part by part is made of the same parts
+
+abbrev pub KeysByCounts : Type 0
+KeysByCounts =
+    (keys : List Key) (s : Schema)
+    → ((found : Keys) × (added with_key no_keys keys ≡ Some found) × (s ≡ schema_made s.name found s.span)) ↔ HasKeys keys s
+
+abbrev pub SectionsByCounts : Type 0
+SectionsByCounts =
+    (parts : List DomainPart) (d : Domain)
+    → ((found : DomainParts) × (added with_domain_part no_parts parts ≡ Some found) × (d ≡ domain_made d.name found d.span)) ↔ HasSections parts d
+
+abbrev pub ProblemsByCounts : Type 0
+ProblemsByCounts =
+    (parts : List ProblemPart) (p : Problem)
+    → ((found : ProblemParts) × (added with_problem_part no_problem_parts parts ≡ Some found) × (problem_made p.name found p.span ≡ Some p))
+    ↔ HasSectionsOfProblem parts p
+
+-- ---- wholes
+
+abbrev pub SchemasSpelled : Type 0
+SchemasSpelled = (s : Schema) (ts : List Piece) → SpellsSchema s ts ↔ IsSchema s ts
+
+abbrev pub DomainsSpelled : Type 0
+DomainsSpelled = (d : Domain) (ts : List Piece) → DomainTokens d ts ↔ IsDomain d ts
+
+abbrev pub ProblemsSpelled : Type 0
+ProblemsSpelled = (p : Problem) (ts : List Piece) → ProblemTokens p ts ↔ IsProblem p ts

@@ -1,3 +1,5 @@
 pub mod Groups
+pub mod Counts
+pub mod Wholes
 pub mod Laws
 pub mod Rows

@@ -1,14 +1,23 @@
 -- Worked rows of the grammar.
-use Rattle.std.specs.Prelude.{ℕ, ◌+◌, List, [], ◌∷◌, length, codes}
+use Rattle.std.specs.Prelude.{◌≡◌, ℕ, ◌+◌, List, [], ◌∷◌, length, codes}
 use Prim.Native.String.{String}
 use Rattle.plus_tokens.specs.declared.token.Kind.TheVariants as kinds
 use Rattle.plus_tokens.specs.declared.token.Op.TheVariants as ops
 use Rattle.plus_tree.specs.declared.names.Span.{Span}
+use Rattle.plus_tree.specs.declared.names.Spelled.{Spelled}
 use Rattle.plus_tree.specs.declared.terms.TypedName.{TypedName}
+use Rattle.plus_tree.specs.declared.trees.Schema.{Schema}
+use Rattle.plus_tree.specs.declared.trees.Domain.{Domain}
+use Rattle.plus_tree.specs.declared.trees.Problem.{Problem}
+use Rattle.plus_tree.specs.Cond.{Cond, c_all, no_conds}
+use Rattle.plus_tree.specs.Effect.{e_all, no_effects}
 use Rattle.plus_reading.specs.declared.words.Allowed.TheVariants.{Names}
 use Rattle.plus_reading.specs.Items.{Piece}
-use Rattle.plus_reading.specs.Grammar.{spelled_of, of_type, object_type}
+use Rattle.plus_reading.specs.Grammar.{nowhere, spelled_of, of_type, object_type}
+use Rattle.plus_parser.specs.SpellsDomain.{k_parameters, k_condition, d_types, d_action}
+use Rattle.plus_parser.specs.SpellsProblem.{p_domain, p_init, p_goal, p_metric}
 use Rattle.plus_grammar.specs.Groups.{IsList}
+use Rattle.plus_grammar.specs.Counts.{HasKeys, HasSections, HasSectionsOfProblem}
 
 -- ---- tokens, each with the offset where it begins
 
@@ -38,3 +47,28 @@ pub record ListRows : Type 0 where
   pub nothing : IsList Names [] []
   -- `- ship`
   pub type_alone : (xs : List TypedName) → IsList Names xs (minus 0 ∷ name 2 "ship" ∷ []) → ⊥
+
+-- ---- counts
+
+-- a schema of which no key is written
+abbrev pub bare_schema : Schema
+bare_schema = record {
+  name = spelled_of (name 0 "wait");
+  params = [];
+  condition = c_all no_conds nowhere;
+  effect = e_all no_effects nowhere;
+  span = nowhere;
+}
+
+pub record CountRows : Type 0 where
+  pub no_key : HasKeys [] bare_schema
+  pub any_order :
+      (vs : List TypedName) (c : Cond) (s : Schema) → HasKeys (k_condition c ∷ k_parameters vs ∷ []) s → HasKeys (k_parameters vs ∷ k_condition c ∷ []) s
+  -- no schema has a key twice
+  pub key_twice : (vs : List TypedName) (s : Schema) → HasKeys (k_parameters vs ∷ k_parameters vs ∷ []) s → ⊥
+  -- no domain has a section twice, but it may have two actions, whatever stands between them
+  pub section_twice : (d : Domain) → HasSections (d_types [] ∷ d_types [] ∷ []) d → ⊥
+  pub two_actions : (a b : Schema) (d : Domain) → HasSections (d_action a ∷ d_types [] ∷ d_action b ∷ []) d → d.actions ≡ a ∷ b ∷ []
+  -- no problem is without a goal, and none has two metrics
+  pub no_goal : (x : Spelled) (p : Problem) → HasSectionsOfProblem (p_domain x ∷ p_init [] ∷ []) p → ⊥
+  pub two_metrics : (x : Spelled) (c : Cond) (p : Problem) → HasSectionsOfProblem (p_metric ∷ p_domain x ∷ p_init [] ∷ p_goal c ∷ p_metric ∷ []) p → ⊥

@@ -1,5 +1,5 @@
 //! The laws, the contracts of functions with empty bodies.
-ghost use Rattle.plus_grammar.specs.Laws.{ListsByGroups, TypesByGroups, FunctionsByGroups};
+ghost use Rattle.plus_grammar.specs.Laws.{ListsByGroups, TypesByGroups, FunctionsByGroups, KeysByCounts, SectionsByCounts, ProblemsByCounts, SchemasSpelled, DomainsSpelled, ProblemsSpelled};
 
 /// Tokens spell a list of names with their types exactly where they are groups of names.
 pub fn lists_by_groups()
@@ -14,4 +14,34 @@ pub fn types_by_groups()
 /// So are its functions, whose only type is `number`.
 pub fn functions_by_groups()
     ensures { FunctionsByGroups }
+{}
+
+/// Keys are added up to a schema exactly where each stands once at most, and the schema has what they give.
+pub fn keys_by_counts()
+    ensures { KeysByCounts }
+{}
+
+/// So are the sections of a domain.
+pub fn sections_by_counts()
+    ensures { SectionsByCounts }
+{}
+
+/// So are those of a problem, of which three must stand.
+pub fn problems_by_counts()
+    ensures { ProblemsByCounts }
+{}
+
+/// So the tokens of an action, a process or an event are those by groups and counts.
+pub fn schemas_spelled()
+    ensures { SchemasSpelled }
+{}
+
+/// The tokens of a domain are those by groups and counts.
+pub fn domains_spelled()
+    ensures { DomainsSpelled }
+{}
+
+/// The tokens of a problem are those by groups and counts.
+pub fn problems_spelled()
+    ensures { ProblemsSpelled }
 {}
