@@ -7,6 +7,7 @@ use crate::words::{comparison, put_word, term, used, variables};
 use plus_tree::{CondNode, CondTree};
 use std::alloc::AllocError;
 
+/// Appends the canonical text of a condition.
 #[tactic(auto, using(crate::proofs::AppendedLemmas::appending))]
 pub fn condition(text: &mut Vec<u8>, cond: &CondTree) -> Result<(), AllocError>
     ensures { Prints text.old.items text.new.items (cond_text cond.now) result }

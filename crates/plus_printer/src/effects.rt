@@ -90,6 +90,7 @@ fn leaves(text: &mut Vec<u8>, leaves: &[Leaf]) -> Result<(), AllocError>
     }
 }
 
+/// Appends the canonical text of an effect.
 #[tactic(auto, using(crate::proofs::AppendedLemmas::appending))]
 pub fn effect(text: &mut Vec<u8>, effect_tree: &EffectTree) -> Result<(), AllocError>
     ensures { Prints text.old.items text.new.items (effect_text effect_tree.now) result }

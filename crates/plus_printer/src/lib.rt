@@ -3,10 +3,10 @@
 //! Printing is one walk over the tree; each byte is appended once.
 #![tactic(auto)]
 
-mod conditions;
-mod effects;
+pub mod conditions;
+pub mod effects;
 mod expressions;
-mod sections;
-mod words;
+pub mod sections;
+pub mod words;
 
 pub use sections::{print_domain, print_problem};

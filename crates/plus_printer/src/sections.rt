@@ -180,9 +180,9 @@ fn head_sections(text: &mut Vec<u8>, domain: &Domain) -> Result<(), AllocError>
     Ok(())
 }
 
-// What a domain declares.
+/// Appends what a domain declares.
 #[tactic(auto, using(crate::proofs::AppendedLemmas::appending), unfolding(crate::specs::Canon::declared_text))]
-fn declared(text: &mut Vec<u8>, domain: &Domain) -> Result<(), AllocError>
+pub fn declared(text: &mut Vec<u8>, domain: &Domain) -> Result<(), AllocError>
     ensures { Prints text.old.items text.new.items (declared_text domain.now) result }
 {
     requirements(text, domain.requirements.as_slice())?;
@@ -192,9 +192,9 @@ fn declared(text: &mut Vec<u8>, domain: &Domain) -> Result<(), AllocError>
     Ok(())
 }
 
-// What happens in a domain.
+/// Appends what happens in a domain, to its end.
 #[tactic(auto, using(crate::proofs::AppendedLemmas::appending), unfolding(crate::specs::Canon::happening_text))]
-fn happening(text: &mut Vec<u8>, domain: &Domain) -> Result<(), AllocError>
+pub fn happening(text: &mut Vec<u8>, domain: &Domain) -> Result<(), AllocError>
     ensures { Prints text.old.items text.new.items (happening_text domain.now) result }
 {
     schemas(text, b" (:action ", domain.actions.as_slice())?;

@@ -7,7 +7,7 @@ use itoa::Buffer;
 use plus_tree::{Comparison, Literal, Term, TypedName, Use};
 use std::alloc::AllocError;
 
-// Appends these bytes.
+/// Appends these bytes.
 #[tactic(auto, using(crate::proofs::AppendedLemmas::base))]
 pub fn put(text: &mut Vec<u8>, bytes: &[u8]) -> Result<(), AllocError>
     ensures { Prints text.old.items text.new.items bytes.now result }
@@ -15,7 +15,7 @@ pub fn put(text: &mut Vec<u8>, bytes: &[u8]) -> Result<(), AllocError>
     text.extend_from_slice(bytes)
 }
 
-// Appends a word of the language, or a separator.
+/// Appends a word of the language, or a separator.
 #[tactic(auto, unfolding(crate::specs::Words::word))]
 pub fn put_word(text: &mut Vec<u8>, bytes: &[u8]) -> Result<(), AllocError>
     ensures { Prints text.old.items text.new.items (word bytes.now) result }
@@ -23,6 +23,7 @@ pub fn put_word(text: &mut Vec<u8>, bytes: &[u8]) -> Result<(), AllocError>
     put(text, bytes)
 }
 
+/// Appends how the text of a domain opens.
 #[tactic(auto, unfolding(crate::specs::Words::domain_opening))]
 pub fn domain_opening(text: &mut Vec<u8>) -> Result<(), AllocError>
     ensures { Prints text.old.items text.new.items domain_opening result }
@@ -30,6 +31,7 @@ pub fn domain_opening(text: &mut Vec<u8>) -> Result<(), AllocError>
     put_word(text, b"(define (domain ")
 }
 
+/// Appends how the text of a problem opens.
 #[tactic(auto, unfolding(crate::specs::Words::problem_opening))]
 pub fn problem_opening(text: &mut Vec<u8>) -> Result<(), AllocError>
     ensures { Prints text.old.items text.new.items problem_opening result }
@@ -37,6 +39,7 @@ pub fn problem_opening(text: &mut Vec<u8>) -> Result<(), AllocError>
     put_word(text, b"(define (problem ")
 }
 
+/// Appends how the requirements open.
 #[tactic(auto, unfolding(crate::specs::Words::requirements_opening))]
 pub fn requirements_opening(text: &mut Vec<u8>) -> Result<(), AllocError>
     ensures { Prints text.old.items text.new.items requirements_opening result }
@@ -44,6 +47,7 @@ pub fn requirements_opening(text: &mut Vec<u8>) -> Result<(), AllocError>
     put_word(text, b" (:requirements")
 }
 
+/// Appends the word before a condition.
 #[tactic(auto, unfolding(crate::specs::Words::precondition_key))]
 pub fn precondition_key(text: &mut Vec<u8>) -> Result<(), AllocError>
     ensures { Prints text.old.items text.new.items precondition_key result }
@@ -51,6 +55,7 @@ pub fn precondition_key(text: &mut Vec<u8>) -> Result<(), AllocError>
     put_word(text, b" :precondition ")
 }
 
+/// Appends an object or a variable.
 #[tactic(auto, using(crate::proofs::AppendedLemmas::appending), unfolding(crate::specs::Words::term_text))]
 pub fn term(text: &mut Vec<u8>, term: &Term) -> Result<(), AllocError>
     ensures { Prints text.old.items text.new.items (term_text term.now) result }
@@ -87,6 +92,7 @@ fn terms(text: &mut Vec<u8>, terms: &[Term]) -> Result<(), AllocError>
     Ok(())
 }
 
+/// Appends a name with its arguments.
 #[tactic(auto, using(crate::proofs::AppendedLemmas::appending), unfolding(crate::specs::Words::use_text))]
 pub fn used(text: &mut Vec<u8>, used: &Use) -> Result<(), AllocError>
     ensures { Prints text.old.items text.new.items (use_text used.now) result }
@@ -98,6 +104,7 @@ pub fn used(text: &mut Vec<u8>, used: &Use) -> Result<(), AllocError>
     Ok(())
 }
 
+/// Appends a name with its type.
 #[tactic(auto, using(crate::proofs::AppendedLemmas::appending), unfolding(crate::specs::Words::typed_text))]
 pub fn typed(text: &mut Vec<u8>, name: &TypedName) -> Result<(), AllocError>
     ensures { Prints text.old.items text.new.items (typed_text name.now) result }
@@ -126,7 +133,7 @@ fn spaced_variable(text: &mut Vec<u8>, name: &TypedName) -> Result<(), AllocErro
     Ok(())
 }
 
-// Variables, each behind a space.
+/// Appends variables, each behind a space.
 #[tactic(auto, using(crate::proofs::AppendedLemmas::looping))]
 pub fn spaced_variables(text: &mut Vec<u8>, names: &[TypedName]) -> Result<(), AllocError>
     ensures { Prints text.old.items text.new.items (spaced variable_text names.now) result }
@@ -151,7 +158,7 @@ fn list(text: &mut Vec<u8>, names: &[TypedName]) -> Result<(), AllocError>
     }
 }
 
-// The variables of a list in its parentheses.
+/// Appends the variables of a list in its parentheses.
 #[tactic(auto, using(crate::proofs::AppendedLemmas::appending), unfolding(crate::specs::Words::variables_text))]
 pub fn variables(text: &mut Vec<u8>, names: &[TypedName]) -> Result<(), AllocError>
     ensures { Prints text.old.items text.new.items (variables_text names.now) result }
@@ -235,6 +242,7 @@ fn sign(text: &mut Vec<u8>, negative: bool) -> Result<(), AllocError>
     }
 }
 
+/// Appends a number.
 #[tactic(auto, using(crate::proofs::AppendedLemmas::appending), unfolding(crate::specs::Words::literal_text))]
 pub fn literal(text: &mut Vec<u8>, literal: &Literal) -> Result<(), AllocError>
     ensures { Prints text.old.items text.new.items (literal_text literal.now) result }
@@ -244,6 +252,7 @@ pub fn literal(text: &mut Vec<u8>, literal: &Literal) -> Result<(), AllocError>
     Ok(())
 }
 
+/// Appends the sign of a comparison.
 pub fn comparison(text: &mut Vec<u8>, comparison: Comparison) -> Result<(), AllocError>
     ensures { Prints text.old.items text.new.items (comparison_text comparison) result }
 {

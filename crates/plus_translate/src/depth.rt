@@ -9,8 +9,8 @@ use plus_tree::{
     Problem, Schema,
 };
 
-// The most parentheses open at once.
-const MOST_DEPTH: u8 = 64;
+/// The most parentheses open at once.
+pub const MOST_DEPTH: u8 = 64;
 
 #[tactic(auto, using(crate::proofs::DepthLemmas::in_exprs))]
 fn expr_within(room: u8, expr: &ExprTree) -> bool
@@ -37,8 +37,9 @@ fn expr_within(room: u8, expr: &ExprTree) -> bool
     }
 }
 
+/// Whether the text of a condition has no more than so many parentheses open at once.
 #[tactic(auto, using(crate::proofs::DepthLemmas::in_conds))]
-fn cond_within(room: u8, cond: &CondTree) -> bool
+pub fn cond_within(room: u8, cond: &CondTree) -> bool
     ensures { result ≡ cond_within room cond.now }
 {
     match &cond.node {
@@ -96,8 +97,9 @@ fn leaves_within(room: u8, leaves: &[Leaf]) -> bool
     }
 }
 
+/// Whether the text of an effect has no more than so many parentheses open at once.
 #[tactic(auto, using(crate::proofs::DepthLemmas::in_effects))]
-fn effect_within(room: u8, effect: &EffectTree) -> bool
+pub fn effect_within(room: u8, effect: &EffectTree) -> bool
     ensures { result ≡ effect_within room effect.now }
 {
     match &effect.node {
@@ -148,7 +150,8 @@ fn inits_within(room: u8, init: &[Init]) -> bool
     init.iter().all(|member| init_within(room, member))
 }
 
-fn domain_within(room: u8, domain: &Domain) -> bool
+/// Whether the text of a domain has no more than so many parentheses open at once.
+pub fn domain_within(room: u8, domain: &Domain) -> bool
     ensures { result ≡ domain_within room domain.now }
 {
     room > 2

@@ -73,8 +73,8 @@ fn without_params(
     })
 }
 
-// The action that lets a step of time pass.
-fn step(
+/// The action that lets a step of time pass.
+pub fn step(
     alloc: Global,
     interval: Frac64,
     events: &[Schema],
@@ -94,8 +94,8 @@ fn step(
     without_params(alloc, b"pp-step", both(conds), effects)
 }
 
-// The action that fires a round of events.
-fn fire(alloc: Global, events: &[Schema]) -> Result<Schema, AllocError>
+/// The action that fires a round of events.
+pub fn fire(alloc: Global, events: &[Schema]) -> Result<Schema, AllocError>
     ensures { IfOk result (λ action. action ≡ fire_of events.now) }
 {
     let mut holding = Vec::new(alloc);
@@ -111,8 +111,8 @@ fn fire(alloc: Global, events: &[Schema]) -> Result<Schema, AllocError>
     without_params(alloc, b"pp-fire", both(conds), effects)
 }
 
-// The requirements of each translation.
-fn requirements(alloc: Global) -> Result<Members<Spelled>, AllocError>
+/// The requirements of each translation.
+pub fn requirements(alloc: Global) -> Result<Members<Spelled>, AllocError>
     ensures { IfOk result (λ words. words ≡ requirements_of) }
 {
     let mut words = Members::new(alloc);
@@ -121,9 +121,9 @@ fn requirements(alloc: Global) -> Result<Members<Spelled>, AllocError>
     Ok(words)
 }
 
-// The constants, and the objects where a step may name them.
+/// The constants, and the objects where a step may name them.
 #[tactic(auto, using(crate::proofs::PartLemmas::named))]
-fn constants(
+pub fn constants(
     alloc: Global,
     dues: &[Due<'_>],
     domain: &Domain,
@@ -150,8 +150,12 @@ fn put_copies(alloc: Global, heads: &[Head], into: &mut Members<Head>) -> Result
     Ok(())
 }
 
-// The predicates, and those of the marks.
-fn predicates(alloc: Global, events: &[Schema], old: &[Head]) -> Result<Members<Head>, AllocError>
+/// The predicates, and those of the marks.
+pub fn predicates(
+    alloc: Global,
+    events: &[Schema],
+    old: &[Head],
+) -> Result<Members<Head>, AllocError>
     ensures { IfOk result (λ heads. heads ≡ old.now ++ mark_heads 1 events.now) }
 {
     let mut heads = Members::new(alloc);
@@ -160,9 +164,9 @@ fn predicates(alloc: Global, events: &[Schema], old: &[Head]) -> Result<Members<
     Ok(heads)
 }
 
-// The functions, and the clock where it is needed.
+/// The functions, and the clock where it is needed.
 #[tactic(auto, using(crate::proofs::PartLemmas::clocked))]
-fn functions(alloc: Global, dues: &[Due<'_>], old: &[Head]) -> Result<Members<Head>, AllocError>
+pub fn functions(alloc: Global, dues: &[Due<'_>], old: &[Head]) -> Result<Members<Head>, AllocError>
     ensures { IfOk result (λ heads. heads ≡ functions_of (map due_of dues.now) old.now) }
 {
     let mut heads = Members::new(alloc);

@@ -5,17 +5,17 @@
 #![tactic(auto)]
 
 pub mod atoms;
-mod depth;
-mod domain;
+pub mod depth;
+pub mod domain;
 pub mod due;
 pub mod fault;
 mod fires;
 mod flows;
-mod found;
+pub mod found;
 mod grid;
-mod guards;
+pub mod guards;
 mod initial;
-mod pieces;
+pub mod pieces;
 pub mod placed;
 pub mod translation;
 
