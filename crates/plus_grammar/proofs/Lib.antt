@@ -7,3 +7,4 @@ pub mod Problems
 pub mod Wholes
 pub mod ListRows
 pub mod CountRows
+pub mod Texts

@@ -1,23 +1,24 @@
 -- That the grammar by groups and by counts is the one that a reader is held to.
-use Rattle.std.specs.Prelude.{◌≡◌, ◌↔◌, List, Some}
+use Rattle.std.specs.Prelude.{◌≡◌, ◌↔◌, ℕ, List, map, Some}
 use Rattle.plus_tree.specs.declared.terms.TypedName.{TypedName}
 use Rattle.plus_tree.specs.declared.trees.Head.{Head}
 use Rattle.plus_tree.specs.declared.trees.Schema.{Schema}
 use Rattle.plus_tree.specs.declared.trees.Domain.{Domain}
 use Rattle.plus_tree.specs.declared.trees.Problem.{Problem}
 use Rattle.plus_reading.specs.declared.words.Allowed.{Allowed}
-use Rattle.plus_reading.specs.Items.{Piece}
+use Rattle.plus_reading.specs.Items.{Piece, tok, items_of}
 use Rattle.plus_reading.specs.Spells.{added, SpellsList}
 use Rattle.plus_parser.specs.declared.parts.Keys.{Keys}
 use Rattle.plus_parser.specs.declared.parts.DomainParts.{DomainParts}
 use Rattle.plus_parser.specs.declared.parts.ProblemParts.{ProblemParts}
 use Rattle.plus_parser.specs.ReadingDomain.{no_keys, schema_made, no_parts, domain_made}
 use Rattle.plus_parser.specs.ReadingProblem.{no_problem_parts, problem_made}
-use Rattle.plus_parser.specs.SpellsDomain.{SpellsTypes, SpellsFunctions, Key, with_key, SpellsSchema, DomainPart, with_domain_part, DomainTokens}
-use Rattle.plus_parser.specs.SpellsProblem.{ProblemPart, with_problem_part, ProblemTokens}
+use Rattle.plus_parser.specs.SpellsDomain.{SpellsTypes, SpellsFunctions, Key, with_key, SpellsSchema, DomainPart, with_domain_part, DomainTokens, SpellsWithin}
+use Rattle.plus_parser.specs.SpellsProblem.{ProblemPart, with_problem_part, ProblemTokens, SpellsProblemWithin}
 use Rattle.plus_grammar.specs.Groups.{IsList, AreTypes, AreFunctions}
 use Rattle.plus_grammar.specs.Counts.{HasKeys, HasSections, HasSectionsOfProblem}
 use Rattle.plus_grammar.specs.Wholes.{IsSchema, IsDomain, IsProblem}
+use Rattle.plus_grammar.specs.Texts.{AreTokens, IsDomainText, IsProblemText}
 
 -- ---- groups
 
@@ -58,3 +59,15 @@ DomainsSpelled = (d : Domain) (ts : List Piece) → DomainTokens d ts ↔ IsDoma
 
 abbrev pub ProblemsSpelled : Type 0
 ProblemsSpelled = (p : Problem) (ts : List Piece) → ProblemTokens p ts ↔ IsProblem p ts
+
+-- ---- texts
+
+-- the tokens that a reader is handed are those that stand one behind the other
+abbrev pub TokensSpelled : Type 0
+TokensSpelled = (text : List ℕ) (ts : List Piece) → (items_of text ≡ map tok ts) ↔ AreTokens text 0 ts
+
+abbrev pub DomainTexts : Type 0
+DomainTexts = (depth : ℕ) (text : List ℕ) (d : Domain) → SpellsWithin depth text d ↔ IsDomainText depth text d
+
+abbrev pub ProblemTexts : Type 0
+ProblemTexts = (depth : ℕ) (text : List ℕ) (p : Problem) → SpellsProblemWithin depth text p ↔ IsProblemText depth text p

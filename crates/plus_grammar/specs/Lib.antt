@@ -1,5 +1,6 @@
 pub mod Groups
 pub mod Counts
 pub mod Wholes
+pub mod Texts
 pub mod Laws
 pub mod Rows

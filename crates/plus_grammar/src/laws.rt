@@ -1,5 +1,5 @@
 //! The laws, the contracts of functions with empty bodies.
-ghost use Rattle.plus_grammar.specs.Laws.{ListsByGroups, TypesByGroups, FunctionsByGroups, KeysByCounts, SectionsByCounts, ProblemsByCounts, SchemasSpelled, DomainsSpelled, ProblemsSpelled};
+ghost use Rattle.plus_grammar.specs.Laws.{ListsByGroups, TypesByGroups, FunctionsByGroups, KeysByCounts, SectionsByCounts, ProblemsByCounts, SchemasSpelled, DomainsSpelled, ProblemsSpelled, TokensSpelled, DomainTexts, ProblemTexts};
 
 /// Tokens spell a list of names with their types exactly where they are groups of names.
 pub fn lists_by_groups()
@@ -44,4 +44,19 @@ pub fn domains_spelled()
 /// The tokens of a problem are those by groups and counts.
 pub fn problems_spelled()
     ensures { ProblemsSpelled }
+{}
+
+/// The tokens of a text stand one behind the other, each the first behind the one before it.
+pub fn tokens_spelled()
+    ensures { TokensSpelled }
+{}
+
+/// So the texts of a domain are those of such tokens.
+pub fn domain_texts()
+    ensures { DomainTexts }
+{}
+
+/// And so are those of a problem.
+pub fn problem_texts()
+    ensures { ProblemTexts }
 {}
