@@ -1,6 +1,6 @@
 -- What the verdict on a text says.
-use Rattle.std.proofs.Common.{◌≡◌, ℕ, ◌≤◌, Bool, false, List, [], ◌++◌, refl, ap, sym, subst, ◌∙◌}
-use Rattle.std.specs.Prelude.{◌≢◌, length, OnOk, IfErr, Result, Ok, Err}
+use Rattle.std.proofs.Common.{◌≡◌, ℕ, ◌≤◌, Bool, false, List, [], ◌++◌, Option, Some, None, refl, ap, sym, subst, ◌∙◌}
+use Rattle.std.specs.Prelude.{◌≢◌, length, IfErr, IfSome, Result, Ok, Err}
 use Rattle.plus_model.specs.Terms.{Problem}
 use Rattle.plus_number.specs.declared.frac.Frac64.{Frac64}
 use Rattle.plus_number.specs.Frac.{fraction_of, IsFrac64}
@@ -22,20 +22,20 @@ use Rattle.plus_report.specs.declared.refusals.Early.{Early}
 use Rattle.plus_report.specs.declared.refusals.Early.TheVariants as early
 use Rattle.plus_validator.specs.declared.judge.Outcome.TheVariants as outcomes
 use Rattle.plus_validator.specs.Outcomes.{early_outcome, outcome_of}
-use Rattle.plus_validator.specs.Playing.{Begins, PlaysWhole}
+use Rattle.plus_validator.specs.Playing.{Begins}
 use Rattle.plus_validator.specs.declared.judge.Outcome.{Outcome}
 use Rattle.plus_report.specs.Report.{report_of}
 use Rattle.plus_validator.specs.Plans.{pair, plan_of, plan_in}
 use Rattle.plus_validator.specs.Refused.{IsRefused}
-use Rattle.plus_validator.specs.Stopped.{IsStoppedInText, HaltsInPlan}
-use Rattle.plus_validator.specs.Judged.{GivesVerdict, IsPlain, IsJudged}
+use Rattle.plus_validator.specs.Stopped.{IsStoppedInText}
+use Rattle.plus_validator.specs.Feeding.{IsPlayedOut, IsStoppedOn}
+use Rattle.plus_validator.specs.Judged.{GivesVerdict, SumsUp, IsPlain, IsJudged}
 use Rattle.plus_validator.proofs.Played.{accepted}
 use Rattle.plus_validator.specs.Accepted.{IsAccepted}
 use Rattle.plus_validator.specs.Asking.{entries_of, firings_of, instances_of}
-use Rattle.plus_validator.specs.declared.judge.Judged.{Judged}
-use Rattle.plus_validator.specs.Validates.{IsRefusal}
+use Rattle.plus_validator.specs.Validates.{IsRead, IsRefusal, IsRefusedIn}
 use Rattle.plus_validator.specs.Verdicts as verdicts
-use Rattle.plus_validator.specs.Verdicts.{JudgesWhole}
+use Rattle.plus_validator.specs.Verdicts.{JudgesText}
 
 -- the verdict names what the problem has
 pub verdict_fits : (P : Problem) (played : Result (Unit {0}) Halt) (v : Verdict Frac64) → IfErr played (HaltFits P) → GivesVerdict played v → VerdictFits P v
@@ -103,84 +103,114 @@ valid_or_not (Invalid b) = is_not (λ h. cc h)
 valid_or_not (Beyond l) = is_not (λ h. cc h)
 valid_or_not (Other e) = is_not (λ h. early_never e h)
 
-module _ (d : Domain) (p : tree.Problem) (N : Labels) (P : Problem) (most : ℕ) (text : List ℕ) (goes_on : Bool) (old new : Run) (z : IsGroundable IsFrac64 d p) where
+module _ (d : Domain) (p : tree.Problem) (N : Labels) (P : Problem) (most : ℕ) (bytes : List ℕ) (old new : Run) (z : IsGroundable IsFrac64 d p) where
   -- accepted, with what is counted
   abbrev Counted : List ℕ → Type 0
-  Counted bytes = (goes_on ≡ false) × (a : IsAccepted d p most text bytes) × (new.entries ≡ entries_of a.history) × (new.firings ≡ firings_of a.history)
+  Counted written = (length bytes ≤ 1048576) × (a : IsAccepted d p most bytes written) × (new.entries ≡ entries_of a.history) × (new.firings ≡ firings_of a.history)
 
-  says : (bytes : List ℕ) (played : Result (Unit {0}) Halt) (v : Verdict Frac64) → v ≡ Valid → length text ≤ 1048576 → P ≡ expanded d p → N ≡ labels_meant d p → Begins N P most old → OnOk played (PlaysWhole (pair d p) N P text goes_on old new) → IfErr played (HaltFits P) → GivesVerdict played v → bytes ≡ new.report.bytes.items ++ verdict_text fraction_of N P v → Counted bytes
-  says bytes (Ok u) v i w e n b r f g k =
-      let a = accepted d p N P most text bytes old new z w e n b r.plays (k ∙ ap (λ x. new.report.bytes.items ++ verdict_text fraction_of N P x) i) in
-      (r.whole, a.0, a.1, a.2)
-  says bytes (Err (Refused Valid)) v i w e n b r f g k = absurd f.names
-  says bytes (Err (Refused (Invalid x))) v i w e n b r f g k = absurd (let h : Invalid x ≡ Valid = sym g ∙ i in cc h)
-  says bytes (Err (Refused (Beyond l))) v i w e n b r f g k = absurd (let h : Beyond l ≡ Valid = sym g ∙ i in cc h)
-  says bytes (Err (Refused (Other x))) v i w e n b r f g k = absurd (let h : Other x ≡ Valid = sym g ∙ i in cc h)
-  says bytes (Err Memory) v i w e n b r f g k = absurd g
+  says : (written : List ℕ) (played : Result (Unit {0}) Halt) (v : Verdict Frac64) → v ≡ Valid → P ≡ expanded d p → N ≡ labels_meant d p → Begins N P most old → IsPlayedOut (pair d p) N P bytes old new played → IfErr played (HaltFits P) → GivesVerdict played v → written ≡ new.report.bytes.items ++ verdict_text fraction_of N P v → Counted written
+  says written (Ok u) v i e n b r f g k =
+      let a = accepted d p N P most bytes written old new z r.within e n b r.plays (k ∙ ap (λ x. new.report.bytes.items ++ verdict_text fraction_of N P x) i) in
+      (r.within, a.0, a.1, a.2)
+  says written (Err (Refused Valid)) v i e n b r f g k = absurd f.names
+  says written (Err (Refused (Invalid x))) v i e n b r f g k = absurd (let h : Invalid x ≡ Valid = sym g ∙ i in cc h)
+  says written (Err (Refused (Beyond l))) v i e n b r f g k = absurd (let h : Beyond l ≡ Valid = sym g ∙ i in cc h)
+  says written (Err (Refused (Other x))) v i e n b r f g k = absurd (let h : Other x ≡ Valid = sym g ∙ i in cc h)
+  says written (Err Memory) v i e n b r f g k = absurd g
 
   -- refused with this verdict, with what is counted
-  abbrev Refuses : Verdict Frac64 → List ℕ → Type 0
-  Refuses v bytes = (r : IsRefused d p most text goes_on (outcome_of v) bytes) × (v ≡ r.verdict) × (new.entries ≡ entries_of r.refusal.history) × (new.firings ≡ firings_of r.refusal.history)
+  record Refuses (v : Verdict Frac64) (written : List ℕ) : Type 0 where
+    text : List ℕ
+    goes_on : Bool
+    read : IsRead bytes text goes_on
+    refused : IsRefused d p most text goes_on (outcome_of v) written
+    verdict : v ≡ refused.verdict
+    entries : new.entries ≡ entries_of refused.refusal.history
+    firings : new.firings ≡ firings_of refused.refusal.history
 
   -- a refusal tells where the run halts
-  says_why : (bytes : List ℕ) (played : Result (Unit {0}) Halt) (v : Verdict Frac64) → P ≡ expanded d p → N ≡ labels_meant d p → Begins N P most old → IfErr played (HaltsInPlan (pair d p) N P text goes_on old new) → GivesVerdict played v → outcome_of v ≢ outcomes.Valid → bytes ≡ new.report.bytes.items ++ verdict_text fraction_of N P v → Refuses v bytes
-  says_why bytes (Ok u) v e n b s g o k = absurd (o (ap outcome_of g))
-  says_why bytes (Err Memory) v e n b s g o k = absurd g
-  says_why bytes (Err (Refused w)) v e n b s g o k =
+  says_why : (written : List ℕ) (played : Result (Unit {0}) Halt) (v : Verdict Frac64) → P ≡ expanded d p → N ≡ labels_meant d p → Begins N P most old → IsPlayedOut (pair d p) N P bytes old new played → GivesVerdict played v → outcome_of v ≢ outcomes.Valid → written ≡ new.report.bytes.items ++ verdict_text fraction_of N P v → Refuses v written
+  says_why written (Ok u) v e n b s g o k = absurd (o (ap outcome_of g))
+  says_why written (Err Memory) v e n b s g o k = absurd g
+  says_why written (Err (Refused w)) v e n b s g o k =
       let start = b.ready (plan_of (pair d p) [] false) (instances_of (pair d p) []) refl refl in
-      let here : IsStoppedInText (pair d p) N P old.timeline.line.most goes_on s.whole s.piece (account_in new) w = s.halts.stops start.0 start.1 in
-      let there : IsStoppedInText (pair d p) (labels_meant d p) (expanded d p) most goes_on s.whole s.piece (account_in new) v =
-      subst (λ M. IsStoppedInText (pair d p) M (expanded d p) most goes_on s.whole s.piece (account_in new) v) n
-      (subst (λ Q. IsStoppedInText (pair d p) N Q most goes_on s.whole s.piece (account_in new) v) e
-      (subst (λ m. IsStoppedInText (pair d p) N P m goes_on s.whole s.piece (account_in new) v) b.rests.most_is
-      (subst (IsStoppedInText (pair d p) N P old.timeline.line.most goes_on s.whole s.piece (account_in new)) (sym g) here))) in
+      let at : IsStoppedOn (pair d p) N P old.timeline.line.most bytes (account_in new) w = s.stops start.0 start.1 in
+      let here : IsStoppedInText (pair d p) N P old.timeline.line.most at.goes_on at.whole at.piece (account_in new) w = at.stopped in
+      let there : IsStoppedInText (pair d p) (labels_meant d p) (expanded d p) most at.goes_on at.whole at.piece (account_in new) v =
+      subst (λ M. IsStoppedInText (pair d p) M (expanded d p) most at.goes_on at.whole at.piece (account_in new) v) n
+      (subst (λ Q. IsStoppedInText (pair d p) N Q most at.goes_on at.whole at.piece (account_in new) v) e
+      (subst (λ m. IsStoppedInText (pair d p) N P m at.goes_on at.whole at.piece (account_in new) v) b.rests.most_is
+      (subst (IsStoppedInText (pair d p) N P old.timeline.line.most at.goes_on at.whole at.piece (account_in new)) (sym g) here))) in
       let text_is : verdict_text fraction_of N P v ≡ verdict_text fraction_of (labels_meant d p) (expanded d p) v =
       ap (λ M. verdict_text fraction_of M P v) n ∙ ap (λ Q. verdict_text fraction_of (labels_meant d p) Q v) e in
-      let refused : IsRefused d p most text goes_on (outcome_of v) bytes = record {
-        groundable = z;
-        whole = s.whole;
-        piece = s.piece;
-        cut = s.cut;
-        verdict = v;
-        outcome_is = refl;
-        refusal = there.refusal;
-        written = k ∙ both (verdict_text fraction_of N P v) (verdict_text fraction_of (labels_meant d p) (expanded d p) v) new.report.bytes.items
-            (report_of (labels_meant d p) (expanded d p) (plan_in (pair d p) there.refusal.reading) there.refusal.history)
-            (ap (λ (a : Account). a.report) there.written) text_is;
-      } in
-      (refused, refl, ap (λ (a : Account). a.entries) there.written, ap (λ (a : Account). a.firings) there.written)
+      record {
+        text = at.text;
+        goes_on = at.goes_on;
+        read = at.read;
+        refused = record {
+          groundable = z;
+          whole = at.whole;
+          piece = at.piece;
+          cut = at.cut;
+          verdict = v;
+          outcome_is = refl;
+          refusal = there.refusal;
+          written = k ∙ both (verdict_text fraction_of N P v) (verdict_text fraction_of (labels_meant d p) (expanded d p) v) new.report.bytes.items
+              (report_of (labels_meant d p) (expanded d p) (plan_in (pair d p) there.refusal.reading) there.refusal.history)
+              (ap (λ (a : Account). a.report) there.written) text_is;
+        };
+        verdict = refl;
+        entries = ap (λ (a : Account). a.entries) there.written;
+        firings = ap (λ (a : Account). a.firings) there.written;
+      }
 
   -- the verdict, its line and the counts
-  whole : (j : Judged) (bytes : List ℕ) (played : Result (Unit {0}) Halt) → ValidOrNot j.verdict → length text ≤ 1048576 → P ≡ expanded d p → N ≡ labels_meant d p → Begins N P most old → OnOk played (PlaysWhole (pair d p) N P text goes_on old new) → IfErr played (HaltsInPlan (pair d p) N P text goes_on old new) → IfErr played (HaltFits P) → GivesVerdict played j.verdict → bytes ≡ new.report.bytes.items ++ verdict_text fraction_of N P j.verdict → j.line.items ≡ verdict_text fraction_of N P j.verdict → j.entries ≡ new.entries → j.firings ≡ new.firings → JudgesWhole d p most text goes_on j
-  whole j bytes played (is_valid i) w e n b r s f g k line en fi =
-      let a = says bytes played j.verdict i w e n b r f g k in
-      verdicts.accepted a.0 (record {
+  whole : (j : Judgement) (played : Result (Unit {0}) Halt) → ValidOrNot j.judged.verdict → P ≡ expanded d p → N ≡ labels_meant d p → Begins N P most old → IsPlayedOut (pair d p) N P bytes old new played → IfErr played (HaltFits P) → SumsUp N P new played j → JudgesText d p most bytes j.judged
+  whole j played (is_valid i) e n b s f u =
+      let a = says j.bytes.items played j.judged.verdict i e n b s f u.gives u.bytes in
+      verdicts.judged bytes false (refl, a.0) (verdicts.accepted refl (record {
         verdict = i;
-        line = line ∙ ap (verdict_text fraction_of N P) i;
-        bytes = bytes;
+        line = u.line ∙ ap (verdict_text fraction_of N P) i;
+        bytes = j.bytes.items;
         accepted = a.1;
-        entries = en ∙ a.2;
-        firings = fi ∙ a.3;
-      })
-  whole j bytes played (is_not x) w e n b r s f g k line en fi =
-      let a = says_why bytes played j.verdict e n b s g x k in
-      verdicts.refused (record {
-        refusal = plain_refusal (outcome_of j.verdict) (verdict_plain j.verdict) x;
-        line = line ∙ ap (λ M. verdict_text fraction_of M P j.verdict) n ∙ ap (λ Q. verdict_text fraction_of (labels_meant d p) Q j.verdict) e;
-        bytes = bytes;
-        refused = a.0;
-        verdict = a.1;
-        entries = en ∙ a.2;
-        firings = fi ∙ a.3;
-      })
+        entries = u.entries ∙ a.2;
+        firings = u.firings ∙ a.3;
+      }))
+  whole j played (is_not x) e n b s f u =
+      let a = says_why j.bytes.items played j.judged.verdict e n b s u.gives x u.bytes in
+      verdicts.judged a.text a.goes_on a.read (verdicts.refused (record {
+        refusal = plain_refusal (outcome_of j.judged.verdict) (verdict_plain j.judged.verdict) x;
+        line = u.line ∙ ap (λ M. verdict_text fraction_of M P j.judged.verdict) n ∙ ap (λ Q. verdict_text fraction_of (labels_meant d p) Q j.judged.verdict) e;
+        bytes = j.bytes.items;
+        refused = a.refused;
+        verdict = a.verdict;
+        entries = u.entries ∙ a.entries;
+        firings = u.firings ∙ a.firings;
+      }))
 
-  pub judged : (j : Judgement) (played : Result (Unit {0}) Halt) → length text ≤ 1048576 → P ≡ expanded d p → N ≡ labels_meant d p → Begins N P most old → OnOk played (PlaysWhole (pair d p) N P text goes_on old new) → IfErr played (HaltsInPlan (pair d p) N P text goes_on old new) → IfErr played (HaltFits P) → GivesVerdict played j.judged.verdict → j.outcome ≡ outcome_of j.judged.verdict → j.bytes.items ≡ new.report.bytes.items ++ verdict_text fraction_of N P j.judged.verdict → j.judged.line.items ≡ verdict_text fraction_of N P j.judged.verdict → j.judged.entries ≡ new.entries → j.judged.firings ≡ new.firings → IsJudged d p most text goes_on j
-  judged j played w e n b r s f g o k line en fi =
+  refused_so : (j : Judgement) → j.outcome ≡ outcome_of j.judged.verdict → Refuses j.judged.verdict j.bytes.items → IsRefusedIn d p most bytes j.outcome j.bytes.items
+  refused_so j o a = record {
+    text = a.text;
+    goes_on = a.goes_on;
+    read = a.read;
+    refused = subst (λ (y : Outcome). IsRefused d p most a.text a.goes_on y j.bytes.items) (sym o) a.refused;
+  }
+
+  pub judged : (j : Judgement) (played : Result (Unit {0}) Halt) → P ≡ expanded d p → N ≡ labels_meant d p → Begins N P most old → IsPlayedOut (pair d p) N P bytes old new played → IfErr played (HaltFits P) → SumsUp N P new played j → IsJudged d p most bytes j
+  judged j played e n b s f u =
       let v = j.judged.verdict in
       record {
-        valid = λ h. (let a = says j.bytes.items played v (valid_only v (sym o ∙ h)) w e n b r f g k in record { whole = a.0; accepted = a.1 });
-        refused = λ x. subst (λ (y : Outcome). IsRefused d p most text goes_on y j.bytes.items) (sym o)
-            (says_why j.bytes.items played v e n b s g (λ z. x (o ∙ z)) k).0;
-        plain = subst IsPlain (sym o) (verdict_plain v);
-        judged = whole j.judged j.bytes.items played (valid_or_not v) w e n b r s f g k line en fi;
+        valid = λ h. (says j.bytes.items played v (valid_only v (sym u.outcome ∙ h)) e n b s f u.gives u.bytes).1;
+        refused = λ x. refused_so j u.outcome (says_why j.bytes.items played v e n b s u.gives (λ z. x (u.outcome ∙ z)) u.bytes);
+        plain = subst IsPlain (sym u.outcome) (verdict_plain v);
+        judged = whole j played (valid_or_not v) e n b s f u;
       }
+
+-- an outcome that is summed up is no fault
+pub sums_plain : (N : Labels) (P : Problem) (run : Run) (played : Result (Unit {0}) Halt) (j : Judgement) → SumsUp N P run played j → IsPlain j.outcome
+sums_plain N P run played j u = subst IsPlain (sym u.outcome) (verdict_plain j.judged.verdict)
+
+-- a fact for the bytes under a name
+pub judged_told : (d : Domain) (p : tree.Problem) (N : Labels) (P : Problem) (most : ℕ) (told : Option (List ℕ)) (old new : Run) → IsGroundable IsFrac64 d p → (j : Judgement) (played : Result (Unit {0}) Halt) → P ≡ expanded d p → N ≡ labels_meant d p → Begins N P most old → IfSome told (λ bytes. IsPlayedOut (pair d p) N P bytes old new played) → IfErr played (HaltFits P) → SumsUp N P new played j → IfSome told (λ bytes. IsJudged d p most bytes j)
+judged_told d p N P most None old new z j played e n b s f u = tt
+judged_told d p N P most (Some bytes) old new z j played e n b s f u = judged d p N P most bytes old new z j played e n b s f u

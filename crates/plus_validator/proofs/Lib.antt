@@ -19,6 +19,8 @@ pub mod Waiting
 pub mod LineStops
 pub mod TextStops
 pub mod Cutting
+pub mod FeedLemmas
+pub mod StreamLemmas
 pub mod Longer
 pub mod Telling
 pub mod Between

@@ -1,7 +1,6 @@
 -- What an action and a line do to a run.
-use Rattle.std.proofs.Common.{◌≡◌, ℕ, suc, ◌+◌, ◌≤◌, true, false, List, [], ◌∷◌, ◌++◌, refl, ap, sym, subst, ◌∙◌, append-nil, add-zero, arith, drop}
-use Rattle.std.specs.Prelude.{Option, Some, None, IfSome, length, map, Ok, codes, All}
-use Rattle.std.proofs.Math.Seq.{drop-length}
+use Rattle.std.proofs.Common.{◌≡◌, ℕ, suc, ◌≤◌, true, false, List, [], ◌∷◌, ◌++◌, refl, ap, sym, subst, ◌∙◌, append-nil, add-zero, arith}
+use Rattle.std.specs.Prelude.{Option, Some, None, length, map, Ok, codes, All}
 use Rattle.plus_fraction.specs.Fraction.{Fraction, ◌≤ℚ◌}
 use Rattle.plus_model.specs.Terms.{Action, Problem}
 use Rattle.plus_model.specs.Plan as model
@@ -24,9 +23,7 @@ use Rattle.plus_report.specs.Text.{act_text}
 use Rattle.plus_plan.specs.declared.forms.Line.{Line}
 use Rattle.plus_plan.specs.declared.forms.Line.TheVariants as lines
 use Rattle.plus_plan.specs.declared.forms.PlanForm.TheVariants.{Timed}
-use Rattle.plus_plan.specs.Cut.{lines_of}
-use Rattle.plus_plan.specs.Lines.{numbered, plan_lines}
-use Rattle.plus_plan.specs.Answers.{IsLineAt}
+use Rattle.plus_plan.specs.Lines.{plan_lines}
 use Rattle.plus_plan.specs.declared.forms.Time.{Time}
 use Rattle.plus_plan.specs.TimeValue.{value_of}
 use Rattle.plus_expansion.specs.Counting.{IsGroundable}
@@ -37,9 +34,10 @@ use Rattle.plus_validator.specs.Accepted.{IsAccepted}
 use Rattle.plus_validator.specs.Plans.{Pair, pair, line_meant, plan_of, HasTime, HasValue, lines_meant}
 use Rattle.plus_validator.specs.Standing.{IsPlayed, CanGoOn, IsReady, IsReached}
 use Rattle.plus_validator.specs.Running.{IsOnWay, Reaches}
-use Rattle.plus_validator.specs.Playing.{Readied, IsResting, ActsOnce, PlaysLine, IsInTime, ReadsAll, Closes, PlaysAll, Ends, Begins, ReadiedFor}
+use Rattle.plus_validator.specs.Playing.{Readied, IsResting, ActsOnce, PlaysLine, IsInTime, Closes, PlaysAll, Ends, Begins, ReadiedFor}
 use Rattle.plus_validator.proofs.FiresLemmas.{fires_exactly}
-use Rattle.plus_validator.proofs.Texts.{said_more, plan_of-append}
+use Rattle.plus_validator.specs.Feeding.{HasPlayed}
+use Rattle.plus_validator.proofs.Texts.{plan_of-append}
 use Rattle.plus_validator.specs.declared.run.Run.{Run}
 use Rattle.plus_validator.proofs.Steps.{played_on, account_by, entries_of-append, asked_is}
 use Rattle.plus_validator.proofs.Lines.{with_line, has_begun, read_on, read_target, act_due, acted_target, act_ready, end_ready, Agree}
@@ -221,76 +219,32 @@ act_played d N P n time call at now old there acted new i r a e s = record {
 
 -- ---- the lines of a text
 
--- so far
-pub record ReadsTo (d : Pair) (N : Labels) (P : Problem) (text : List ℕ) (start : Run) (number from : ℕ) (run : Run) : Type 0 where
-  pub rests : IsResting P start.timeline.line.most run
-  pub lines_read : List Line
-  pub said : plan_lines Timed text ≡ map Ok lines_read ++ numbered Timed number (lines_of (drop from text))
-  pub times : All HasValue lines_read
-  pub ready : (h : List Part) → ReadiedFor d N P [] h start → (h' : List Part) × ReadiedFor d N P lines_read h' run
-  pub inside : from ≤ length text
-  pub few : number ≤ from + 1
-  pub counted : number ≡ length lines_read + 1
-
-pub reads_none : (d : Pair) (N : Labels) (P : Problem) (text : List ℕ) (run : Run) → CanGoOn P run.timeline → run.timeline.line.now.running ≡ None → ReadsTo d N P text run 1 0 run
-reads_none d N P text run c m = record {
-  rests = record { can = c; moment = m; most_is = refl };
-  lines_read = [];
-  said = refl;
-  times = All-nil HasValue;
-  ready = λ h r. (h, r);
-  inside = omega arith;
-  few = omega arith;
-  counted = refl;
-}
+pub played_none : (d : Pair) (N : Labels) (P : Problem) (run : Run) → IsResting P run.timeline.line.most run → HasPlayed d N P [] run run
+played_none d N P run r = record { rests = r; times = All-nil HasValue; ready = λ h k. (h, k) }
 
 all_more : {A : Type 0} (P : A → Type 0) (xs : List A) (x : A) → All P xs → P x → All P (xs ++ x ∷ [])
 all_more P [] x a h = All-cons P x [] h a
 all_more P (y ∷ xs) x a h = All-cons P y (xs ++ x ∷ []) (All-head P y xs a) (all_more P xs x (All-tail P y xs a) h)
 
-lines_with : (ls : List Line) (l : Line) → length (ls ++ l ∷ []) ≡ length ls + 1
-lines_with [] l = refl
-lines_with (x ∷ ls) l = let i = lines_with ls l in omega arith
-
-pub reads_more : (d : Pair) (N : Labels) (P : Problem) (text : List ℕ) (start run new : Run) (number from : ℕ) (x : Line × ℕ) → ReadsTo d N P text start number from run → IsLineAt Timed number text from x → PlaysLine d N P x.0 run new → ReadsTo d N P text start (number + 1) x.1 new
-reads_more d N P text start run new number from x r l p = record {
+pub played_more : (d : Pair) (N : Labels) (P : Problem) (lines : List Line) (line : Line) (first run new : Run) → HasPlayed d N P lines first run → PlaysLine d N P line run new → HasPlayed d N P (lines ++ line ∷ []) first new
+played_more d N P lines line first run new r p = record {
   rests = record { can = p.rests.can; moment = p.rests.moment; most_is = p.rests.most_is ∙ r.rests.most_is };
-  lines_read = r.lines_read ++ x.0 ∷ [];
-  said = said_more text r.lines_read x.0 number from x.1 r.said l.said;
-  times = all_more HasValue r.lines_read x.0 r.times p.value;
+  times = all_more HasValue lines line r.times p.value;
   ready = λ h k.
       let a = r.ready h k in
-      p.ready r.lines_read a.0 a.1;
-  inside = l.inside;
-  few = (let a = l.rises in let b = r.few in omega arith);
-  counted = (let k = lines_with r.lines_read x.0 in let c = r.counted in omega arith);
-}
-
-pub reads_on : (d : Pair) (N : Labels) (P : Problem) (text : List ℕ) (start run new : Run) (number from : ℕ) (o : Option (Line × ℕ)) (read : Line) (next : ℕ) → o ≡ Some (read, next) → ReadsTo d N P text start number from run → IfSome o (IsLineAt Timed number text from) → PlaysLine d N P read run new → ReadsTo d N P text start (number + 1) next new
-reads_on d N P text start run new number from o read next e r l p =
-    reads_more d N P text start run new number from (read, next) r (subst (λ x. IfSome x (IsLineAt Timed number text from)) e l) p
-
-pub reads_all : (d : Pair) (N : Labels) (P : Problem) (text : List ℕ) (start run : Run) (number from : ℕ) → ReadsTo d N P text start number from run → from ≡ length text → ReadsAll d N P text start run number
-reads_all d N P text start run number from r e = record {
-  rests = r.rests;
-  lines = r.lines_read;
-  number_is = r.counted;
-  times = r.times;
-  read = r.said ∙ ap (λ k. map Ok r.lines_read ++ numbered Timed number (lines_of (drop k text))) e
-      ∙ ap (λ t. map Ok r.lines_read ++ numbered Timed number (lines_of t)) (drop-length text) ∙ append-nil (map Ok r.lines_read);
-  ready = r.ready;
+      p.ready lines a.0 a.1;
 }
 
 -- the text is played to its end
-pub plays_all : (d : Pair) (N : Labels) (P : Problem) (text : List ℕ) (old mid new : Run) (number : ℕ) → ReadsAll d N P text old mid number → Closes N P mid new → PlaysAll d N P text old new
-plays_all d N P text old mid new number r c = record {
-  lines = r.lines;
-  read = r.read;
+pub plays_all : (d : Pair) (N : Labels) (P : Problem) (text : List ℕ) (lines : List Line) (old mid new : Run) → HasPlayed d N P lines old mid → plan_lines Timed text ≡ map Ok lines → Closes N P mid new → PlaysAll d N P text old new
+plays_all d N P text lines old mid new r e c = record {
+  lines = lines;
+  read = e;
   times = r.times;
   ends = λ h k.
       let a = r.ready h k in
-      let b = c.ends (plan_of d r.lines false) (instances_of d r.lines) a.0 a.1 in
-      (b.0, subst (λ m. Ends N P (plan_of d r.lines true) m (instances_of d r.lines) b.0 (account_in new)) r.rests.most_is b.1);
+      let b = c.ends (plan_of d lines false) (instances_of d lines) a.0 a.1 in
+      (b.0, subst (λ m. Ends N P (plan_of d lines true) m (instances_of d lines) b.0 (account_in new)) r.rests.most_is b.1);
 }
 
 -- and accepted, with what is counted

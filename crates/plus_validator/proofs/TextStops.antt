@@ -1,6 +1,6 @@
 -- A run that halts in a text: the plan is refused.
-use Rattle.std.proofs.Common.{◌≡◌, ℕ, ◌+◌, Bool, true, false, List, [], ◌∷◌, ◌++◌, refl, ap, sym, subst, ◌∙◌, inl, inr, append_assoc, append-nil, drop}
-use Rattle.std.specs.Prelude.{◌≢◌, ◌⊎◌, Option, Some, None, Result, Ok, Err, IfSome, IsSomeAnd, length, map}
+use Rattle.std.proofs.Common.{◌≡◌, ℕ, ◌+◌, Bool, true, false, List, [], ◌∷◌, ◌++◌, refl, ap, sym, subst, ◌∙◌, inl, inr, append_assoc, append-nil}
+use Rattle.std.specs.Prelude.{◌≢◌, ◌⊎◌, Option, Some, None, Result, Ok, Err, IsSomeAnd, length, map}
 use Rattle.plus_model.specs.Terms.{Problem}
 use Rattle.plus_model.specs.Plan as model
 use Rattle.plus_model.specs.Plan.{Plan}
@@ -24,9 +24,7 @@ use Rattle.plus_plan.specs.declared.forms.Line.{Line}
 use Rattle.plus_plan.specs.declared.forms.PlanForm.TheVariants.{Timed}
 use Rattle.plus_plan.specs.declared.faults.PlanFault.{PlanFault}
 use Rattle.plus_plan.specs.declared.faults.PlanFault.TheVariants as faults
-use Rattle.plus_plan.specs.Cut.{lines_of, next_line}
-use Rattle.plus_plan.specs.Lines.{numbered}
-use Rattle.plus_plan.specs.Answers.{IsLineAt, IsRefusedAt}
+use Rattle.plus_plan.specs.Lines.{plan_lines}
 use Rattle.plus_stretch.specs.Tests as tests
 use Rattle.plus_stretch.specs.Tests.{Test, breach_of}
 use Rattle.plus_report.specs.declared.verdicts.Verdict.{Verdict}
@@ -42,10 +40,10 @@ use Rattle.plus_validator.specs.declared.run.Run.{Run}
 use Rattle.plus_validator.specs.Halts.{line_halt}
 use Rattle.plus_validator.specs.Plans.{Pair, line_meant, lines_meant, plan_of, reading_of}
 use Rattle.plus_validator.specs.Standing.{CanGoOn}
-use Rattle.plus_validator.specs.Playing.{ReadiedFor, ReadsAll}
+use Rattle.plus_validator.specs.Playing.{ReadiedFor}
 use Rattle.plus_validator.specs.Refused.{IsBroken, StandsEarly, Stands, AreWorked, NamesFault, IsWaiting, TimeFault, after_end, no_value, goes_back, cut_verdict, NonePlays, BreachRefutes, Refutes, IsOfText, IsNoLimit, number_in}
-use Rattle.plus_validator.specs.Stopped.{IsReported, StopsOnWay, StopsInLine, HaltsInLine, HaltsAtEnd, IsStoppedInText, StopsInText, HaltsInLines, HaltsInText}
-use Rattle.plus_validator.proofs.Played.{ReadsTo}
+use Rattle.plus_validator.specs.Stopped.{IsReported, StopsOnWay, StopsInLine, HaltsInLine, HaltsAtEnd, IsStoppedInText, StopsInText}
+use Rattle.plus_validator.specs.Feeding.{HasPlayed}
 use Rattle.plus_validator.proofs.Stopping.{reported}
 use Rattle.plus_validator.proofs.Waiting.{waits}
 use Rattle.plus_validator.proofs.Clear.{clear_grows, unbegun_rest}
@@ -255,21 +253,22 @@ waiting_for : (d : Pair) (N : Labels) (P : Problem) (ls : List Line) (most : ℕ
 waiting_for d N P ls most h run m r =
     subst (λ k. IsWaiting P (plan_of d ls false) k (instances_of d ls) h) m (waits N P (plan_of d ls false) (instances_of d ls) h run r)
 
-module _ (d : Pair) (N : Labels) (P : Problem) (text : List ℕ) (start run : Run) (number from : ℕ) (r : ReadsTo d N P text start number from run) where
+-- the lines of these whole lines begin with those that are played
+module _ (d : Pair) (N : Labels) (P : Problem) (start run : Run) (lines : List Line) (r : HasPlayed d N P lines start run) (whole : List ℕ) (behind : List (Result Line PlanFault)) (more : Bool) (piece : List ℕ) where
   -- the verdict on a next line that is none
-  none_next : (fault : PlanFault) (v : Verdict Frac64) (more : Bool) (piece : List ℕ) (h : List Part) → numbered Timed number (lines_of (drop from text)) ≡ Err fault ∷ numbered Timed (number + 1) (lines_of (drop (next_line text from) text)) → NamesFault fault v → Refutes d P (r.lines_read ++ []) v → ReadiedFor d N P [] h start → IsStoppedInText d N P start.timeline.line.most more text piece (account_in run) v
-  none_next fault v more piece h e n f ready =
+  none_next : (fault : PlanFault) (v : Verdict Frac64) (h : List Part) → plan_lines Timed whole ≡ map Ok lines ++ Err fault ∷ behind → NamesFault fault v → Refutes d P (lines ++ []) v → ReadiedFor d N P [] h start → IsStoppedInText d N P start.timeline.line.most more whole piece (account_in run) v
+  none_next fault v h e n f ready =
       let a = r.ready h ready in
-      let w = waiting_report d N P r.lines_read start.timeline.line.most a.0 run r.rests.can r.rests.most_is a.1 in
-      let k = waiting_for d N P r.lines_read start.timeline.line.most a.0 run r.rests.most_is a.1 in
-      let longest = waiting_longest d P r.lines_read start.timeline.line.most (instances_of d r.lines_read) a.0 w.prefix k in
+      let w = waiting_report d N P lines start.timeline.line.most a.0 run r.rests.can r.rests.most_is a.1 in
+      let k = waiting_for d N P lines start.timeline.line.most a.0 run r.rests.most_is a.1 in
+      let longest = waiting_longest d P lines start.timeline.line.most (instances_of d lines) a.0 w.prefix k in
       record {
         refusal = record {
-          before = r.lines_read;
-          rest = Err fault ∷ numbered Timed (number + 1) (lines_of (drop (next_line text from) text));
-          read = r.said ∙ ap (λ t. map Ok r.lines_read ++ t) e;
+          before = lines;
+          rest = Err fault ∷ behind;
+          read = e;
           times = r.times;
-          reading = reading_of r.lines_read false;
+          reading = reading_of lines false;
           history = a.0;
           prefix = w.prefix;
           few = w.few;
@@ -282,32 +281,22 @@ module _ (d : Pair) (N : Labels) (P : Problem) (text : List ℕ) (start run : Ru
         written = w.written;
       }
 
-  bad_stops : (fault : PlanFault) (more : Bool) (piece : List ℕ) (h : List Part) → IsRefusedAt Timed number text from fault → ReadiedFor d N P [] h start → StopsInText d N P start.timeline.line.most more text piece (account_in run) (line_halt fault)
-  bad_stops (faults.NotLine n begin last) more piece h f ready =
-      none_next (faults.NotLine n begin last) (Other (BadLine n begin last)) more piece h
-      (f.said ∙ ap (λ (x : Result Line PlanFault). x ∷ numbered Timed (number + 1) (lines_of (drop (next_line text from) text))) f.read) refl tt ready
-  bad_stops (faults.LineTooLong n) more piece h f ready =
-      none_next (faults.LineTooLong n) (Other (LineTooLong n)) more piece h
-      (f.said ∙ ap (λ (x : Result Line PlanFault). x ∷ numbered Timed (number + 1) (lines_of (drop (next_line text from) text))) f.read) refl tt ready
-  bad_stops faults.Memory more piece h f ready = tt
+  pub bad_stops : (fault : PlanFault) (h : List Part) → plan_lines Timed whole ≡ map Ok lines ++ Err fault ∷ behind → ReadiedFor d N P [] h start → StopsInText d N P start.timeline.line.most more whole piece (account_in run) (line_halt fault)
+  bad_stops (faults.NotLine n begin last) h e ready = none_next (faults.NotLine n begin last) (Other (BadLine n begin last)) h e refl tt ready
+  bad_stops (faults.LineTooLong n) h e ready = none_next (faults.LineTooLong n) (Other (LineTooLong n)) h e refl tt ready
+  bad_stops faults.Memory h e ready = tt
 
-  pub halts_at_bad_line : (fault : PlanFault) (halt : Halt) → IsRefusedAt Timed number text from fault → halt ≡ line_halt fault → HaltsInLines d N P text start run halt
-  halts_at_bad_line fault halt f e = record {
-    stops = λ more piece h ready.
-        subst (StopsInText d N P start.timeline.line.most more text piece (account_in run)) (sym e) (bad_stops fault more piece h f ready);
-  }
-
-  line_stops : (new : Run) (x : Line × ℕ) (halt : Halt) (more : Bool) (piece : List ℕ) (g : List Part) → IsReported N P (plan_of d r.lines_read false) start.timeline.line.most (instances_of d r.lines_read) g (account_in run) → IsWaiting P (plan_of d r.lines_read false) start.timeline.line.most (instances_of d r.lines_read) g → IsLineAt Timed number text from x → StopsInLine d N P r.lines_read start.timeline.line.most x.0 (account_in new) halt → StopsInText d N P start.timeline.line.most more text piece (account_in new) halt
-  line_stops new x Memory more piece g ready w l s = tt
-  line_stops new x (Refused v) more piece g ready w l (inl b) =
-      let longest = waiting_longest d P r.lines_read start.timeline.line.most (instances_of d r.lines_read) b.history b.reported.prefix b.waits in
+  line_stops : (new : Run) (line : Line) (halt : Halt) (g : List Part) → IsReported N P (plan_of d lines false) start.timeline.line.most (instances_of d lines) g (account_in run) → IsWaiting P (plan_of d lines false) start.timeline.line.most (instances_of d lines) g → plan_lines Timed whole ≡ map Ok lines ++ Ok line ∷ behind → StopsInLine d N P lines start.timeline.line.most line (account_in new) halt → StopsInText d N P start.timeline.line.most more whole piece (account_in new) halt
+  line_stops new line Memory g ready w e s = tt
+  line_stops new line (Refused v) g ready w e (inl b) =
+      let longest = waiting_longest d P lines start.timeline.line.most (instances_of d lines) b.history b.reported.prefix b.waits in
       record {
         refusal = record {
-          before = r.lines_read;
-          rest = Ok x.0 ∷ numbered Timed (number + 1) (lines_of (drop x.1 text));
-          read = r.said ∙ ap (λ t. map Ok r.lines_read ++ t) l.said;
+          before = lines;
+          rest = Ok line ∷ behind;
+          read = e;
           times = r.times;
-          reading = reading_of r.lines_read false;
+          reading = reading_of lines false;
           history = b.history;
           prefix = b.reported.prefix;
           few = b.reported.few;
@@ -315,18 +304,18 @@ module _ (d : Pair) (N : Labels) (P : Problem) (text : List ℕ) (start run : Ru
           cause = inl (record { reads = refl; waits = b.waits; meant = b.meant; meant_is = b.meant_is; time = b.time; time_is = b.time_is; why = b.why });
           furthest = λ other p c. longest.longest other p;
           longest = λ _. longest;
-          final = time_refutes d P r.lines_read x.0 b.history b.meant b.time (number_in x.0) v b.meant_is b.why;
+          final = time_refutes d P lines line b.history b.meant b.time (number_in line) v b.meant_is b.why;
         };
         written = b.reported.written;
       }
-  line_stops new x (Refused v) more piece g ready w l (inr b) =
+  line_stops new line (Refused v) g ready w e (inr b) =
       let k = b.stopped in
-      let ls = r.lines_read ++ x.0 ∷ [] in
+      let ls = lines ++ line ∷ [] in
       record {
         refusal = record {
-          before = r.lines_read;
-          rest = Ok x.0 ∷ numbered Timed (number + 1) (lines_of (drop x.1 text));
-          read = r.said ∙ ap (λ t. map Ok r.lines_read ++ t) l.said;
+          before = lines;
+          rest = Ok line ∷ behind;
+          read = e;
           times = r.times;
           reading = reading_of ls false;
           history = k.stopped.history;
@@ -337,7 +326,7 @@ module _ (d : Pair) (N : Labels) (P : Problem) (text : List ℕ) (start run : Ru
             reads = refl;
             begun = b.begun;
             value = b.value;
-            worked = are_worked d P r.lines_read (x.0 ∷ []) false start.timeline.line.most g k.stopped.history v ready.prefix ready.clear w k.stopped.reported.prefix k.stopped.stands
+            worked = are_worked d P lines (line ∷ []) false start.timeline.line.most g k.stopped.history v ready.prefix ready.clear w k.stopped.reported.prefix k.stopped.stands
                 (is_begun (lines_meant d ls));
             stands = k.stopped.stands;
             names = k.names;
@@ -349,85 +338,74 @@ module _ (d : Pair) (N : Labels) (P : Problem) (text : List ℕ) (start run : Ru
         written = k.stopped.reported.written;
       }
 
-  halts_in : (new : Run) (x : Line × ℕ) (halt : Halt) → IsLineAt Timed number text from x → HaltsInLine d N P x.0 run new halt → HaltsInLines d N P text start new halt
-  halts_in new x halt l s = record {
-    stops = λ more piece h ready.
-        let a = r.ready h ready in
-        line_stops new x halt more piece a.0 (waiting_report d N P r.lines_read start.timeline.line.most a.0 run r.rests.can r.rests.most_is a.1)
-        (waiting_for d N P r.lines_read start.timeline.line.most a.0 run r.rests.most_is a.1) l
-        (subst (λ m. StopsInLine d N P r.lines_read m x.0 (account_in new) halt) r.rests.most_is (s.stops r.lines_read a.0 a.1));
-  }
-
-  pub halts_at_line : (new : Run) (o : Option (Line × ℕ)) (read : Line) (next : ℕ) (halt : Halt) → o ≡ Some (read, next) → IfSome o (IsLineAt Timed number text from) → HaltsInLine d N P read run new halt → HaltsInLines d N P text start new halt
-  halts_at_line new o read next halt e l s = halts_in new (read, next) halt (subst (λ x. IfSome x (IsLineAt Timed number text from)) e l) s
+  -- the next line halts the run
+  pub next_stops : (new : Run) (line : Line) (halt : Halt) (h : List Part) → plan_lines Timed whole ≡ map Ok lines ++ Ok line ∷ behind → HaltsInLine d N P line run new halt → ReadiedFor d N P [] h start → StopsInText d N P start.timeline.line.most more whole piece (account_in new) halt
+  next_stops new line halt h e s ready =
+      let a = r.ready h ready in
+      line_stops new line halt a.0 (waiting_report d N P lines start.timeline.line.most a.0 run r.rests.can r.rests.most_is a.1)
+      (waiting_for d N P lines start.timeline.line.most a.0 run r.rests.most_is a.1) e
+      (subst (λ m. StopsInLine d N P lines m line (account_in new) halt) r.rests.most_is (s.stops lines a.0 a.1))
 
 -- ---- all lines are worked
 
-module _ (d : Pair) (N : Labels) (P : Problem) (text : List ℕ) (old mid : Run) (number : ℕ) (r : ReadsAll d N P text old mid number) where
-  end_worked : (g h : List Part) (v : Verdict Frac64) → IsReported N P (plan_of d r.lines false) old.timeline.line.most (instances_of d r.lines) g (account_in mid) → IsWaiting P (plan_of d r.lines false) old.timeline.line.most (instances_of d r.lines) g → Prefix P (plan_of d r.lines true) h → Stands P (plan_of d r.lines true) old.timeline.line.most (instances_of d r.lines) h v → AreWorked d P old.timeline.line.most r.lines h
+module _ (d : Pair) (N : Labels) (P : Problem) (text : List ℕ) (old mid : Run) (lines : List Line) (r : HasPlayed d N P lines old mid) (said : plan_lines Timed text ≡ map Ok lines) where
+  end_worked : (g h : List Part) (v : Verdict Frac64) → IsReported N P (plan_of d lines false) old.timeline.line.most (instances_of d lines) g (account_in mid) → IsWaiting P (plan_of d lines false) old.timeline.line.most (instances_of d lines) g → Prefix P (plan_of d lines true) h → Stands P (plan_of d lines true) old.timeline.line.most (instances_of d lines) h v → AreWorked d P old.timeline.line.most lines h
   end_worked g h v a w p s =
-      are_worked d P r.lines [] true old.timeline.line.most g h v a.prefix a.clear w
-      (subst (λ (ls : List Line). Prefix P (plan_of d ls true) h) (sym (append-nil r.lines)) p)
-      (subst (λ (ls : List Line). Stands P (plan_of d ls true) old.timeline.line.most (instances_of d ls) h v) (sym (append-nil r.lines)) s) (inl (inr refl))
+      are_worked d P lines [] true old.timeline.line.most g h v a.prefix a.clear w
+      (subst (λ (ls : List Line). Prefix P (plan_of d ls true) h) (sym (append-nil lines)) p)
+      (subst (λ (ls : List Line). Stands P (plan_of d ls true) old.timeline.line.most (instances_of d ls) h v) (sym (append-nil lines)) s) (inl (inr refl))
 
-  end_stops : (account : Account) (halt : Halt) (g : List Part) → IsReported N P (plan_of d r.lines false) old.timeline.line.most (instances_of d r.lines) g (account_in mid) → IsWaiting P (plan_of d r.lines false) old.timeline.line.most (instances_of d r.lines) g → StopsOnWay N P (plan_of d r.lines true) old.timeline.line.most (instances_of d r.lines) account halt → StopsInText d N P old.timeline.line.most false text [] account halt
+  end_stops : (account : Account) (halt : Halt) (g : List Part) → IsReported N P (plan_of d lines false) old.timeline.line.most (instances_of d lines) g (account_in mid) → IsWaiting P (plan_of d lines false) old.timeline.line.most (instances_of d lines) g → StopsOnWay N P (plan_of d lines true) old.timeline.line.most (instances_of d lines) account halt → StopsInText d N P old.timeline.line.most false text [] account halt
   end_stops account Memory g ready w s = tt
   end_stops account (Refused v) g ready w s = record {
     refusal = record {
-      before = r.lines;
+      before = lines;
       rest = [];
-      read = r.read ∙ sym (append-nil (map Ok r.lines));
+      read = said ∙ sym (append-nil (map Ok lines));
       times = r.times;
-      reading = reading_of r.lines true;
+      reading = reading_of lines true;
       history = s.stopped.history;
       prefix = s.stopped.reported.prefix;
       few = s.stopped.reported.few;
       clear = s.stopped.reported.clear;
       cause = record { reads = refl; worked = end_worked g s.stopped.history v ready w s.stopped.reported.prefix s.stopped.stands; stands = s.stopped.stands; names = s.names };
-      furthest = λ other p c. begins_by P (plan_of d r.lines true) old.timeline.line.most (instances_of d r.lines) other s.stopped.history v p c s.stopped.reported.prefix s.stopped.stands;
-      longest = stands_longest P (plan_of d r.lines true) old.timeline.line.most (instances_of d r.lines) s.stopped.history v s.stopped.stands;
-      final = subst (λ (ls : List Line). Refutes d P ls v) (sym (append-nil r.lines)) (end_refutes d P r.lines old.timeline.line.most (instances_of d r.lines) s.stopped.history v s.stopped.stands);
+      furthest = λ other p c. begins_by P (plan_of d lines true) old.timeline.line.most (instances_of d lines) other s.stopped.history v p c s.stopped.reported.prefix s.stopped.stands;
+      longest = stands_longest P (plan_of d lines true) old.timeline.line.most (instances_of d lines) s.stopped.history v s.stopped.stands;
+      final = subst (λ (ls : List Line). Refutes d P ls v) (sym (append-nil lines)) (end_refutes d P lines old.timeline.line.most (instances_of d lines) s.stopped.history v s.stopped.stands);
     };
     written = s.stopped.reported.written;
   }
 
   -- the text is at its end
-  pub halts_after_all : (new : Run) (halt : Halt) → HaltsAtEnd N P mid new halt → HaltsInText d N P false text [] old new halt
-  halts_after_all new halt s = record {
-    stops = λ h ready.
-        let a = r.ready h ready in
-        end_stops (account_in new) halt a.0 (waiting_report d N P r.lines old.timeline.line.most a.0 mid r.rests.can r.rests.most_is a.1)
-        (waiting_for d N P r.lines old.timeline.line.most a.0 mid r.rests.most_is a.1)
-        (subst (λ m. StopsOnWay N P (plan_of d r.lines true) m (instances_of d r.lines) (account_in new) halt) r.rests.most_is (s.stops (plan_of d r.lines false) (instances_of d r.lines) a.0 a.1));
-  }
+  pub halts_after_all : (new : Run) (halt : Halt) (h : List Part) → HaltsAtEnd N P mid new halt → ReadiedFor d N P [] h old → StopsInText d N P old.timeline.line.most false text [] (account_in new) halt
+  halts_after_all new halt h s ready =
+      let a = r.ready h ready in
+      end_stops (account_in new) halt a.0 (waiting_report d N P lines old.timeline.line.most a.0 mid r.rests.can r.rests.most_is a.1)
+      (waiting_for d N P lines old.timeline.line.most a.0 mid r.rests.most_is a.1)
+      (subst (λ m. StopsOnWay N P (plan_of d lines true) m (instances_of d lines) (account_in new) halt) r.rests.most_is (s.stops (plan_of d lines false) (instances_of d lines) a.0 a.1))
 
-  -- the text goes on
-  pub halts_at_cut : (piece : List ℕ) (halt : Halt) → halt ≡ Refused (Other (cut_verdict number (length piece))) → HaltsInText d N P true text piece old mid halt
-  halts_at_cut piece halt e = record {
-    stops = λ h ready.
-        let a = r.ready h ready in
-        let w = waiting_report d N P r.lines old.timeline.line.most a.0 mid r.rests.can r.rests.most_is a.1 in
-        let k = waiting_for d N P r.lines old.timeline.line.most a.0 mid r.rests.most_is a.1 in
-        let longest = waiting_longest d P r.lines old.timeline.line.most (instances_of d r.lines) a.0 w.prefix k in
-        subst (StopsInText d N P old.timeline.line.most true text piece (account_in mid)) (sym e) (record {
-          refusal = record {
-            before = r.lines;
-            rest = [];
-            read = r.read ∙ sym (append-nil (map Ok r.lines));
-            times = r.times;
-            reading = reading_of r.lines false;
-            history = a.0;
-            prefix = w.prefix;
-            few = w.few;
-            clear = w.clear;
-            cause = record { reads = refl; waits = k; is = ap (λ n. Other (cut_verdict n (length piece))) r.number_is };
-            furthest = λ other p c. longest.longest other p;
-            longest = λ _. longest;
-            final = tt;
-          };
-          written = w.written;
-        });
-  }
-
-pub lines_halt : (d : Pair) (N : Labels) (P : Problem) (text : List ℕ) (old new : Run) (more : Bool) (piece : List ℕ) (halt : Halt) → HaltsInLines d N P text old new halt → HaltsInText d N P more text piece old new halt
-lines_halt d N P text old new more piece halt s = record { stops = λ h ready. s.stops more piece h ready }
+  -- the text goes on behind a piece of a line
+  pub cut_stops : (piece : List ℕ) (v : Verdict Frac64) (h : List Part) → v ≡ Other (cut_verdict (length lines + 1) (length piece)) → ReadiedFor d N P [] h old → IsStoppedInText d N P old.timeline.line.most true text piece (account_in mid) v
+  cut_stops piece v h e ready =
+      let a = r.ready h ready in
+      let w = waiting_report d N P lines old.timeline.line.most a.0 mid r.rests.can r.rests.most_is a.1 in
+      let k = waiting_for d N P lines old.timeline.line.most a.0 mid r.rests.most_is a.1 in
+      let longest = waiting_longest d P lines old.timeline.line.most (instances_of d lines) a.0 w.prefix k in
+      record {
+        refusal = record {
+          before = lines;
+          rest = [];
+          read = said ∙ sym (append-nil (map Ok lines));
+          times = r.times;
+          reading = reading_of lines false;
+          history = a.0;
+          prefix = w.prefix;
+          few = w.few;
+          clear = w.clear;
+          cause = record { reads = refl; waits = k; is = e };
+          furthest = λ other p c. longest.longest other p;
+          longest = λ _. longest;
+          final = subst (Refutes d P (lines ++ [])) (sym e) tt;
+        };
+        written = w.written;
+      }

@@ -1,18 +1,24 @@
 -- The report and the verdict of a plan text.
-use Rattle.std.specs.Prelude.{◌≡◌, ◌≢◌, ℕ, Bool, false, List, Result, Ok, Err}
+use Rattle.std.specs.Prelude.{◌≡◌, ◌≢◌, ℕ, List, ◌++◌, Result, Ok, Err}
+use Rattle.plus_model.specs.Terms.{Problem}
 use Rattle.plus_number.specs.declared.frac.Frac64.{Frac64}
+use Rattle.plus_number.specs.Frac.{fraction_of}
+use Rattle.plus_state.specs.View.{Labels}
 use Rattle.plus_tree.specs.declared.trees.Domain.{Domain}
-use Rattle.plus_tree.specs.declared.trees.Problem.{Problem}
+use Rattle.plus_tree.specs.declared.trees.Problem as tree
 use Rattle.plus_report.specs.declared.verdicts.Verdict.{Verdict}
 use Rattle.plus_report.specs.declared.verdicts.Verdict.TheVariants.{Valid}
+use Rattle.plus_report.specs.Verdicts.{verdict_text}
 use Rattle.plus_validator.specs.declared.halt.Halt.{Halt}
 use Rattle.plus_validator.specs.declared.halt.Halt.TheVariants.{Refused, Memory}
 use Rattle.plus_validator.specs.declared.judgement.Judgement.{Judgement}
 use Rattle.plus_validator.specs.declared.judge.Outcome.{Outcome}
 use Rattle.plus_validator.specs.declared.judge.Outcome.TheVariants as outcomes
+use Rattle.plus_validator.specs.declared.run.Run.{Run}
 use Rattle.plus_validator.specs.Accepted.{IsAccepted}
-use Rattle.plus_validator.specs.Refused.{IsRefused}
-use Rattle.plus_validator.specs.Verdicts.{JudgesWhole}
+use Rattle.plus_validator.specs.Outcomes.{outcome_of}
+use Rattle.plus_validator.specs.Validates.{IsRefusedIn}
+use Rattle.plus_validator.specs.Verdicts.{JudgesText}
 
 -- what was played gives this verdict
 abbrev pub GivesVerdict : Result (Unit {0}) Halt → Verdict Frac64 → Type 0
@@ -20,10 +26,14 @@ GivesVerdict (Ok u) v = v ≡ Valid
 GivesVerdict (Err (Refused w)) v = v ≡ w
 GivesVerdict (Err Memory) v = ⊥
 
--- the text is not cut off, and accepted
-pub record AcceptsWhole (d : Domain) (p : Problem) (most : ℕ) (text : List ℕ) (goes_on : Bool) (bytes : List ℕ) : Type 0 where
-  pub whole : goes_on ≡ false
-  pub accepted : IsAccepted d p most text bytes
+-- what is said of a plan that was played so: its verdict, the report with the verdict's line, and what is counted
+pub record SumsUp (N : Labels) (P : Problem) (run : Run) (played : Result (Unit {0}) Halt) (j : Judgement) : Type 0 where
+  pub gives : GivesVerdict played j.judged.verdict
+  pub outcome : j.outcome ≡ outcome_of j.judged.verdict
+  pub bytes : j.bytes.items ≡ run.report.bytes.items ++ verdict_text fraction_of N P j.judged.verdict
+  pub line : j.judged.line.items ≡ verdict_text fraction_of N P j.judged.verdict
+  pub entries : j.judged.entries ≡ run.entries
+  pub firings : j.judged.firings ≡ run.firings
 
 -- no fault
 abbrev pub IsPlain : Outcome → Type 0
@@ -35,9 +45,10 @@ IsPlain outcomes.ReadFault = ⊥
 IsPlain outcomes.WriteFault = ⊥
 IsPlain outcomes.NoMemory = ⊥
 
--- the outcome is so, the bytes are the report and the verdict's line, and the verdict and the counts are so
-pub record IsJudged (d : Domain) (p : Problem) (most : ℕ) (text : List ℕ) (goes_on : Bool) (j : Judgement) : Type 0 where
-  pub valid : j.outcome ≡ outcomes.Valid → AcceptsWhole d p most text goes_on j.bytes.items
-  pub refused : j.outcome ≢ outcomes.Valid → IsRefused d p most text goes_on j.outcome j.bytes.items
+-- the plan text stands in these bytes: its outcome is so, its report and its verdict's line are so, and so are the verdict and the
+-- counts
+pub record IsJudged (d : Domain) (p : tree.Problem) (most : ℕ) (bytes : List ℕ) (j : Judgement) : Type 0 where
+  pub valid : j.outcome ≡ outcomes.Valid → IsAccepted d p most bytes j.bytes.items
+  pub refused : j.outcome ≢ outcomes.Valid → IsRefusedIn d p most bytes j.outcome j.bytes.items
   pub plain : IsPlain j.outcome
-  pub judged : JudgesWhole d p most text goes_on j.judged
+  pub judged : JudgesText d p most bytes j.judged

@@ -11,8 +11,10 @@ pub mod Halts
 pub mod Outcomes
 pub mod Refused
 pub mod Stopped
-pub mod Judged
 pub mod Validates
 pub mod Verdicts
+pub mod Judged
+pub mod Feeding
+pub mod Streaming
 pub mod Tame
 pub mod Laws

@@ -1,5 +1,5 @@
 -- What the lines of a plan text do to a run.
-use Rattle.std.specs.Prelude.{◌≡◌, ℕ, suc, ◌+◌, ◌≤◌, Bool, true, false, List, [], ◌∷◌, ◌++◌, length, map, All, Some, None, Ok}
+use Rattle.std.specs.Prelude.{◌≡◌, ℕ, suc, ◌≤◌, true, false, List, [], ◌∷◌, ◌++◌, map, All, Some, None, Ok}
 use Rattle.plus_fraction.specs.Fraction.{◌≤ℚ◌}
 use Rattle.plus_model.specs.Terms.{Problem}
 use Rattle.plus_model.specs.Plan.{Plan, ActLine}
@@ -74,15 +74,6 @@ pub record PlaysLine (d : Pair) (N : Labels) (P : Problem) (line : Line) (old ne
       (ls : List Line) (h : List Part) → ReadiedFor d N P ls h old
       → (h' : List Part) × ReadiedFor d N P (ls ++ line ∷ []) h' new
 
--- the lines of a text are played, and the next would have this number
-pub record ReadsAll (d : Pair) (N : Labels) (P : Problem) (text : List ℕ) (old new : Run) (number : ℕ) : Type 0 where
-  pub rests : IsResting P old.timeline.line.most new
-  pub lines : List Line
-  pub number_is : number ≡ length lines + 1
-  pub read : plan_lines Timed text ≡ map Ok lines
-  pub times : All HasValue lines
-  pub ready : (h : List Part) → ReadiedFor d N P [] h old → (h' : List Part) × ReadiedFor d N P lines h' new
-
 -- the plan whose text was read to its end
 abbrev pub closed : Plan → Plan
 closed L = record { lines = L.lines; closed = true }
@@ -115,8 +106,3 @@ pub record PlaysAll (d : Pair) (N : Labels) (P : Problem) (text : List ℕ) (old
   pub ends :
       (h : List Part) → ReadiedFor d N P [] h old
       → (h' : List Part) × Ends N P (plan_of d lines true) old.timeline.line.most (instances_of d lines) h' (account_in new)
-
--- the same of a text that is not cut off
-pub record PlaysWhole (d : Pair) (N : Labels) (P : Problem) (text : List ℕ) (goes_on : Bool) (old new : Run) : Type 0 where
-  pub whole : goes_on ≡ false
-  pub plays : PlaysAll d N P text old new

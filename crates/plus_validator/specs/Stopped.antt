@@ -25,7 +25,7 @@ use Rattle.plus_validator.specs.Account.{Account, account_of, account_in}
 use Rattle.plus_validator.specs.Standing.{IsReached}
 use Rattle.plus_validator.specs.Running.{IsOnWay}
 use Rattle.plus_validator.specs.Playing.{Readied, ReadiedFor, closed}
-use Rattle.plus_validator.specs.Refused.{Stands, NamesLine, NamesNoLine, IsWaiting, number_in, TimeFault, Refusal, WholeLines}
+use Rattle.plus_validator.specs.Refused.{Stands, NamesLine, NamesNoLine, IsWaiting, number_in, TimeFault, Refusal}
 
 -- the report is that of a history of the plan, before which all that is asked passes
 pub record IsReported (N : Labels) (P : Problem) (L : Plan) (most : ℕ) (instance : ℕ → List Test) (h : List Part) (account : Account) : Type 0 where
@@ -129,22 +129,3 @@ pub record IsStoppedInText (d : Pair) (N : Labels) (P : Problem) (most : ℕ) (g
 abbrev pub StopsInText : Pair → Labels → Problem → ℕ → Bool → List ℕ → List ℕ → Account → Halt → Type 0
 StopsInText d N P most goes_on whole piece account (Refused v) = IsStoppedInText d N P most goes_on whole piece account v
 StopsInText d N P most goes_on whole piece account Memory = Unit {0}
-
--- the run halts in these lines, whatever stands behind them
-pub record HaltsInLines (d : Pair) (N : Labels) (P : Problem) (whole : List ℕ) (old new : Run) (halt : Halt) : Type 0 where
-  pub stops :
-      (goes_on : Bool) (piece : List ℕ) (h : List Part) → ReadiedFor d N P [] h old
-      → StopsInText d N P old.timeline.line.most goes_on whole piece (account_in new) halt
-
--- the run halts in a text that goes on so
-pub record HaltsInText (d : Pair) (N : Labels) (P : Problem) (goes_on : Bool) (whole piece : List ℕ) (old new : Run) (halt : Halt) : Type 0 where
-  pub stops :
-      (h : List Part) → ReadiedFor d N P [] h old
-      → StopsInText d N P old.timeline.line.most goes_on whole piece (account_in new) halt
-
--- the run halts in a plan text
-pub record HaltsInPlan (d : Pair) (N : Labels) (P : Problem) (text : List ℕ) (goes_on : Bool) (old new : Run) (halt : Halt) : Type 0 where
-  pub whole : List ℕ
-  pub piece : List ℕ
-  pub cut : WholeLines goes_on text whole piece
-  pub halts : HaltsInText d N P goes_on whole piece old new halt

@@ -87,16 +87,6 @@ abbrev pub IsRead : List ℕ → List ℕ → Bool → Type 0
 IsRead bytes text false = (text ≡ bytes) × (length bytes ≤ text_limit)
 IsRead bytes text true = (text ≡ take text_limit bytes) × (text_limit < length bytes)
 
--- a text is not read because of a fault of the shelf, or for want of memory
-abbrev pub ReadsNot : ℕ → ℕ → Outcome → Type 0
-ReadsNot before now ReadFault = Rose before now
-ReadsNot before now NoMemory = Unit {0}
-ReadsNot before now Valid = ⊥
-ReadsNot before now Invalid = ⊥
-ReadsNot before now Beyond = ⊥
-ReadsNot before now BadText = ⊥
-ReadsNot before now WriteFault = ⊥
-
 -- ---- the plan is accepted or refused
 
 -- the outcome is a refusal

@@ -1,7 +1,8 @@
 //! Why a run halts before the end of its plan.
 ghost use Rattle.std.specs.Prelude.{◌≡◌, ◌≢◌};
 ghost use Rattle.plus_validator.specs.declared.halt.Halt.TheVariants as halts;
-ghost use Rattle.plus_validator.specs.Halts.{stop_halt, line_halt};
+ghost use Rattle.plus_model.specs.Terms.{Problem};
+ghost use Rattle.plus_validator.specs.Halts.{stop_halt, line_halt, HaltFits};
 
 use plus_io::Failed;
 use plus_number::frac::Frac64;
@@ -48,20 +49,20 @@ pub fn halted(stop: Stop<Frac64>) -> Halt
     }
 }
 
-impl From<PlanFault> for Halt {
-    ghost from_gives = { λ fault halt. halt ≡ line_halt fault };
-
-    fn from(fault: PlanFault) -> Halt {
-        match fault {
-            PlanFault::NotLine { line, start, end } => Halt::Refused(Verdict::Other(Early::BadLine {
-                line,
-                start,
-                end,
-            })),
-            PlanFault::LineTooLong { line } => Halt::Refused(Verdict::Other(Early::LineTooLong {
-                line,
-            })),
-            PlanFault::Memory => Halt::Memory,
-        }
+/// Why a run halts at a line that is none.
+pub fn fault_halt(fault: PlanFault) -> Halt
+    ensures says { result ≡ line_halt fault }
+    ensures fits { (P : Problem) → HaltFits P result }
+{
+    match fault {
+        PlanFault::NotLine { line, start, end } => Halt::Refused(Verdict::Other(Early::BadLine {
+            line,
+            start,
+            end,
+        })),
+        PlanFault::LineTooLong { line } => Halt::Refused(Verdict::Other(Early::LineTooLong {
+            line,
+        })),
+        PlanFault::Memory => Halt::Memory,
     }
 }

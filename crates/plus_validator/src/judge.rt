@@ -1,22 +1,27 @@
 //! The verdict on a plan text that stands in memory.
-ghost use Rattle.std.specs.Prelude.{◌≡◌, ◌≤◌, length, IfOk};
+ghost use Rattle.std.specs.Prelude.{◌≡◌, ◌≤◌, IfOk};
+ghost use Rattle.plus_expansion.specs.Counting.{IsGroundable};
 ghost use Rattle.plus_ground.specs.Refusals.{RefusesGround};
 ghost use Rattle.plus_number.specs.Frac.{IsFrac64};
 ghost use Rattle.plus_tree.specs.declared.trees.Domain.{Domain};
 ghost use Rattle.plus_tree.specs.declared.trees.Problem.{Problem};
-ghost use Rattle.plus_validator.specs.Limits.{text_limit, most_happenings};
+ghost use Rattle.plus_validator.specs.Limits.{most_happenings};
 ghost use Rattle.plus_validator.specs.Outcomes.{outcome_of};
-ghost use Rattle.plus_validator.specs.Validates.{IsRead};
+ghost use Rattle.plus_validator.specs.Playing.{IsGroundOf};
+ghost use Rattle.plus_validator.specs.Judged.{IsJudged};
 ghost use Rattle.plus_validator.specs.Verdicts.{RefusesPairWith, JudgesText};
 
-use crate::judgement::judge_plan;
-use crate::limits::TEXT_LIMIT;
+use crate::feed::Feed;
+use crate::halt::Halt;
+use crate::judgement::{Judgement, sum_up};
 use crate::memory::Report;
+use crate::stream::play_bytes;
 use crate::ungrounded::{early_of, ground_fault};
 use plus_ground::{GroundFault, ground};
 use plus_number::frac::Frac64;
 use plus_numbering::Numbering;
 use plus_report::{Early, Verdict, write_early};
+use plus_state::problem::Ground;
 use plus_types::Typed;
 use std::alloc::{AllocError, Global};
 
@@ -94,16 +99,22 @@ fn judge_pair(alloc: Global, fault: GroundFault) -> Result<Judged, AllocError>
     }
 }
 
-// The bytes of a plan text that are read: those within the limit, and whether it goes on behind them.
-fn within_limit(bytes: &[u8]) -> (&[u8], bool)
-    ensures read { IsRead bytes.now (result.0.now) result.1 }
-    ensures few { length (result.0.now) ≤ text_limit }
+// Judges the plan text of a ground pair.
+fn judge_ground(
+    alloc: Global,
+    numbering: &Numbering,
+    ground: &Ground<Frac64>,
+    bytes: &[u8],
+    happenings: u64,
+) -> Result<Judgement, Halt>
+    requires expands { IsGroundOf numbering.now.typed.now.domain numbering.now.typed.now.problem ground.now }
+    requires groundable { IsGroundable IsFrac64 numbering.now.typed.now.domain numbering.now.typed.now.problem }
+    requires some { 1 ≤ happenings }
+    ensures judged { IfOk result (IsJudged numbering.now.typed.now.domain numbering.now.typed.now.problem happenings bytes.now) }
 {
-    if bytes.len() <= TEXT_LIMIT {
-        (bytes, false)
-    } else {
-        (&bytes[..TEXT_LIMIT], true)
-    }
+    let mut feed = Feed::begin(alloc, &*numbering, ground, happenings)?;
+    let played = play_bytes(&mut feed, alloc, ground, bytes, happenings);
+    sum_up(alloc, ground, feed.run, played)
 }
 
 // Judges the plan text of a pair whose ground atoms and fluents are numbered.
@@ -120,8 +131,7 @@ fn judge_numbered(
         Ok(ground) => ground,
         Err(fault) => return judge_pair(alloc, fault),
     };
-    let (text, goes_on) = within_limit(bytes);
-    match judge_plan(alloc, numbering, &ground, text, goes_on, happenings) {
+    match judge_ground(alloc, numbering, &ground, bytes, happenings) {
         Ok(judgement) => Ok(judgement.judged),
         Err(_) => Err(AllocError),
     }

@@ -2,6 +2,7 @@
 #![tactic(auto)]
 
 mod checking;
+mod feed;
 mod halt;
 pub mod judge;
 mod judgement;
@@ -10,6 +11,7 @@ pub mod limits;
 mod memory;
 mod play;
 mod run;
+mod stream;
 mod ungrounded;
 
 pub use checking::validate;

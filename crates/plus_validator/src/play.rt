@@ -1,18 +1,17 @@
-//! Plays a plan text, line by line.
-ghost use Rattle.std.specs.Prelude.{◌≡◌, ◌≤◌, ◌<◌, None, length, OnOk, IfOk, IfErr};
+//! Plays the lines of a plan.
+ghost use Rattle.std.specs.Prelude.{◌≡◌, ◌<◌, None, OnOk, IfOk, IfErr};
 ghost use Rattle.plus_number.specs.Frac.{fraction_of};
 ghost use Rattle.plus_model.specs.Terms.{Problem};
 ghost use Rattle.plus_model.specs.Trajectory.{is_below};
 ghost use Rattle.plus_plan.specs.Answers.{HasBottom};
 ghost use Rattle.plus_state.specs.View.{problem_of, labels_of};
 ghost use Rattle.plus_timeline.specs.Finish.{IsPaused};
-ghost use Rattle.plus_validator.specs.Limits.{text_limit};
 ghost use Rattle.plus_validator.specs.Plans.{pair_in};
 ghost use Rattle.plus_instances.specs.Made.{AreMade, StayMade};
 ghost use Rattle.plus_validator.specs.Halts.{CallHalts, HaltFits};
 ghost use Rattle.plus_validator.specs.Standing.{CanGoOn};
-ghost use Rattle.plus_validator.specs.Stopped.{HaltsAtMoment, HaltsInAct, HaltsInLine, HaltsInLines, HaltsAtEnd};
-ghost use Rattle.plus_validator.specs.Playing.{IsGroundOf, IsInTime, ActsOnce, PlaysLine, Closes, ReadsAll};
+ghost use Rattle.plus_validator.specs.Stopped.{HaltsAtMoment, HaltsInAct, HaltsInLine, HaltsAtEnd};
+ghost use Rattle.plus_validator.specs.Playing.{IsGroundOf, IsInTime, ActsOnce, PlaysLine, Closes};
 
 use crate::halt::{Halt, halted};
 use crate::run::Run;
@@ -21,8 +20,7 @@ use plus_instances::Instances;
 use plus_limits::MOST_NODES;
 use plus_number::exact::Exact;
 use plus_number::frac::Frac64;
-use plus_numbering::Numbering;
-use plus_plan::{Line, PlanForm, Time, line_at, time_value};
+use plus_plan::{Line, Time, time_value};
 use plus_report::{Early, Kinds, Text, Verdict, write_act_changes};
 use plus_state::Label;
 use plus_state::outcome::Breach;
@@ -201,40 +199,5 @@ impl Run {
             Ok(()) => Ok(()),
             Err(stop) => Err(halted(stop)),
         }
-    }
-
-    /// Plays the lines of a text, and answers which number the next line would have.
-    pub fn text(
-        &mut self,
-        alloc: Global,
-        numbering: &Numbering,
-        ground: &Ground<Frac64>,
-        text: &[u8],
-    ) -> Result<u32, Halt>
-        requires expands { IsGroundOf numbering.now.typed.now.domain numbering.now.typed.now.problem ground.now }
-        requires can { CanGoOn (problem_of fraction_of ground.now) self.old.timeline }
-        requires moment { self.old.timeline.line.now.running ≡ None }
-        requires few { length text.now ≤ text_limit }
-        ensures reads { IfOk result (ReadsAll (pair_in numbering.now.typed.now) (labels_of ground.now)
-            (problem_of fraction_of ground.now) text.now self.old self.new) }
-        ensures stops { IfErr result (HaltsInLines (pair_in numbering.now.typed.now) (labels_of ground.now)
-            (problem_of fraction_of ground.now) text.now self.old self.new) }
-        ensures fits { IfErr result (HaltFits (problem_of fraction_of ground.now)) }
-    {
-        let mut instances = Instances::new(alloc, numbering);
-        let mut from = 0;
-        let mut number = 1u32;
-        'lines: while let Some((read, next)) = line_at(
-            alloc,
-            text,
-            from,
-            number,
-            PlanForm::Timed,
-        )? {
-            self.line(alloc, &mut instances, ground, &read)?;
-            from = next;
-            number += 1;
-        }
-        Ok(number)
     }
 }

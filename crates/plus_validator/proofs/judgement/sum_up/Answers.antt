@@ -1,44 +1,39 @@
-use Rattle.std.proofs.Common.{◌≡◌, ℕ, List, ◌++◌, ◌∙◌, refl, ap}
+use Rattle.std.proofs.Common.{◌≡◌, List, ℕ, ◌++◌, ◌∙◌, refl, ap}
 use Rattle.std.proofs.lemmas.Result.{err_from_is_err_and}
 use Rattle.plus_number.specs.Frac.{fraction_of}
 use Rattle.plus_state.specs.View.{problem_of, labels_of}
 use Rattle.plus_report.specs.Verdicts.{verdict_text}
-use Rattle.plus_validator.specs.declared.judgement.Judgement.{Judgement}
 use Rattle.plus_validator.proofs.Shown.{took_all}
-use Rattle.plus_validator.proofs.Judging.{verdict_fits, judged}
+use Rattle.plus_validator.proofs.Judging.{verdict_fits}
 use Rattle.plus_validator.specs.declared.halt.Halt.{Halt}
 use Rattle.plus_validator.specs.declared.halt.Halt.TheVariants.{Memory}
 use Rattle.plus_validator.proofs.Halting.{from_err}
-use Rattle.plus_validator.proofs.judgement.judge_plan.Goals as goal
+use Rattle.plus_validator.proofs.judgement.sum_up.Goals as goal
 
 pub returns-in_err-verdict-clause-memory : goal.returns-in_err-verdict-clause-memory
 returns-in_err-verdict-clause-memory c =
-    from_err c.from_residual-in_err-verdict.result (λ (h : Halt). h ≡ c.in_err-verdict.field-0.0) (λ (h : Halt). h ≡ Memory) c.from_residual-in_err-verdict.ensures.1 (λ h e. e ∙ c.in_err-verdict.ensures.memory)
+    from_err c.from_residual.result (λ (h : Halt). h ≡ c.in_err-verdict.field-0.0) (λ (h : Halt). h ≡ Memory) c.from_residual.ensures.1 (λ h e. e ∙ c.in_err-verdict.ensures.memory)
 
 pub write_verdict-requires : goal.write_verdict-requires
 write_verdict-requires c =
-    verdict_fits (problem_of fraction_of c.args.ground.now) c.play_text.result c.in_ok-verdict.verdict c.play_text.ensures.fits c.in_ok-verdict.ensures.gives
+    verdict_fits (problem_of fraction_of c.args.ground.now) c.args.played c.in_ok-verdict.verdict c.requires.fits c.in_ok-verdict.ensures.gives
 
-pub returns-clause-judged : goal.returns-clause-judged
-returns-clause-judged c =
+pub returns-clause-sums : goal.returns-clause-sums
+returns-clause-sums c =
     let N = labels_of c.args.ground.now in
     let P = problem_of fraction_of c.args.ground.now in
     let v = c.in_ok-verdict.verdict in
-    let run = c.play_text.new.run in
-    let j : Judgement = record {
-      bytes = c.extend_from_slice.new.self;
-      outcome = c.outcome_of-outcome.result;
-      judged = record { verdict = v; line = c.write_verdict.new.out.bytes; entries = run.entries; firings = run.firings };
-    } in
     let line : c.write_verdict.new.out.bytes.items ≡ verdict_text fraction_of N P v =
     took_all c.new-line.result.bytes.items c.write_verdict.new.out.bytes.items (verdict_text fraction_of N P v) c.in_ok-write_verdict.ensures.outcome
     ∙ ap (λ (t : List ℕ). t ++ verdict_text fraction_of N P v) c.new-line.ensures in
-    judged c.args.numbering.now.typed.now.domain c.args.numbering.now.typed.now.problem N P c.args.happenings c.args.text.now c.args.goes_on
-    c.in_ok-run.run' run c.requires.groundable j c.play_text.result c.requires.few c.requires.expands.expands
-    c.requires.expands.labels c.in_ok-run.ensures.begins c.play_text.ensures.plays c.play_text.ensures.stops c.play_text.ensures.fits c.in_ok-verdict.ensures.gives
-    c.outcome_of-outcome.ensures
-    (c.in_ok-extend_from_slice.ensures.items ∙ ap (λ (t : List ℕ). run.report.bytes.items ++ t) (c.deref.ensures.value ∙ line))
-    line refl refl
+    record {
+      gives = c.in_ok-verdict.ensures.gives;
+      outcome = c.outcome_of-outcome.ensures;
+      bytes = c.in_ok-extend_from_slice.ensures.items ∙ ap (λ (t : List ℕ). c.args.run.report.bytes.items ++ t) (c.deref.ensures.value ∙ line);
+      line = line;
+      entries = refl;
+      firings = refl;
+    }
 
 pub returns-in_err-write_verdict-clause-memory : goal.returns-in_err-write_verdict-clause-memory
 returns-in_err-write_verdict-clause-memory c =

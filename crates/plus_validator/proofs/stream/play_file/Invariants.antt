@@ -1,0 +1,24 @@
+use Rattle.std.proofs.Common.{◌≡◌, ◌≤◌, ◌-◌, length}
+use Rattle.plus_io.specs.Files.{KeepsFiles}
+use Rattle.plus_io.specs.Picks.{with_pick}
+use Rattle.plus_number.specs.Frac.{fraction_of}
+use Rattle.plus_state.specs.View.{problem_of, labels_of}
+use Rattle.plus_validator.specs.Limits.{text_limit}
+use Rattle.plus_validator.specs.Plans.{pair_in}
+use Rattle.plus_validator.specs.Feeding.{IsOpen}
+use Rattle.plus_validator.specs.Streaming.{HasCome}
+use Rattle.plus_validator.proofs.stream.play_file.Given as goal
+
+abbrev pub invariant-pieces : goal.invariant-pieces
+invariant-pieces g l = record {
+  keeps : KeepsFiles g.S.Shelf.names g.S.Shelf.bytes g.S.Shelf.faults l.fn.shelf l.shelf;
+  told : g.S.Shelf.picks l.shelf ≡ with_pick l.plan l.total (g.S.Shelf.picks l.fn.shelf);
+  come : HasCome (pair_in l.fn.feed.instances.numbering.now.typed.now) (labels_of l.ground) (problem_of fraction_of l.ground)
+      (g.S.Shelf.bytes l.fn.shelf l.plan) (g.S.Shelf.rest l.shelf) l.total l.fn.feed.run l.feed;
+  within : l.total ≤ text_limit;
+  size : length l.buffer ≡ 4096;
+  waits : IsOpen (problem_of fraction_of l.ground) l.fn.feed.run.timeline.line.most l.fn.feed.instances.numbering.now l.feed;
+}
+
+abbrev pub decreases-pieces : goal.decreases-pieces
+decreases-pieces g l = text_limit - l.total

@@ -1,0 +1,120 @@
+-- A plan that is played as its text comes, in pieces.
+use Rattle.std.specs.Prelude.{◌≡◌, ℕ, ◌≤◌, Bool, true, false, List, [], ◌++◌, length, All, None, Result, Ok, Err}
+use Rattle.plus_model.specs.Terms.{Problem}
+use Rattle.plus_model.specs.History.{Part}
+use Rattle.plus_number.specs.declared.frac.Frac64.{Frac64}
+use Rattle.plus_numbering.specs.declared.numbering.Numbering.{Numbering}
+use Rattle.plus_state.specs.View.{Labels}
+use Rattle.plus_plan.specs.declared.forms.Line.{Line}
+use Rattle.plus_plan.specs.declared.forms.PlanForm.TheVariants.{Timed}
+use Rattle.plus_plan.specs.Given.{HasGiven}
+use Rattle.plus_plan.specs.Pieces.{fresh, IsIdle}
+use Rattle.plus_instances.specs.Made.{AreMade}
+use Rattle.plus_report.specs.declared.verdicts.Verdict.{Verdict}
+use Rattle.plus_validator.specs.declared.feed.Feed.{Feed}
+use Rattle.plus_validator.specs.declared.halt.Halt.{Halt}
+use Rattle.plus_validator.specs.declared.halt.Halt.TheVariants.{Refused, Memory}
+use Rattle.plus_validator.specs.declared.run.Run.{Run}
+use Rattle.plus_validator.specs.Account.{Account, account_in}
+use Rattle.plus_validator.specs.Limits.{text_limit}
+use Rattle.plus_validator.specs.Plans.{Pair, HasValue}
+use Rattle.plus_validator.specs.Playing.{ReadiedFor, IsResting, Begins, PlaysAll}
+use Rattle.plus_validator.specs.Refused.{WholeLines}
+use Rattle.plus_validator.specs.Stopped.{IsStoppedInText}
+use Rattle.plus_validator.specs.Validates.{IsRead}
+
+-- ---- what has come
+
+-- these lines are played, since the run was so
+pub record HasPlayed (d : Pair) (N : Labels) (P : Problem) (lines : List Line) (first now : Run) : Type 0 where
+  pub rests : IsResting P first.timeline.line.most now
+  pub times : All HasValue lines
+  pub ready : (h : List Part) → ReadiedFor d N P [] h first → (h' : List Part) × ReadiedFor d N P lines h' now
+
+-- of what has come of this text these lines are played, and no line of it is refused
+pub record IsFed (d : Pair) (N : Labels) (P : Problem) (text : List ℕ) (first : Run) (feed : Feed) : Type 0 where
+  pub lines : List Line
+  pub given : HasGiven Timed text lines feed.reader
+  pub no_fault : feed.reader.fault ≡ None
+  pub played : HasPlayed d N P lines first feed.run
+
+-- nothing has come
+pub record IsFresh (N : Labels) (P : Problem) (most : ℕ) (numbering : Numbering) (feed : Feed) : Type 0 where
+  pub reader : feed.reader ≡ fresh Timed
+  pub begins : Begins N P most feed.run
+  pub made : AreMade feed.instances
+  pub same : feed.instances.numbering.now ≡ numbering
+
+-- more may come
+pub record IsOpen (P : Problem) (most : ℕ) (numbering : Numbering) (feed : Feed) : Type 0 where
+  pub idle : IsIdle feed.reader
+  pub going : feed.reader.closed ≡ false
+  pub rests : IsResting P most feed.run
+  pub made : AreMade feed.instances
+  pub same : feed.instances.numbering.now ≡ numbering
+
+-- ---- what becomes of it
+
+-- the text is read of these bytes, within the limit; where it has ended, they are all
+pub record IsReadOf (bytes text : List ℕ) (ended : Bool) : Type 0 where
+  pub behind : List ℕ
+  pub is : bytes ≡ text ++ behind
+  pub within : length text ≤ text_limit
+  pub all : ended ≡ true → behind ≡ []
+
+-- the plan text that stands in these bytes is refused, and the report is that of the history before
+pub record IsStoppedOn (d : Pair) (N : Labels) (P : Problem) (most : ℕ) (bytes : List ℕ) (account : Account) (v : Verdict Frac64) : Type 0 where
+  pub text : List ℕ
+  pub goes_on : Bool
+  pub read : IsRead bytes text goes_on
+  pub whole : List ℕ
+  pub piece : List ℕ
+  pub cut : WholeLines goes_on text whole piece
+  pub stopped : IsStoppedInText d N P most goes_on whole piece account v
+
+abbrev pub StopsOn : Pair → Labels → Problem → ℕ → List ℕ → Account → Halt → Type 0
+StopsOn d N P most bytes account (Refused v) = IsStoppedOn d N P most bytes account v
+StopsOn d N P most bytes account Memory = Unit {0}
+
+-- the run halts in the plan text that stands in these bytes
+pub record HaltsWith (d : Pair) (N : Labels) (P : Problem) (bytes : List ℕ) (first new : Run) (halt : Halt) : Type 0 where
+  pub stops : (h : List Part) → ReadiedFor d N P [] h first → StopsOn d N P first.timeline.line.most bytes (account_in new) halt
+
+-- it halts in this text, whatever stands behind it
+pub record HaltsOn (d : Pair) (N : Labels) (P : Problem) (text : List ℕ) (ended : Bool) (first new : Run) (halt : Halt) : Type 0 where
+  pub halts : (bytes : List ℕ) → IsReadOf bytes text ended → HaltsWith d N P bytes first new halt
+
+-- this piece of a text is played, where the text with it is within the limit
+pub record Feeds (d : Pair) (N : Labels) (P : Problem) (piece : List ℕ) (old new : Feed) : Type 0 where
+  pub fed :
+      (text : List ℕ) (first : Run) → IsFed d N P text first old → length (text ++ piece) ≤ text_limit
+      → IsFed d N P (text ++ piece) first new
+
+-- the run halts in this piece
+pub record HaltsFeeding (d : Pair) (N : Labels) (P : Problem) (piece : List ℕ) (old : Feed) (new : Run) (halt : Halt) : Type 0 where
+  pub halts :
+      (text : List ℕ) (first : Run) → IsFed d N P text first old → length (text ++ piece) ≤ text_limit
+      → HaltsOn d N P (text ++ piece) old.reader.closed first new halt
+
+-- ---- the end of the text
+
+-- the plan text is within the limit, it is played to its end, and the goal holds there
+pub record PlaysText (d : Pair) (N : Labels) (P : Problem) (bytes : List ℕ) (first new : Run) : Type 0 where
+  pub within : length bytes ≤ text_limit
+  pub plays : PlaysAll d N P bytes first new
+
+pub record EndsFeeding (d : Pair) (N : Labels) (P : Problem) (old : Feed) (new : Run) : Type 0 where
+  pub ends :
+      (text : List ℕ) (first : Run) → IsFed d N P text first old → length text ≤ text_limit
+      → PlaysText d N P text first new
+
+-- or the run halts
+pub record HaltsEnding (d : Pair) (N : Labels) (P : Problem) (old : Feed) (new : Run) (halt : Halt) : Type 0 where
+  pub halts :
+      (text : List ℕ) (first : Run) → IsFed d N P text first old → length text ≤ text_limit
+      → HaltsWith d N P text first new halt
+
+-- the plan text that stands in these bytes is played, or the run halts in it
+abbrev pub IsPlayedOut : Pair → Labels → Problem → List ℕ → Run → Run → Result (Unit {0}) Halt → Type 0
+IsPlayedOut d N P bytes first new (Ok u) = PlaysText d N P bytes first new
+IsPlayedOut d N P bytes first new (Err halt) = HaltsWith d N P bytes first new halt

@@ -1,0 +1,114 @@
+//! Plays the plan text under a name of a shelf, and the plan text that stands in memory.
+ghost use Rattle.std.specs.Prelude.{◌≡◌, ◌≤◌, ◌+◌, length, take, OnErr, IfOk, IfErr, IfSome};
+ghost use Rattle.std.specs.Io.KnownBytes.{IsAtEnd};
+ghost use Rattle.plus_io.specs.Faults.{Rose};
+ghost use Rattle.plus_io.specs.Files.{KeepsFiles, Takes};
+ghost use Rattle.plus_io.specs.Picks.{ReadsOnce, with_read};
+ghost use Rattle.plus_model.specs.Terms.{Problem};
+ghost use Rattle.plus_number.specs.Frac.{fraction_of};
+ghost use Rattle.plus_state.specs.View.{problem_of, labels_of};
+ghost use Rattle.plus_validator.specs.Limits.{text_limit};
+ghost use Rattle.plus_validator.specs.Plans.{pair_in};
+ghost use Rattle.plus_validator.specs.Halts.{HaltFits};
+ghost use Rattle.plus_validator.specs.Playing.{IsGroundOf};
+ghost use Rattle.plus_validator.specs.Feeding.{IsFresh, IsPlayedOut};
+
+use crate::feed::Feed;
+use crate::halt::Halt;
+use crate::limits::TEXT_LIMIT;
+use plus_io::{Failed, Shelf};
+use plus_number::frac::Frac64;
+use plus_report::{Early, Text, Verdict};
+use plus_state::problem::Ground;
+use std::alloc::Global;
+
+/// How many bytes are asked of a shelf at once.
+const PIECE: usize = 4096;
+
+// A plan text that goes on behind its limit.
+fn too_long() -> Halt
+    ensures says { result ≡ Halt.Refused (Verdict.Other (Early.TooLong Text.Plan)) }
+    ensures fits { (P : Problem) → HaltFits P result }
+{
+    Halt::Refused(Verdict::Other(Early::TooLong { text: Text::Plan }))
+}
+
+// Reads a piece of a plan of which so many bytes have come: at most one byte past the limit.
+fn read_piece<S: Shelf>(shelf: &mut S, buffer: &mut [u8], total: usize) -> Result<usize, Failed>
+    requires within { total ≤ text_limit }
+    requires size { length buffer.old ≡ PIECE }
+    ensures fits { IfOk result (λ count. count ≤ length buffer.new) }
+    ensures most { IfOk result (λ count. total + count ≤ text_limit + 1) }
+    ensures piece { IfOk result (λ count. Takes (S.rest shelf.old) (S.rest shelf.new) (take count buffer.new)) }
+    ensures at_end { IfOk result (λ count. count ≡ 0 → IsAtEnd (S.rest shelf.old)) }
+    ensures cause { OnErr result (Rose (S.faults shelf.old) (S.faults shelf.new)) }
+    ensures stays { OnErr result (S.rest shelf.new ≡ S.rest shelf.old) }
+    ensures told { IfOk result (λ count. S.picks shelf.new ≡ with_read count (S.picks shelf.old)) }
+    ensures untold { OnErr result (S.picks shelf.new ≡ S.picks shelf.old) }
+    ensures keeps { KeepsFiles S.names S.bytes S.faults shelf.old shelf.new }
+{
+    let most = (TEXT_LIMIT - total).min(PIECE - 1) + 1;
+    shelf.read(&mut buffer[..most])
+}
+
+/// Reads the plan text under a name, and plays it as it comes. The only error is a fault of the shelf.
+pub fn play_file<S: Shelf>(
+    feed: &mut Feed<'_>,
+    alloc: Global,
+    ground: &Ground<Frac64>,
+    shelf: &mut S,
+    plan: &str,
+    happenings: u64,
+) -> Result<Result<(), Halt>, Failed>
+    requires expands { IsGroundOf feed.old.instances.numbering.now.typed.now.domain feed.old.instances.numbering.now.typed.now.problem ground.now }
+    requires fresh { IsFresh (labels_of ground.now) (problem_of fraction_of ground.now) happenings feed.old.instances.numbering.now feed.old }
+    ensures played { IfOk result (λ played. IfSome (S.bytes shelf.old plan.now) (λ text.
+        IsPlayedOut (pair_in feed.old.instances.numbering.now.typed.now) (labels_of ground.now) (problem_of fraction_of ground.now)
+        text feed.old.run feed.new.run played)) }
+    ensures fits { IfOk result (λ played. IfErr played (HaltFits (problem_of fraction_of ground.now))) }
+    ensures cause { OnErr result (Rose (S.faults shelf.old) (S.faults shelf.new)) }
+    ensures reads { ReadsOnce S.bytes S.picked S.rest S.picks (text_limit + 1) plan.now shelf.old shelf.new }
+    ensures keeps { KeepsFiles S.names S.bytes S.faults shelf.old shelf.new }
+{
+    shelf.pick(plan)?;
+    let mut buffer = [0u8; PIECE];
+    let mut total = 0;
+    'pieces: loop {
+        let count = read_piece(shelf, &mut buffer, total)?;
+        if count == 0 {
+            return Ok(feed.end(alloc, ground));
+        }
+        let within = count.min(TEXT_LIMIT - total);
+        if let Err(halt) = feed.take(alloc, ground, &buffer[..within]) {
+            return Ok(Err(halt));
+        }
+        if within < count {
+            return Ok(Err(too_long()));
+        }
+        total += count;
+    }
+}
+
+/// Plays the plan text that stands in these bytes.
+pub fn play_bytes(
+    feed: &mut Feed<'_>,
+    alloc: Global,
+    ground: &Ground<Frac64>,
+    bytes: &[u8],
+    happenings: u64,
+) -> Result<(), Halt>
+    requires expands { IsGroundOf feed.old.instances.numbering.now.typed.now.domain feed.old.instances.numbering.now.typed.now.problem ground.now }
+    requires fresh { IsFresh (labels_of ground.now) (problem_of fraction_of ground.now) happenings feed.old.instances.numbering.now feed.old }
+    ensures played { IsPlayedOut (pair_in feed.old.instances.numbering.now.typed.now) (labels_of ground.now) (problem_of fraction_of ground.now)
+        bytes.now feed.old.run feed.new.run result }
+    ensures fits { IfErr result (HaltFits (problem_of fraction_of ground.now)) }
+{
+    let within = bytes.len().min(TEXT_LIMIT);
+    if let Err(halt) = feed.take(alloc, ground, &bytes[..within]) {
+        return Err(halt);
+    }
+    if within < bytes.len() {
+        return Err(too_long());
+    }
+    feed.end(alloc, ground)
+}
