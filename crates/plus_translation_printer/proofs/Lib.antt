@@ -1,0 +1,3 @@
+pub mod SplicedLemmas
+pub mod FrameLemmas
+pub mod HalfLemmas
