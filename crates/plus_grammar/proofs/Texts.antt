@@ -14,6 +14,7 @@ use Rattle.plus_reading.proofs.Stream.{stands, at_token, at_none, at_fault}
 use Rattle.plus_parser.specs.SpellsDomain.{SpellsWithin}
 use Rattle.plus_parser.specs.SpellsProblem.{SpellsProblemWithin}
 use Rattle.plus_grammar.specs.Texts.{AreTokens, IsDomainText, IsProblemText}
+use Rattle.plus_grammar.proofs.Depth.{depth_by_counts}
 use Rattle.plus_grammar.proofs.Wholes.{domains_spelled, problems_spelled}
 
 no_more : (text : List ℕ) (from : ℕ) → from ≤ length text → (r : Result (Option Token) LexFault) → first_token text from ≡ r → items_at text from ≡ [] → IsGapToEnd (drop from text)
@@ -46,12 +47,12 @@ tokens_spelled text ts = (tokens_to text ts 0 (omega arith), tokens_from text ts
 
 pub domain_texts : (depth : ℕ) (text : List ℕ) (d : Domain) → SpellsWithin depth text d ↔ IsDomainText depth text d
 domain_texts depth text d = (
-  λ h. (h.0, (tokens_spelled text h.0).0 h.1, (domains_spelled d h.0).0 h.2, h.3),
-  λ h. (h.0, (tokens_spelled text h.0).1 h.1, (domains_spelled d h.0).1 h.2, h.3),
+  λ h. (h.0, (tokens_spelled text h.0).0 h.1, (domains_spelled d h.0).0 h.2, (depth_by_counts depth h.0).0 h.3),
+  λ h. (h.0, (tokens_spelled text h.0).1 h.1, (domains_spelled d h.0).1 h.2, (depth_by_counts depth h.0).1 h.3),
 )
 
 pub problem_texts : (depth : ℕ) (text : List ℕ) (p : Problem) → SpellsProblemWithin depth text p ↔ IsProblemText depth text p
 problem_texts depth text p = (
-  λ h. (h.0, (tokens_spelled text h.0).0 h.1, (problems_spelled p h.0).0 h.2, h.3),
-  λ h. (h.0, (tokens_spelled text h.0).1 h.1, (problems_spelled p h.0).1 h.2, h.3),
+  λ h. (h.0, (tokens_spelled text h.0).0 h.1, (problems_spelled p h.0).0 h.2, (depth_by_counts depth h.0).0 h.3),
+  λ h. (h.0, (tokens_spelled text h.0).1 h.1, (problems_spelled p h.0).1 h.2, (depth_by_counts depth h.0).1 h.3),
 )

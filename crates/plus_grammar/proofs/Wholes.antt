@@ -1,42 +1,36 @@
 -- The tokens of a schema, of a domain and of a problem by groups and counts are those that a reader is held to.
 use Rattle.std.proofs.Common.{◌≡◌, List, [], ◌∷◌, refl, ap, sym, subst, ◌∙◌}
 use Rattle.std.specs.Prelude.{◌↔◌}
-use Rattle.plus_tree.specs.declared.terms.TypedName.{TypedName}
 use Rattle.plus_tree.specs.declared.trees.Schema.{Schema}
 use Rattle.plus_tree.specs.declared.trees.Domain.{Domain}
 use Rattle.plus_tree.specs.declared.trees.Problem.{Problem}
-use Rattle.plus_reading.specs.declared.words.Allowed.TheVariants.{Names, Variables}
+use Rattle.plus_reading.specs.declared.words.Allowed.TheVariants.{Names}
 use Rattle.plus_reading.specs.Items.{Piece}
 use Rattle.plus_reading.specs.Grammar.{spelled_of}
-use Rattle.plus_reading.specs.Spells.{Wrapped, SpellsVariables}
+use Rattle.plus_reading.specs.Spells.{Wrapped}
 use Rattle.plus_parser.specs.ReadingDomain.{schema_made}
 use Rattle.plus_parser.specs.SpellsDomain.{SpellsHead, Key, k_parameters, k_condition, k_effect, SpellsKey, SpellsSchema, DomainPart, d_requirements, d_types, d_constants, d_predicates, d_functions, d_action, d_process, d_event, SpellsDomainPart, DomainTokens}
 use Rattle.plus_parser.specs.SpellsProblem.{ProblemPart, p_domain, p_requirements, p_objects, p_init, p_goal, p_metric, SpellsProblemPart, ProblemTokens}
-use Rattle.plus_grammar.specs.Groups.{AreVariables, IsHead}
+use Rattle.plus_grammar.specs.Groups.{IsHead}
 use Rattle.plus_grammar.specs.Wholes.{IsKey, IsSchema, IsDomainPart, IsDomain, IsProblemPart, IsProblem}
 use Rattle.plus_grammar.proofs.Chains.{chain_more}
 use Rattle.plus_grammar.proofs.Lists.{lists_by_groups, types_by_groups}
 use Rattle.plus_grammar.proofs.Functions.{head_to, head_from, functions_by_groups}
+use Rattle.plus_grammar.proofs.FormLaws.{variables_to, variables_from, cond_to, cond_from, effect_to, effect_from}
 use Rattle.plus_grammar.proofs.Counts.{keys_by_counts, sections_by_counts}
 use Rattle.plus_grammar.proofs.Problems.{problems_by_counts}
-
-pub variables_to : (vs : List TypedName) (ts : List Piece) → SpellsVariables vs ts → AreVariables vs ts
-variables_to vs ts h = (h.0, h.1, h.2, (lists_by_groups Variables vs h.1).0 h.3)
-
-pub variables_from : (vs : List TypedName) (ts : List Piece) → AreVariables vs ts → SpellsVariables vs ts
-variables_from vs ts h = (h.0, h.1, h.2, (lists_by_groups Variables vs h.1).1 h.3)
 
 -- ---- schemas
 
 key_to : (k : Key) (ts : List Piece) → SpellsKey k ts → IsKey k ts
 key_to (k_parameters vs) ts h = (h.0, h.1, h.2, variables_to vs h.1 h.3, h.4)
-key_to (k_condition c) ts h = h
-key_to (k_effect e) ts h = h
+key_to (k_condition c) ts h = (h.0, h.1, h.2, cond_to c h.1 h.3, h.4)
+key_to (k_effect e) ts h = (h.0, h.1, h.2, effect_to e h.1 h.3, h.4)
 
 key_from : (k : Key) (ts : List Piece) → IsKey k ts → SpellsKey k ts
 key_from (k_parameters vs) ts h = (h.0, h.1, h.2, variables_from vs h.1 h.3, h.4)
-key_from (k_condition c) ts h = h
-key_from (k_effect e) ts h = h
+key_from (k_condition c) ts h = (h.0, h.1, h.2, cond_from c h.1 h.3, h.4)
+key_from (k_effect e) ts h = (h.0, h.1, h.2, effect_from e h.1 h.3, h.4)
 
 schema_to : (s : Schema) (ts : List Piece) → SpellsSchema s ts → IsSchema s ts
 schema_to s ts h =
@@ -124,7 +118,7 @@ section_to (p_domain x) ts h = (h.0, h.1, h.2 ∷ [], h.3, h.4, (h.2, h.5, h.6, 
 section_to (p_requirements xs) ts h = h
 section_to (p_objects xs) ts h = (h.0, h.1, h.2, h.3, h.4, (lists_by_groups Names xs h.2).0 h.5)
 section_to (p_init xs) ts h = h
-section_to (p_goal c) ts h = h
+section_to (p_goal c) ts h = (h.0, h.1, h.2, h.3, h.4, cond_to c h.2 h.5)
 section_to p_metric ts h = h
 
 section_from : (x : ProblemPart) (ts : List Piece) → IsProblemPart x ts → SpellsProblemPart x ts
@@ -134,7 +128,7 @@ section_from (p_domain x) ts h =
 section_from (p_requirements xs) ts h = h
 section_from (p_objects xs) ts h = (h.0, h.1, h.2, h.3, h.4, (lists_by_groups Names xs h.2).1 h.5)
 section_from (p_init xs) ts h = h
-section_from (p_goal c) ts h = h
+section_from (p_goal c) ts h = (h.0, h.1, h.2, h.3, h.4, cond_from c h.2 h.5)
 section_from p_metric ts h = h
 
 problem_to : (p : Problem) (ts : List Piece) → ProblemTokens p ts → IsProblem p ts

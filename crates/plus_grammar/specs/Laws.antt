@@ -5,9 +5,12 @@ use Rattle.plus_tree.specs.declared.trees.Head.{Head}
 use Rattle.plus_tree.specs.declared.trees.Schema.{Schema}
 use Rattle.plus_tree.specs.declared.trees.Domain.{Domain}
 use Rattle.plus_tree.specs.declared.trees.Problem.{Problem}
+use Rattle.plus_tree.specs.Cond.{Cond}
+use Rattle.plus_tree.specs.Effect.{Effect}
 use Rattle.plus_reading.specs.declared.words.Allowed.{Allowed}
 use Rattle.plus_reading.specs.Items.{Piece, tok, items_of}
-use Rattle.plus_reading.specs.Spells.{added, SpellsList}
+use Rattle.plus_reading.specs.Spells.{added, SpellsList, FitsDepth}
+use Rattle.plus_forms.specs.SpellsForms.{SpellsCond, SpellsEffect}
 use Rattle.plus_parser.specs.declared.parts.Keys.{Keys}
 use Rattle.plus_parser.specs.declared.parts.DomainParts.{DomainParts}
 use Rattle.plus_parser.specs.declared.parts.ProblemParts.{ProblemParts}
@@ -16,9 +19,10 @@ use Rattle.plus_parser.specs.ReadingProblem.{no_problem_parts, problem_made}
 use Rattle.plus_parser.specs.SpellsDomain.{SpellsTypes, SpellsFunctions, Key, with_key, SpellsSchema, DomainPart, with_domain_part, DomainTokens, SpellsWithin}
 use Rattle.plus_parser.specs.SpellsProblem.{ProblemPart, with_problem_part, ProblemTokens, SpellsProblemWithin}
 use Rattle.plus_grammar.specs.Groups.{IsList, AreTypes, AreFunctions}
+use Rattle.plus_grammar.specs.Forms.{IsCond, IsEffect}
 use Rattle.plus_grammar.specs.Counts.{HasKeys, HasSections, HasSectionsOfProblem}
 use Rattle.plus_grammar.specs.Wholes.{IsSchema, IsDomain, IsProblem}
-use Rattle.plus_grammar.specs.Texts.{AreTokens, IsDomainText, IsProblemText}
+use Rattle.plus_grammar.specs.Texts.{AreTokens, IsWithin, IsDomainText, IsProblemText}
 
 -- ---- groups
 
@@ -30,6 +34,12 @@ TypesByGroups = (xs : List TypedName) (ts : List Piece) → SpellsTypes xs ts �
 
 abbrev pub FunctionsByGroups : Type 0
 FunctionsByGroups = (hs : List Head) (ts : List Piece) → SpellsFunctions hs ts ↔ AreFunctions hs ts
+
+abbrev pub ConditionsByGroups : Type 0
+ConditionsByGroups = (c : Cond) (ts : List Piece) → SpellsCond c ts ↔ IsCond c ts
+
+abbrev pub EffectsByGroups : Type 0
+EffectsByGroups = (e : Effect) (ts : List Piece) → SpellsEffect e ts ↔ IsEffect e ts
 
 -- ---- counts: what a reader adds up part by part is made of the same parts
 
@@ -65,6 +75,10 @@ ProblemsSpelled = (p : Problem) (ts : List Piece) → ProblemTokens p ts ↔ IsP
 -- the tokens that a reader is handed are those that stand one behind the other
 abbrev pub TokensSpelled : Type 0
 TokensSpelled = (text : List ℕ) (ts : List Piece) → (items_of text ≡ map tok ts) ↔ AreTokens text 0 ts
+
+-- so many parentheses may be open at once, which a reader counts down and up
+abbrev pub DepthByCounts : Type 0
+DepthByCounts = (depth : ℕ) (ts : List Piece) → FitsDepth depth ts ↔ IsWithin depth ts
 
 abbrev pub DomainTexts : Type 0
 DomainTexts = (depth : ℕ) (text : List ℕ) (d : Domain) → SpellsWithin depth text d ↔ IsDomainText depth text d

@@ -1,4 +1,5 @@
 pub mod Groups
+pub mod Forms
 pub mod Counts
 pub mod Wholes
 pub mod Texts

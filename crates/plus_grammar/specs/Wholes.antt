@@ -8,7 +8,6 @@ use Rattle.plus_reading.specs.declared.words.Allowed.TheVariants.{Names}
 use Rattle.plus_reading.specs.Items.{Piece}
 use Rattle.plus_reading.specs.Grammar.{spelled_of}
 use Rattle.plus_reading.specs.Spells.{IsName, Wrapped, Chain}
-use Rattle.plus_forms.specs.SpellsForms.{SpellsCond, SpellsEffect}
 use Rattle.plus_parser.specs.declared.keywords.KeyWord.{KeyWord}
 use Rattle.plus_parser.specs.declared.keywords.KeyWord.TheVariants as keys
 use Rattle.plus_parser.specs.declared.keywords.DomainWord.{DomainWord}
@@ -20,6 +19,7 @@ use Rattle.plus_parser.specs.Balanced.{IsBalanced}
 use Rattle.plus_parser.specs.SpellsDomain.{SpellsRequirement, Key, k_parameters, k_condition, k_effect, DomainPart, d_requirements, d_types, d_constants, d_predicates, d_functions, d_action, d_process, d_event, Framed}
 use Rattle.plus_parser.specs.SpellsProblem.{SpellsInit, ProblemPart, p_domain, p_requirements, p_objects, p_init, p_goal, p_metric}
 use Rattle.plus_grammar.specs.Groups.{IsList, AreTypes, AreVariables, IsHead, AreFunctions}
+use Rattle.plus_grammar.specs.Forms.{IsCond, IsEffect}
 use Rattle.plus_grammar.specs.Counts.{HasKeys, HasSections, HasSectionsOfProblem}
 
 -- a key's word, and behind it these tokens
@@ -28,8 +28,8 @@ Follows word Inner ts = (k : Piece) × (inner : List Piece) × (key_of k ≡ wor
 
 abbrev pub IsKey : Key → List Piece → Type 0
 IsKey (k_parameters vs) ts = Follows keys.Parameters (AreVariables vs) ts
-IsKey (k_condition c) ts = Follows keys.Precondition (SpellsCond c) ts
-IsKey (k_effect e) ts = Follows keys.Effect (SpellsEffect e) ts
+IsKey (k_condition c) ts = Follows keys.Precondition (IsCond c) ts
+IsKey (k_effect e) ts = Follows keys.Effect (IsEffect e) ts
 
 -- a name and keys, behind the word of the section
 pub record IsSchema (s : Schema) (ts : List Piece) : Type 0 where
@@ -73,7 +73,7 @@ IsProblemPart (p_domain x) ts = IsSectionOfProblem problems.Domain (λ body. (n 
 IsProblemPart (p_requirements xs) ts = IsSectionOfProblem problems.Requirements (Chain SpellsRequirement xs) ts
 IsProblemPart (p_objects xs) ts = IsSectionOfProblem problems.Objects (IsList Names xs) ts
 IsProblemPart (p_init xs) ts = IsSectionOfProblem problems.Init (Chain SpellsInit xs) ts
-IsProblemPart (p_goal c) ts = IsSectionOfProblem problems.Goal (SpellsCond c) ts
+IsProblemPart (p_goal c) ts = IsSectionOfProblem problems.Goal (IsCond c) ts
 IsProblemPart p_metric ts = IsSectionOfProblem problems.Metric IsBalanced ts
 
 -- the tokens of a problem: sections in any order

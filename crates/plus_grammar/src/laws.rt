@@ -1,5 +1,5 @@
 //! The laws, the contracts of functions with empty bodies.
-ghost use Rattle.plus_grammar.specs.Laws.{ListsByGroups, TypesByGroups, FunctionsByGroups, KeysByCounts, SectionsByCounts, ProblemsByCounts, SchemasSpelled, DomainsSpelled, ProblemsSpelled, TokensSpelled, DomainTexts, ProblemTexts};
+ghost use Rattle.plus_grammar.specs.Laws.{ListsByGroups, TypesByGroups, FunctionsByGroups, ConditionsByGroups, EffectsByGroups, KeysByCounts, SectionsByCounts, ProblemsByCounts, SchemasSpelled, DomainsSpelled, ProblemsSpelled, TokensSpelled, DepthByCounts, DomainTexts, ProblemTexts};
 
 /// Tokens spell a list of names with their types exactly where they are groups of names.
 pub fn lists_by_groups()
@@ -14,6 +14,16 @@ pub fn types_by_groups()
 /// So are its functions, whose only type is `number`.
 pub fn functions_by_groups()
     ensures { FunctionsByGroups }
+{}
+
+/// Conditions are those whose variables stand by groups.
+pub fn conditions_by_groups()
+    ensures { ConditionsByGroups }
+{}
+
+/// And so are effects.
+pub fn effects_by_groups()
+    ensures { EffectsByGroups }
 {}
 
 /// Keys are added up to a schema exactly where each stands once at most, and the schema has what they give.
@@ -49,6 +59,11 @@ pub fn problems_spelled()
 /// The tokens of a text stand one behind the other, each the first behind the one before it.
 pub fn tokens_spelled()
     ensures { TokensSpelled }
+{}
+
+/// Room for parentheses that is counted down and up lasts exactly where no more than so many are open behind any token.
+pub fn depth_by_counts()
+    ensures { DepthByCounts }
 {}
 
 /// So the texts of a domain are those of such tokens.

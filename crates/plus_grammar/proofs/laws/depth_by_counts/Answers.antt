@@ -1,0 +1,5 @@
+use Rattle.plus_grammar.proofs.Depth.{depth_by_counts}
+use Rattle.plus_grammar.proofs.laws.depth_by_counts.Goals as goal
+
+pub returns : goal.returns
+returns c = depth_by_counts
