@@ -4,9 +4,9 @@ pub mod Functions
 pub mod Once
 pub mod Counts
 pub mod Problems
+pub mod Parentheses
 pub mod FormLaws
 pub mod Wholes
 pub mod ListRows
 pub mod CountRows
-pub mod Depth
 pub mod Texts

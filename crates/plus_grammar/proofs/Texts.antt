@@ -14,7 +14,7 @@ use Rattle.plus_reading.proofs.Stream.{stands, at_token, at_none, at_fault}
 use Rattle.plus_parser.specs.SpellsDomain.{SpellsWithin}
 use Rattle.plus_parser.specs.SpellsProblem.{SpellsProblemWithin}
 use Rattle.plus_grammar.specs.Texts.{AreTokens, IsDomainText, IsProblemText}
-use Rattle.plus_grammar.proofs.Depth.{depth_by_counts}
+use Rattle.plus_grammar.proofs.Parentheses.{depth_by_counts}
 use Rattle.plus_grammar.proofs.Wholes.{domains_spelled, problems_spelled}
 
 no_more : (text : List ℕ) (from : ℕ) → from ≤ length text → (r : Result (Option Token) LexFault) → first_token text from ≡ r → items_at text from ≡ [] → IsGapToEnd (drop from text)

@@ -16,6 +16,7 @@ use Rattle.plus_grammar.specs.Wholes.{IsKey, IsSchema, IsDomainPart, IsDomain, I
 use Rattle.plus_grammar.proofs.Chains.{chain_more}
 use Rattle.plus_grammar.proofs.Lists.{lists_by_groups, types_by_groups}
 use Rattle.plus_grammar.proofs.Functions.{head_to, head_from, functions_by_groups}
+use Rattle.plus_grammar.proofs.Parentheses.{pairs_by_counts}
 use Rattle.plus_grammar.proofs.FormLaws.{variables_to, variables_from, cond_to, cond_from, effect_to, effect_from}
 use Rattle.plus_grammar.proofs.Counts.{keys_by_counts, sections_by_counts}
 use Rattle.plus_grammar.proofs.Problems.{problems_by_counts}
@@ -119,7 +120,7 @@ section_to (p_requirements xs) ts h = h
 section_to (p_objects xs) ts h = (h.0, h.1, h.2, h.3, h.4, (lists_by_groups Names xs h.2).0 h.5)
 section_to (p_init xs) ts h = h
 section_to (p_goal c) ts h = (h.0, h.1, h.2, h.3, h.4, cond_to c h.2 h.5)
-section_to p_metric ts h = h
+section_to p_metric ts h = (h.0, h.1, h.2, h.3, h.4, (pairs_by_counts h.2).0 h.5)
 
 section_from : (x : ProblemPart) (ts : List Piece) → IsProblemPart x ts → SpellsProblemPart x ts
 section_from (p_domain x) ts h =
@@ -129,7 +130,7 @@ section_from (p_requirements xs) ts h = h
 section_from (p_objects xs) ts h = (h.0, h.1, h.2, h.3, h.4, (lists_by_groups Names xs h.2).1 h.5)
 section_from (p_init xs) ts h = h
 section_from (p_goal c) ts h = (h.0, h.1, h.2, h.3, h.4, cond_from c h.2 h.5)
-section_from p_metric ts h = h
+section_from p_metric ts h = (h.0, h.1, h.2, h.3, h.4, (pairs_by_counts h.2).1 h.5)
 
 problem_to : (p : Problem) (ts : List Piece) → ProblemTokens p ts → IsProblem p ts
 problem_to p ts h = record {

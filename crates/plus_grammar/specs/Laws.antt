@@ -16,13 +16,15 @@ use Rattle.plus_parser.specs.declared.parts.DomainParts.{DomainParts}
 use Rattle.plus_parser.specs.declared.parts.ProblemParts.{ProblemParts}
 use Rattle.plus_parser.specs.ReadingDomain.{no_keys, schema_made, no_parts, domain_made}
 use Rattle.plus_parser.specs.ReadingProblem.{no_problem_parts, problem_made}
+use Rattle.plus_parser.specs.Balanced.{IsBalanced}
 use Rattle.plus_parser.specs.SpellsDomain.{SpellsTypes, SpellsFunctions, Key, with_key, SpellsSchema, DomainPart, with_domain_part, DomainTokens, SpellsWithin}
 use Rattle.plus_parser.specs.SpellsProblem.{ProblemPart, with_problem_part, ProblemTokens, SpellsProblemWithin}
 use Rattle.plus_grammar.specs.Groups.{IsList, AreTypes, AreFunctions}
 use Rattle.plus_grammar.specs.Forms.{IsCond, IsEffect}
+use Rattle.plus_grammar.specs.Parentheses.{IsWithin, ArePaired}
 use Rattle.plus_grammar.specs.Counts.{HasKeys, HasSections, HasSectionsOfProblem}
 use Rattle.plus_grammar.specs.Wholes.{IsSchema, IsDomain, IsProblem}
-use Rattle.plus_grammar.specs.Texts.{AreTokens, IsWithin, IsDomainText, IsProblemText}
+use Rattle.plus_grammar.specs.Texts.{AreTokens, IsDomainText, IsProblemText}
 
 -- ---- groups
 
@@ -79,6 +81,10 @@ TokensSpelled = (text : List ℕ) (ts : List Piece) → (items_of text ≡ map t
 -- so many parentheses may be open at once, which a reader counts down and up
 abbrev pub DepthByCounts : Type 0
 DepthByCounts = (depth : ℕ) (ts : List Piece) → FitsDepth depth ts ↔ IsWithin depth ts
+
+-- each parenthesis has its other one, which a reader counts up and down
+abbrev pub PairsByCounts : Type 0
+PairsByCounts = (ts : List Piece) → IsBalanced ts ↔ ArePaired ts
 
 abbrev pub DomainTexts : Type 0
 DomainTexts = (depth : ℕ) (text : List ℕ) (d : Domain) → SpellsWithin depth text d ↔ IsDomainText depth text d

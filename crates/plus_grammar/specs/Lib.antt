@@ -1,5 +1,6 @@
 pub mod Groups
 pub mod Forms
+pub mod Parentheses
 pub mod Counts
 pub mod Wholes
 pub mod Texts

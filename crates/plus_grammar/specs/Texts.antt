@@ -1,12 +1,11 @@
 -- Which texts spell a domain and a problem: by tokens that stand one behind the other.
-use Rattle.std.specs.Prelude.{◌≡◌, ℕ, ◌+◌, ◌≤◌, List, [], ◌∷◌, ◌++◌, drop, count_by}
+use Rattle.std.specs.Prelude.{◌≡◌, ℕ, List, [], ◌∷◌, drop}
 use Rattle.plus_tokens.specs.declared.token.Token.{Token}
 use Rattle.plus_spelling.specs.Spelling.{IsFirst, IsGapToEnd}
 use Rattle.plus_tree.specs.declared.trees.Domain.{Domain}
 use Rattle.plus_tree.specs.declared.trees.Problem.{Problem}
 use Rattle.plus_reading.specs.Items.{Piece, piece_of}
-use Rattle.plus_reading.specs.Reading.{is_open}
-use Rattle.plus_reading.specs.Words.{is_close}
+use Rattle.plus_grammar.specs.Parentheses.{IsWithin}
 use Rattle.plus_grammar.specs.Wholes.{IsDomain, IsProblem}
 
 -- the tokens of a text from an offset on: each stands first behind the one before it, and behind the last are blanks and
@@ -14,17 +13,6 @@ use Rattle.plus_grammar.specs.Wholes.{IsDomain, IsProblem}
 abbrev pub AreTokens : List ℕ → ℕ → List Piece → Type 0
 AreTokens text from [] = IsGapToEnd (drop from text)
 AreTokens text from (p ∷ ps) = (t : Token) × IsFirst text from t × (p ≡ piece_of text t) × AreTokens text t.«end» ps
-
--- how many parentheses these tokens open, and how many they close
-abbrev pub opened : List Piece → ℕ
-opened ts = count_by (λ p. is_open p.kind) ts
-
-abbrev pub closed : List Piece → ℕ
-closed ts = count_by (λ p. is_close p.kind) ts
-
--- behind no token are more than so many parentheses open, and none is left open
-abbrev pub IsWithin : ℕ → List Piece → Type 0
-IsWithin depth ts = ((front back : List Piece) → ts ≡ front ++ back → opened front ≤ depth + closed front) × (opened ts ≡ closed ts)
 
 -- the text spells the domain, with no more than so many parentheses open at once
 abbrev pub IsDomainText : ℕ → List ℕ → Domain → Type 0

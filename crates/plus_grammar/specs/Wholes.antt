@@ -15,11 +15,11 @@ use Rattle.plus_parser.specs.declared.keywords.DomainWord.TheVariants as domains
 use Rattle.plus_parser.specs.declared.keywords.ProblemWord.{ProblemWord}
 use Rattle.plus_parser.specs.declared.keywords.ProblemWord.TheVariants as problems
 use Rattle.plus_parser.specs.Keywords.{key_of, domain_part_of, problem_part_of}
-use Rattle.plus_parser.specs.Balanced.{IsBalanced}
 use Rattle.plus_parser.specs.SpellsDomain.{SpellsRequirement, Key, k_parameters, k_condition, k_effect, DomainPart, d_requirements, d_types, d_constants, d_predicates, d_functions, d_action, d_process, d_event, Framed}
 use Rattle.plus_parser.specs.SpellsProblem.{SpellsInit, ProblemPart, p_domain, p_requirements, p_objects, p_init, p_goal, p_metric}
 use Rattle.plus_grammar.specs.Groups.{IsList, AreTypes, AreVariables, IsHead, AreFunctions}
 use Rattle.plus_grammar.specs.Forms.{IsCond, IsEffect}
+use Rattle.plus_grammar.specs.Parentheses.{ArePaired}
 use Rattle.plus_grammar.specs.Counts.{HasKeys, HasSections, HasSectionsOfProblem}
 
 -- a key's word, and behind it these tokens
@@ -74,7 +74,7 @@ IsProblemPart (p_requirements xs) ts = IsSectionOfProblem problems.Requirements 
 IsProblemPart (p_objects xs) ts = IsSectionOfProblem problems.Objects (IsList Names xs) ts
 IsProblemPart (p_init xs) ts = IsSectionOfProblem problems.Init (Chain SpellsInit xs) ts
 IsProblemPart (p_goal c) ts = IsSectionOfProblem problems.Goal (IsCond c) ts
-IsProblemPart p_metric ts = IsSectionOfProblem problems.Metric IsBalanced ts
+IsProblemPart p_metric ts = IsSectionOfProblem problems.Metric ArePaired ts
 
 -- the tokens of a problem: sections in any order
 pub record IsProblem (p : Problem) (ts : List Piece) : Type 0 where

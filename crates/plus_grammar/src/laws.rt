@@ -1,5 +1,5 @@
 //! The laws, the contracts of functions with empty bodies.
-ghost use Rattle.plus_grammar.specs.Laws.{ListsByGroups, TypesByGroups, FunctionsByGroups, ConditionsByGroups, EffectsByGroups, KeysByCounts, SectionsByCounts, ProblemsByCounts, SchemasSpelled, DomainsSpelled, ProblemsSpelled, TokensSpelled, DepthByCounts, DomainTexts, ProblemTexts};
+ghost use Rattle.plus_grammar.specs.Laws.{ListsByGroups, TypesByGroups, FunctionsByGroups, ConditionsByGroups, EffectsByGroups, KeysByCounts, SectionsByCounts, ProblemsByCounts, SchemasSpelled, DomainsSpelled, ProblemsSpelled, TokensSpelled, DepthByCounts, PairsByCounts, DomainTexts, ProblemTexts};
 
 /// Tokens spell a list of names with their types exactly where they are groups of names.
 pub fn lists_by_groups()
@@ -64,6 +64,11 @@ pub fn tokens_spelled()
 /// Room for parentheses that is counted down and up lasts exactly where no more than so many are open behind any token.
 pub fn depth_by_counts()
     ensures { DepthByCounts }
+{}
+
+/// Parentheses that a reader counts up and down are in pairs exactly where behind no token more are closed than opened.
+pub fn pairs_by_counts()
+    ensures { PairsByCounts }
 {}
 
 /// So the texts of a domain are those of such tokens.
