@@ -62,8 +62,8 @@ module _ (fits : Fraction → Type 0) (task : Task) where
   both_empty (p ∷ ps) qs e = cc e
 
   -- it comes there: the walk stands at the beginning
-  pub begin_stands : {Q : Type 0} (u : Fraction) (old new : TimelineView) (atoms fluents : ℕ) → fits (whole (pos 0)) → u ≡ whole (pos 0) → old ≡ begun task.problem task.most → CanSearch task → atoms ≡ task.problem.atoms → fluents ≡ task.problem.fluents → Carried fits task.problem u old new Alive → Stands {Q = Q} fits task atoms fluents new []
-  begin_stands {Q} u old new atoms fluents f e b can a k c =
+  pub begin_stands : {Q : Type 0} (u : Fraction) (old new : TimelineView) → fits (whole (pos 0)) → u ≡ whole (pos 0) → old ≡ begun task.problem task.most → CanSearch task → Carried fits task.problem u old new Alive → Stands {Q = Q} fits task new [] []
+  begin_stands {Q} u old new f e b can c =
       let s : StandsAt fits task [] new = begin_ends u old new Alive f e b c in
       record {
         behind = record {
@@ -75,9 +75,8 @@ module _ (fits : Fraction → Type 0) (task : Task) where
             within = λ ps qs d g. absurd (nothing_is ps qs d g);
           };
         };
+        returns = tt;
         tree = uncut_is_tree fits task;
-        guide_atoms = a;
-        guide_fluents = k;
       }
 
   module _ (k : ℕ) where

@@ -12,8 +12,10 @@ pub mod Walks
 pub mod PlaceLemmas
 pub mod TakenLemmas
 pub mod DecidingLemmas
+pub mod TriedLemmas
 pub mod WorldLemmas
 pub mod ListingLemmas
 pub mod SearchLemmas
 pub mod Beginning
+pub mod NumberOnce
 pub mod SearchingLemmas

@@ -159,6 +159,10 @@ module _ {Q : Type 0} (fits : Fraction → Type 0) (task : Task) where
       goes_says u old taken' fate times g e =
           subst (λ z. Walks fits task start start taken z d fate) (sym g.after) (walked g.new fate times e)
 
+    -- a decision whose timeline is known
+    pub taken_again : (x : Taken Q) → x.decision < suc (length task.actions) → StandsAt fits task (path_of taken ++ x.decision ∷ []) x.timeline → Walks fits task start start taken (taken ++ x ∷ []) x.decision Alive
+    taken_again x w e = walked x.decision w x.timeline Alive e.plays.times e
+
     -- an action that is done, and one that is refused
     pub act_goes : (k : ℕ) (action : Action) (done : TimelineView) (taken' : List (Taken Q)) (fate : Fate) → k < suc (length task.actions) → slice_get task.actions k ≡ Some action → AllPass fits (act_tests (now_in start taken).now.acted action (now_in start taken).now.state) → DoesAct task.problem action (now_in start taken) done → Goes fits task.problem (now_in start taken).now.time done k taken taken' fate → Walks fits task start start taken taken' k fate
     act_goes k action done taken' fate w a p d g =

@@ -10,7 +10,9 @@ use Rattle.plus_planner.specs.declared.places.Taken.{Taken}
 use Rattle.plus_planner.specs.Grid.{Task}
 use Rattle.plus_planner.specs.Places.{path_of, uncut, StandsBehind}
 use Rattle.plus_planner.specs.Listing.{Lists}
-use Rattle.plus_planner.specs.Searches.{IsFound, HasNone, MayBeTried}
+use Rattle.plus_planner.specs.Searches.{CountsBeyond, IsFound, HasNone, MayBeTried}
+use Rattle.plus_planner.specs.Laws.{NoneOnce}
+use Rattle.plus_planner.proofs.NumberOnce.{number_once}
 use Rattle.plus_search.specs.Lists.{MoreThan}
 use Rattle.plus_planner.proofs.SearchLemmas.{plan_is, no_plan, beyond_number, more_tried}
 use Rattle.plus_planner.proofs.DecidingLemmas.{length_mapped}
@@ -35,3 +37,7 @@ module _ (fits : Fraction → Type 0) (task : Task) (k tries : ℕ) where
 -- the number of tries that suffices, by the number of actions
 pub enough_by : {A B : Type 0} (f : A → B) (xs : List A) (k tries : ℕ) → (k + 1) * (length xs + 2) ^ k ≤ tries → (k + 1) * (suc (length (map f xs)) + 1) ^ k ≤ tries
 enough_by f xs k tries h = subst (λ n. (k + 1) * n ^ k ≤ tries) (let e : length xs + 2 ≡ suc (length xs) + 1 = omega arith in e ∙ ap (λ n. suc n + 1) (sym (length_mapped f xs))) h
+
+-- where there is none, as many are beyond in each answer
+pub none_once : (fits : Fraction → Type 0) → NoneOnce fits
+none_once fits task k n m a b = number_once (CountsBeyond fits task k) n m a.number b.number

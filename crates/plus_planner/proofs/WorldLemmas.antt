@@ -1,5 +1,5 @@
 -- What a walk over a ground problem tells the search.
-use Rattle.std.proofs.Common.{◌≡◌, ℕ, suc, ◌<◌, true, false, List, [], ◌∷◌, ◌++◌, length, refl, ap, sym, subst, ◌∙◌, append_assoc, arith}
+use Rattle.std.proofs.Common.{◌≡◌, ℕ, suc, ◌<◌, true, false, List, [], ◌∷◌, ◌++◌, length, take, refl, ap, sym, subst, ◌∙◌, append_assoc, arith}
 use Rattle.std.specs.Prelude.{◌↔◌, Option, Some, None, IsSome, Result, Ok, Err, IfOk, OnOk}
 use Rattle.plus_fraction.specs.Fraction.{Fraction}
 use Rattle.plus_model.specs.Terms.{State}
@@ -7,11 +7,15 @@ use Rattle.plus_search.specs.declared.spaces.Fate.{Fate}
 use Rattle.plus_search.specs.Told.{FateIs, path_after}
 use Rattle.plus_state.specs.Fits.{StateFits}
 use Rattle.plus_timeline.specs.Timeline.{TimelineView}
+use Rattle.plus_search.specs.declared.spaces.Fate.TheVariants.{Alive}
 use Rattle.plus_planner.specs.declared.places.Taken.{Taken}
+use Rattle.plus_planner.specs.declared.places.Tried.{Tried}
 use Rattle.plus_planner.specs.Grid.{Task, EndsIn}
-use Rattle.plus_planner.specs.Places.{StandFrom, path_of, now_in, StandsBehind, uncut, no_cut, Walks}
+use Rattle.plus_planner.specs.Places.{StandsAt, StandFrom, path_of, now_in, StandsBehind, uncut, no_cut, Walks}
+use Rattle.plus_planner.specs.Tried.{AllReturn, IsFoundAt, Returns, Keeps}
 use Rattle.plus_planner.specs.Worlds.{Stands}
-use Rattle.plus_planner.proofs.PlaceLemmas.{map-snoc, now_stands, pop_stands}
+use Rattle.plus_planner.proofs.PlaceLemmas.{map-snoc, now_stands, pop_stands, taken_again}
+use Rattle.plus_planner.proofs.TriedLemmas.{return_at, return_others, return_after, return_back, whole_path}
 
 -- ---- what a step tells
 
@@ -24,9 +28,41 @@ module _ {Q E : Type 0} (fits : Fraction → Type 0) (task : Task) (start start'
   walk_path (Err e) h = tt
   walk_path (Ok fate) h = h.path
 
-  pub walk_stands : (atoms fluents : ℕ) → Stands fits task atoms fluents start taken → (r : Result Fate E) → IfOk r (Walks fits task start start' taken taken' d) → OnOk r (Stands fits task atoms fluents start' taken')
-  walk_stands atoms fluents s (Err e) h = tt
-  walk_stands atoms fluents s (Ok fate) h = record { behind = h.stands; tree = s.tree; guide_atoms = s.guide_atoms; guide_fluents = s.guide_fluents }
+  pub walk_stands : (tried tried' : List (Tried Q)) → Stands fits task start taken tried → (r : Result Fate E) → IfOk r (Walks fits task start start' taken taken' d) → OnOk r (tried' ≡ tried) → OnOk r (Stands fits task start' taken' tried')
+  walk_stands tried tried' s (Err e) h k = tt
+  walk_stands tried tried' s (Ok fate) h k =
+      record {
+        behind = h.stands;
+        returns = subst (AllReturn fits task (path_of taken')) (sym k)
+            (subst (λ ds. AllReturn fits task ds tried) (sym h.path) (return_after fits task (path_of taken) d fate tried s.returns));
+        tree = s.tree;
+      }
+
+-- ---- what a decision tells that is taken again
+
+module _ {Q : Type 0} (fits : Fraction → Type 0) (task : Task) (start start' : TimelineView) (taken taken' : List (Taken Q)) (tried tried' : List (Tried Q)) (s : Stands fits task start taken tried) (e : start' ≡ start) where
+  pub again_walks : (i d : ℕ) → d < suc (length task.actions) → IsFoundAt (length taken) d tried i → Returns i taken tried taken' tried' → Walks fits task start start' taken taken' d Alive
+  again_walks i d w f r =
+      let x = f.tried.taken in
+      let same : r.tried ≡ f.tried = (let k : Some r.tried ≡ Some f.tried = sym r.stands ∙ f.stands in cc k) in
+      let stands : StandsAt fits task (path_of taken ++ x.decision ∷ []) x.timeline =
+      subst (λ ds. StandsAt fits task (ds ++ x.decision ∷ []) x.timeline) (ap (λ n. take n (path_of taken)) f.before ∙ whole_path taken)
+      (return_at fits task (path_of taken) tried i f.tried s.returns f.stands).stands in
+      subst (λ z. Walks fits task start z taken taken' d Alive) (sym e)
+      (subst (λ z. Walks fits task start start taken z d Alive) (sym (r.taken_is ∙ ap (λ (t : Tried Q). taken ++ t.taken ∷ []) same))
+      (subst (λ n. Walks fits task start start taken (taken ++ x ∷ []) n Alive) f.decision
+      (taken_again fits task start taken s.behind x (subst (λ n. n < suc (length task.actions)) (sym f.decision) w) stands)))
+
+  pub again_stands : (i d : ℕ) → d < suc (length task.actions) → IsFoundAt (length taken) d tried i → Returns i taken tried taken' tried' → Stands fits task start' taken' tried'
+  again_stands i d w f r =
+      let k = again_walks i d w f r in
+      record {
+        behind = k.stands;
+        returns = subst (λ ds. AllReturn fits task ds tried') (sym k.path)
+            (return_after fits task (path_of taken) d Alive tried'
+            (subst (AllReturn fits task (path_of taken)) (sym r.others) (return_others fits task (path_of taken) i tried s.returns)));
+        tree = s.tree;
+      }
 
 -- ---- the state where a walk stands
 
@@ -46,6 +82,14 @@ module _ {Q : Type 0} (fits : Fraction → Type 0) (task : Task) (start : Timeli
       no e = cc e
 
 -- ---- one decision less
+
+pub always : {A E P : Type 0} (r : Result A E) → P → OnOk r P
+always (Ok x) h = h
+always (Err e) h = tt
+
+pub then : {A E P R : Type 0} (r : Result A E) → (P → R) → OnOk r P → OnOk r R
+then (Ok x) f h = f h
+then (Err e) f h = tt
 
 last_is : {A : Type 0} (xs ys : List A) (x y : A) → xs ++ x ∷ [] ≡ ys ++ y ∷ [] → xs ≡ ys
 last_is [] [] x y e = refl
@@ -68,8 +112,8 @@ module _ {Q : Type 0} (old new : List (Taken Q)) (x : Taken Q) (e : old ≡ new 
   pub path_back : (ds : List ℕ) (d : ℕ) → path_of old ≡ ds ++ d ∷ [] → path_of new ≡ ds
   path_back ds d f = last_is (path_of new) ds x.decision d (sym (ap path_of e ∙ map-snoc (λ (y : Taken Q). y.decision) new x) ∙ f)
 
-  pub stands_back : (fits : Fraction → Type 0) (task : Task) (atoms fluents : ℕ) (start : TimelineView) → Stands fits task atoms fluents start old → Stands fits task atoms fluents start new
-  stands_back fits task atoms fluents start s =
+  pub stands_back : (fits : Fraction → Type 0) (task : Task) (start : TimelineView) (tried tried' : List (Tried Q)) → Stands fits task start old tried → Keeps (length new) x tried tried' → Stands fits task start new tried'
+  stands_back fits task start tried tried' s k =
       let b = s.behind in
       let p : path_of old ≡ path_of new ++ x.decision ∷ [] = ap path_of e ∙ map-snoc (λ (y : Taken Q). y.decision) new x in
       record {
@@ -82,9 +126,8 @@ module _ {Q : Type 0} (old new : List (Taken Q)) (x : Taken Q) (e : old ≡ new 
             within = λ ps qs d f. b.alive.within ps (qs ++ x.decision ∷ []) d (p ∙ ap (λ z. z ++ x.decision ∷ []) f ∙ joined ps (d ∷ qs) (x.decision ∷ []));
           };
         };
+        returns = return_back fits task new x tried tried' (b.each new [] x e) (subst (λ ds. AllReturn fits task ds tried) p s.returns) k;
         tree = s.tree;
-        guide_atoms = s.guide_atoms;
-        guide_fluents = s.guide_fluents;
       }
     where
       joined : (xs ys zs : List ℕ) → (xs ++ ys) ++ zs ≡ xs ++ (ys ++ zs)

@@ -9,6 +9,7 @@ use Rattle.plus_search.specs.Tree.{IsTree}
 use Rattle.plus_stretch.specs.Tests.{Test}
 use Rattle.plus_timeline.specs.Asked.{asked}
 use Rattle.plus_planner.specs.Grid.{Task, timed, IsClear, Plays, GridPlan, IsKept, grid}
+use Rattle.plus_planner.specs.Searches.{HasNone}
 
 -- the lists of decisions are a tree, and the kept fact of a cut is what the tree asks of it
 abbrev pub GridIsTree : (Fraction → Type 0) → Type 0
@@ -84,3 +85,7 @@ CanWait fits =
     → EndsWithAction task.actions ds → AllWaits task.actions ws
     → IsInOrder (timed task (ds ++ ws)).lines → Plays fits task ds h
     → Prefix task.problem (timed task (ds ++ ws)) h × IsClear fits task (ds ++ ws) h
+
+-- where there is no plan, as many lists are beyond in each answer
+abbrev pub NoneOnce : (Fraction → Type 0) → Type 0
+NoneOnce fits = (task : Task) (k n m : ℕ) → HasNone fits task k n → HasNone fits task k m → n ≡ m

@@ -2,6 +2,7 @@ pub mod Grid
 pub mod Laws
 pub mod Standing
 pub mod Places
+pub mod Tried
 pub mod Once
 pub mod Worlds
 pub mod Listing

@@ -1,15 +1,16 @@
--- Where a walk over a ground problem stands, and what may be asked there.
-use Rattle.std.specs.Prelude.{◌≡◌, ℕ, List}
+-- Where a walk over a ground problem stands.
+use Rattle.std.specs.Prelude.{List}
 use Rattle.plus_fraction.specs.Fraction.{Fraction}
 use Rattle.plus_search.specs.Tree.{IsTree}
 use Rattle.plus_timeline.specs.Timeline.{TimelineView}
 use Rattle.plus_planner.specs.declared.places.Taken.{Taken}
 use Rattle.plus_planner.specs.Grid.{Task}
-use Rattle.plus_planner.specs.Places.{uncut, StandsBehind}
+use Rattle.plus_planner.specs.declared.places.Tried.{Tried}
+use Rattle.plus_planner.specs.Places.{uncut, path_of, StandsBehind}
+use Rattle.plus_planner.specs.Tried.{AllReturn}
 
--- the walk stands behind its decisions, and the guide may be asked about the states of the problem
-pub record Stands {Q : Type 0} (fits : Fraction → Type 0) (task : Task) (atoms fluents : ℕ) (start : TimelineView) (taken : List (Taken Q)) : Type 0 where
+-- the walk stands behind its decisions, in the tree that is searched, and what it keeps can be taken again
+pub record Stands {Q : Type 0} (fits : Fraction → Type 0) (task : Task) (start : TimelineView) (taken : List (Taken Q)) (tried : List (Tried Q)) : Type 0 where
   pub behind : StandsBehind fits task start taken
+  pub returns : AllReturn fits task (path_of taken) tried
   pub tree : IsTree (uncut fits task)
-  pub guide_atoms : atoms ≡ task.problem.atoms
-  pub guide_fluents : fluents ≡ task.problem.fluents

@@ -62,6 +62,7 @@ fn act<Q: Exact>(
     ensures ends { IfOk result (ActEnds Q.fits (problem_of Q.value ground.now) (action_of Q.value action.now)
         decision (now_in place.old.start place.old.taken.items) place.old.taken.items place.new.taken.items) }
     ensures start { OnOk result (place.new.start ≡ place.old.start) }
+    ensures tried { OnOk result (place.new.tried ≡ place.old.tried) }
 {
     let now = place.now();
     if let Some(fate) = refuses(action, now) {
@@ -91,6 +92,7 @@ fn wait<Q: Exact>(
         ((now_in place.old.start place.old.taken.items).now.time +ℚ Q.value interval) decision
         (base_in decision place.old.start place.old.taken.items) place.old.taken.items place.new.taken.items) }
     ensures start { OnOk result (place.new.start ≡ place.old.start) }
+    ensures tried { OnOk result (place.new.tried ≡ place.old.tried) }
 {
     match place.now().time().add(interval) {
         Err(_) => Ok(Fate::Beyond),
@@ -114,9 +116,10 @@ pub fn decide<Q: Exact>(
     requires stands { StandsBehind Q.fits (task_from (problem_of Q.value ground.now)
         (map (action_of Q.value) actions.now) (Q.value interval)) place.old.start place.old.taken.items }
     requires within { decision < suc (length actions.now) }
-    ensures { IfOk result (Walks Q.fits (task_from (problem_of Q.value ground.now)
+    ensures walks { IfOk result (Walks Q.fits (task_from (problem_of Q.value ground.now)
         (map (action_of Q.value) actions.now) (Q.value interval)) place.old.start place.new.start
         place.old.taken.items place.new.taken.items decision) }
+    ensures tried { OnOk result (place.new.tried ≡ place.old.tried) }
 {
     let number = decision as usize;
     if number < actions.len() {

@@ -13,10 +13,8 @@ use plus_state::truth::holds;
 
 /// Counts what is missing of the goal of a ground problem: the members of an `and` that do not hold, else
 /// the goal itself where it does not. One whose test ends in a limit is missing too.
-#[derive(Drop)]
-pub struct ByGoal<Q: Exact> {
-    pub problem: Ground<Q>,
-}
+#[derive(Clone, Copy)]
+pub struct ByGoal;
 
 // 1 where a condition does not hold, or its test ends in a limit.
 fn missing<Q: Exact>(cond: &Cond<Q>, state: &State<Q>) -> u64
@@ -41,15 +39,9 @@ fn count<Q: Exact>(members: &[Cond<Q>], state: &State<Q>) -> u64
     number
 }
 
-impl<Q: Exact> Guide<Q> for ByGoal<Q> {
-    ghost use Rattle.std.specs.Prelude.{length};
-
-    ghost atoms = { λ g. length g.problem.atoms.items };
-
-    ghost fluents = { λ g. length g.problem.fluents.items };
-
-    fn number(&self, state: &State<Q>) -> u64 {
-        match &self.problem.goal {
+impl<Q: Exact> Guide<Q> for ByGoal {
+    fn number(&self, problem: &Ground<Q>, state: &State<Q>) -> u64 {
+        match &problem.goal {
             Cond::All(members) => count(members, state),
             goal => missing(goal, state),
         }

@@ -9,6 +9,7 @@ pub mod laws;
 pub mod listing;
 pub mod places;
 pub mod planner;
+pub mod returning;
 pub mod searching;
 
 pub use goals::ByGoal;

@@ -10,11 +10,20 @@ pub struct Taken<Q: Exact> {
     pub timeline: Timeline<Q>,
 }
 
-/// The timeline at the beginning, and what was decided since.
+/// A decision that was taken and taken back, and how many had been taken before it.
+#[derive(Drop)]
+pub struct Tried<Q: Exact> {
+    pub before: usize,
+    pub taken: Taken<Q>,
+}
+
+/// The timeline at the beginning, and what was decided since. Some of what was tried on the way is kept, so
+/// that it is not worked anew where it is taken again.
 #[derive(Drop)]
 pub struct Place<Q: Exact> {
     pub start: Timeline<Q>,
     pub taken: Vec<Taken<Q>>,
+    pub tried: Vec<Tried<Q>>,
 }
 
 impl<Q: Exact> Place<Q> {

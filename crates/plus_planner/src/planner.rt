@@ -1,5 +1,5 @@
 //! What is searched: a tree of decisions over a ground problem.
-ghost use Rattle.std.specs.Prelude.{◌≡◌, length, map};
+ghost use Rattle.std.specs.Prelude.{◌≡◌, map};
 ghost use Rattle.plus_state.specs.View.{problem_of, action_of};
 ghost use Rattle.plus_planner.specs.Places.{task_from, uncut, path_of, CanSearch};
 ghost use Rattle.plus_planner.specs.Once.{CanSearch-prop};
@@ -14,8 +14,8 @@ use plus_state::problem::{Action, Ground};
 use plus_state::truth::holds;
 use std::alloc::{AllocError, Global};
 
-/// A planner for a ground problem: its actions, the interval of the grid, and the guide, which may be
-/// called on every state of the problem.
+/// A planner for a ground problem: its actions, the interval of the grid, and the guide, which is lent the
+/// problem.
 #[derive(Drop)]
 pub struct Planner<Q: Exact, G: Guide<Q> + Drop> {
     pub alloc: Global,
@@ -24,8 +24,6 @@ pub struct Planner<Q: Exact, G: Guide<Q> + Drop> {
     pub interval: Q,
     pub guide: G,
     pub ghost can: { CanSearch (task_from (problem_of Q.value problem) (map (action_of Q.value) actions.items) (Q.value interval)) } by { CanSearch-prop (task_from (problem_of Q.value problem) (map (action_of Q.value) actions.items) (Q.value interval)) },
-    pub ghost guide_atoms: { G.atoms guide ≡ length problem.atoms.items },
-    pub ghost guide_fluents: { G.fluents guide ≡ length problem.fluents.items },
 }
 
 impl<Q: Exact, G: Guide<Q> + Drop> Planner<Q, G> {
@@ -39,8 +37,6 @@ impl<Q: Exact, G: Guide<Q> + Drop> Planner<Q, G> {
     ) -> Planner<Q, G>
         requires can { CanSearch (task_from (problem_of Q.value problem) (map (action_of Q.value) actions.items)
             (Q.value interval)) }
-        requires atoms { G.atoms guide ≡ length problem.atoms.items }
-        requires fluents { G.fluents guide ≡ length problem.fluents.items }
         ensures problem { result.problem ≡ problem }
         ensures actions { result.actions ≡ actions }
         ensures interval { result.interval ≡ interval }
@@ -62,26 +58,32 @@ impl<Q: Exact, G: Guide<Q> + Drop> Space for Planner<Q, G> {
 
     ghost path = { λ p. path_of p.taken.items };
 
-    ghost stands = { λ w p. Stands Q.fits (task_from (problem_of Q.value w.problem) (map (action_of Q.value) w.actions.items) (Q.value w.interval)) (G.atoms w.guide) (G.fluents w.guide) p.start p.taken.items };
+    ghost stands = { λ w p. Stands Q.fits (task_from (problem_of Q.value w.problem) (map (action_of Q.value) w.actions.items) (Q.value w.interval)) p.start p.taken.items p.tried.items };
 
     fn width(&self, _place: &Place<Q>) -> u32 {
         self.actions.len() as u32 + 1
     }
 
     fn step(&self, place: &mut Place<Q>, decision: u32) -> Result<Fate, AllocError> {
-        decide(
-            self.alloc,
-            &self.problem,
-            &self.actions,
-            self.interval,
-            place,
-            decision,
-        )
+        match place.find(decision) {
+            Some(index) => {
+                place.again(index)?;
+                Ok(Fate::Alive)
+            }
+            None => decide(
+                self.alloc,
+                &self.problem,
+                &self.actions,
+                self.interval,
+                place,
+                decision,
+            ),
+        }
     }
 
     fn back(&self, place: &mut Place<Q>) -> Result<(), AllocError> {
         match place.taken.pop() {
-            Some(_) => Ok(()),
+            Some(taken) => place.keep(taken),
             None => unreachable!(),
         }
     }
@@ -95,7 +97,7 @@ impl<Q: Exact, G: Guide<Q> + Drop> Space for Planner<Q, G> {
     }
 
     fn guide(&self, place: &Place<Q>) -> u64 {
-        self.guide.number(place.now().state())
+        self.guide.number(&self.problem, place.now().state())
     }
 
     fn is_barren(&self, _place: &Place<Q>, _left: u32) -> bool {

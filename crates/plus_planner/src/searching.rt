@@ -49,6 +49,7 @@ impl<Q: Exact, G: Guide<Q> + Drop> Planner<Q, G> {
                 let place = Place {
                     start,
                     taken: Vec::new(self.alloc),
+                    tried: Vec::new(self.alloc),
                 };
                 self.search_from(place, decisions, tries)
             }
@@ -66,7 +67,7 @@ impl<Q: Exact, G: Guide<Q> + Drop> Planner<Q, G> {
     ) -> Result<Answer<Q>, AllocError>
         requires stands { Stands Q.fits (task_from (problem_of Q.value self.now.problem)
             (map (action_of Q.value) self.now.actions.items) (Q.value self.now.interval))
-            (G.atoms self.now.guide) (G.fluents self.now.guide) place.start place.taken.items }
+            place.start place.taken.items place.tried.items }
         requires first { path_of place.taken.items ≡ [] }
         requires tries { tries < u64.MAX }
         ensures answers { IfOk result (Answers Q.value Q.fits (task_from (problem_of Q.value self.now.problem)

@@ -21,11 +21,7 @@ use std::test::*;
 struct Constant(u64);
 
 impl Guide<Frac64> for Constant {
-    ghost atoms = { λ g. 1 };
-
-    ghost fluents = { λ g. 1 };
-
-    fn number(&self, _state: &State<Frac64>) -> u64 {
+    fn number(&self, _problem: &Ground<Frac64>, _state: &State<Frac64>) -> u64 {
         self.0
     }
 }

@@ -33,13 +33,6 @@ can_search v P d p items q e f n a =
       some = refl;
     }
 
--- two groundings of a pair have as many atoms and fluents
-pub same_atoms : (P R X : model.Problem) → P ≡ X → R ≡ X → P.atoms ≡ R.atoms
-same_atoms P R X e f = ap (λ (x : model.Problem). x.atoms) (e ∙ sym f)
-
-pub same_fluents : (P R X : model.Problem) → P ≡ X → R ≡ X → P.fluents ≡ R.fluents
-same_fluents P R X e f = ap (λ (x : model.Problem). x.fluents) (e ∙ sym f)
-
 -- why there is no search
 pub ungrounded : (d : Domain) (p : Problem) (fault : GroundFault) → RefusesGround IsFrac64 d p fault → IsUnplanned d p fault
 ungrounded d p fault h = inl h

@@ -35,7 +35,7 @@ fn planner(
     alloc: Global,
     numbering: &Numbering,
     interval: Frac64,
-) -> Result<Planner<Frac64, ByGoal<Frac64>>, GroundFault>
+) -> Result<Planner<Frac64, ByGoal>, GroundFault>
     requires { whole (pos 0) <ℚ fraction_of interval }
     ensures problem { IfOk result (λ w. problem_of fraction_of w.problem
         ≡ expanded numbering.now.typed.now.domain numbering.now.typed.now.problem) }
@@ -47,9 +47,7 @@ fn planner(
 {
     let problem = ground::<Frac64>(alloc, numbering)?;
     let actions = ground_actions::<Frac64>(alloc, numbering)?;
-    let goal = ground::<Frac64>(alloc, numbering)?;
-    let guide = ByGoal { problem: goal };
-    Ok(Planner::new(alloc, problem, actions, interval, guide))
+    Ok(Planner::new(alloc, problem, actions, interval, ByGoal))
 }
 
 // Searches for a plan of a pair whose ground atoms and fluents are numbered.

@@ -31,8 +31,8 @@ wait-requires g c =
     self_le : (n : ℕ) → n ≤ n
     self_le n = omega arith
 
-pub returns-then-number-actions : goal.returns-then-number-actions
-returns-then-number-actions g c =
+pub returns-then-number-actions-clause-walks : goal.returns-then-number-actions-clause-walks
+returns-then-number-actions-clause-walks g c =
     let v = g.Q.Exact.value in
     let task = task_from (problem_of v c.args.ground.now) (map (action_of v) c.args.actions.now) (v c.args.interval) in
     act_walks g.Q.Exact.fits task c.args.place.now.start c.args.place.now.taken.items c.requires.stands c.args.decision (action_of v c.index-actions-number.result)
@@ -41,8 +41,8 @@ returns-then-number-actions g c =
     (action_at (action_of v) c.args.actions.now c.args.decision c.index-actions-number.result c.if-number-actions.true c.index-actions-number.is)
     c.act.ensures.start c.act.ensures.ends
 
-pub returns-else-number-actions : goal.returns-else-number-actions
-returns-else-number-actions g c =
+pub returns-else-number-actions-clause-walks : goal.returns-else-number-actions-clause-walks
+returns-else-number-actions-clause-walks g c =
     let v = g.Q.Exact.value in
     let P = problem_of v c.args.ground.now in
     let actions = map (action_of v) c.args.actions.now in

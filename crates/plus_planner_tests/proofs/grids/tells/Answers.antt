@@ -20,11 +20,13 @@ two_few f (x ∷ []) e = absurd (omega arith)
 two_few f (x ∷ y ∷ []) e = omega arith
 two_few f (x ∷ y ∷ z ∷ xs) e = absurd (omega arith)
 
-pub new-planner-requires-clause-can : goal.new-planner-requires-clause-can
-new-planner-requires-clause-can g c = record {
-  above = subst (λ (q : Fraction). whole (pos 0) <ℚ q) (sym c.one.ensures) one_above;
-  fit = λ k a e. fit_in (length c.problem.result.atoms.items) (length c.problem.result.fluents.items) a c.problem.ensures.atoms c.problem.ensures.fluents
-      (at_all _ (ActionFits 1 1) c.actions.result.items k a c.actions.ensures.fit e);
-  few = two_few _ c.actions.result.items c.actions.ensures.few;
-  some = refl;
+pub new-planner-requires : goal.new-planner-requires
+new-planner-requires g c = record {
+  can = record {
+    above = subst (λ (q : Fraction). whole (pos 0) <ℚ q) (sym c.one.ensures) one_above;
+    fit = λ k a e. fit_in (length c.problem.result.atoms.items) (length c.problem.result.fluents.items) a c.problem.ensures.atoms c.problem.ensures.fluents
+        (at_all _ (ActionFits 1 1) c.actions.result.items k a c.actions.ensures.fit e);
+    few = two_few _ c.actions.result.items c.actions.ensures.few;
+    some = refl;
+  };
 }

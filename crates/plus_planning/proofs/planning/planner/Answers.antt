@@ -1,25 +1,16 @@
 use Rattle.std.proofs.lemmas.Result.{err_from_is_err_and}
 use Rattle.plus_number.specs.Frac.{fraction_of}
 use Rattle.plus_state.specs.View.{problem_of, action_of}
-use Rattle.plus_expansion.specs.Expansion.{expanded}
-use Rattle.plus_planning.proofs.PlanningLemmas.{can_search, same_atoms, same_fluents, ungrounded, without_actions, exits}
+use Rattle.plus_planning.proofs.PlanningLemmas.{can_search, ungrounded, without_actions, exits}
 use Rattle.plus_planning.proofs.planning.planner.Goals as goal
 
-pub new-requires-clause-can : goal.new-requires-clause-can
-new-requires-clause-can c =
+pub new-requires : goal.new-requires
+new-requires c =
     let t = c.args.numbering.now.typed.now in
-    can_search (action_of fraction_of) (problem_of fraction_of c.in_ok-problem.problem) t.domain t.problem c.in_ok-actions.actions.items (fraction_of c.args.interval)
-    c.in_ok-problem.ensures.expands c.in_ok-actions.ensures.fit c.in_ok-actions.ensures.few c.requires
-
-pub new-requires-clause-atoms : goal.new-requires-clause-atoms
-new-requires-clause-atoms c =
-    let t = c.args.numbering.now.typed.now in
-    same_atoms (problem_of fraction_of c.in_ok-goal.goal) (problem_of fraction_of c.in_ok-problem.problem) (expanded t.domain t.problem) c.in_ok-goal.ensures.expands c.in_ok-problem.ensures.expands
-
-pub new-requires-clause-fluents : goal.new-requires-clause-fluents
-new-requires-clause-fluents c =
-    let t = c.args.numbering.now.typed.now in
-    same_fluents (problem_of fraction_of c.in_ok-goal.goal) (problem_of fraction_of c.in_ok-problem.problem) (expanded t.domain t.problem) c.in_ok-goal.ensures.expands c.in_ok-problem.ensures.expands
+    record {
+      can = can_search (action_of fraction_of) (problem_of fraction_of c.in_ok-problem.problem) t.domain t.problem c.in_ok-actions.actions.items (fraction_of c.args.interval)
+          c.in_ok-problem.ensures.expands c.in_ok-actions.ensures.fit c.in_ok-actions.ensures.few c.requires;
+    }
 
 pub returns-in_err-problem-clause-refused : goal.returns-in_err-problem-clause-refused
 returns-in_err-problem-clause-refused c =
@@ -33,9 +24,3 @@ returns-in_err-actions-clause-refused c =
     let r = err_from_is_err_and c.from_residual-in_err-actions.result c.from_residual-in_err-actions.ensures.1 in
     exits t.domain t.problem c.from_residual-in_err-actions.result c.in_err-actions.field-0.0 r.0 r.1 r.2
     (without_actions t.domain t.problem c.in_err-actions.field-0.0 c.in_ok-problem.ensures.limits c.in_err-actions.ensures.limits)
-
-pub returns-in_err-goal-clause-refused : goal.returns-in_err-goal-clause-refused
-returns-in_err-goal-clause-refused c =
-    let t = c.args.numbering.now.typed.now in
-    let r = err_from_is_err_and c.from_residual-in_err-goal.result c.from_residual-in_err-goal.ensures.1 in
-    exits t.domain t.problem c.from_residual-in_err-goal.result c.in_err-goal.field-0.0 r.0 r.1 r.2 (ungrounded t.domain t.problem c.in_err-goal.field-0.0 c.in_err-goal.ensures.limits)

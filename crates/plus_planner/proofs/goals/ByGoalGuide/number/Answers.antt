@@ -13,12 +13,12 @@ pub count-requires : goal.count-requires
 count-requires g c =
     let v = g.Q.Exact.value in
     let s = c.args.state.now in
-    let problem = c.args.self.now.problem in
+    let problem = c.args.problem.now in
     fits_all v problem.goal c.in-All.members c.deref.result.now (length s.atoms) (length s.fluents) c.in-All.is c.deref.ensures.value
     (fitting (length problem.atoms.items) (length problem.fluents.items) (length s.atoms) (length s.fluents) (condition_of v problem.goal) c.requires.atoms_fit c.requires.fluents_fit problem.fits.goal)
 
 pub missing-requires : goal.missing-requires
 missing-requires g c =
     let s = c.args.state.now in
-    let problem = c.args.self.now.problem in
+    let problem = c.args.problem.now in
     fitting (length problem.atoms.items) (length problem.fluents.items) (length s.atoms) (length s.fluents) (condition_of g.Q.Exact.value problem.goal) c.requires.atoms_fit c.requires.fluents_fit problem.fits.goal

@@ -1,4 +1,4 @@
-use Rattle.std.proofs.Common.{map, sym, subst, arith}
+use Rattle.std.proofs.Common.{[], map, sym, subst, arith}
 use Rattle.plus_planner.specs.Standing.{Carried}
 use Rattle.plus_state.specs.View.{problem_of, action_of}
 use Rattle.plus_planner.specs.Places.{task_from}
@@ -15,9 +15,10 @@ pub search_from-requires-clause-stands : goal.search_from-requires-clause-stands
 search_from-requires-clause-stands g c =
     let v = g.Q.Exact.value in
     let task = task_from (problem_of v c.args.self.now.problem) (map (action_of v) c.args.self.now.actions.items) (v c.args.self.now.interval) in
-    subst (Stands g.Q.Exact.fits task (g.G.Guide.atoms c.args.self.now.guide) (g.G.Guide.fluents c.args.self.now.guide) c.carry.new.timeline) (sym c.new.ensures.items)
-    (begin_stands g.Q.Exact.fits task (v c.zero.result) c.in_ok-start.start c.carry.new.timeline (g.G.Guide.atoms c.args.self.now.guide) (g.G.Guide.fluents c.args.self.now.guide)
-    g.met.Q.Exact.zero_fits c.zero.ensures c.in_ok-start.ensures c.args.self.now.can c.args.self.now.guide_atoms c.args.self.now.guide_fluents (subst (Carried g.Q.Exact.fits task.problem (v c.zero.result) c.in_ok-start.start c.carry.new.timeline) c.in-Alive.is c.in_ok-fate.ensures))
+    subst (λ ts. Stands g.Q.Exact.fits task c.carry.new.timeline c.new.result.items ts) (sym c.new-in-Alive.ensures.items)
+    (subst (λ xs. Stands g.Q.Exact.fits task c.carry.new.timeline xs []) (sym c.new.ensures.items)
+    (begin_stands g.Q.Exact.fits task (v c.zero.result) c.in_ok-start.start c.carry.new.timeline
+    g.met.Q.Exact.zero_fits c.zero.ensures c.in_ok-start.ensures c.args.self.now.can (subst (Carried g.Q.Exact.fits task.problem (v c.zero.result) c.in_ok-start.start c.carry.new.timeline) c.in-Alive.is c.in_ok-fate.ensures)))
 
 pub returns-in-Broken-clause-answers : goal.returns-in-Broken-clause-answers
 returns-in-Broken-clause-answers g c =

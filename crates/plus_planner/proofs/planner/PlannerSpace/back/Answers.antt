@@ -1,8 +1,9 @@
-use Rattle.std.proofs.Common.{◌<◌, map, ◌++◌, ap, subst, ◌∙◌}
+use Rattle.std.proofs.Common.{◌<◌, map, ◌++◌, ap, sym, subst, ◌∙◌}
 use Rattle.std.specs.Prelude.{◌↔◌, IsSome, option_to_list}
 use Rattle.plus_state.specs.View.{problem_of, action_of}
-use Rattle.plus_planner.specs.Places.{task_from}
-use Rattle.plus_planner.proofs.WorldLemmas.{path_back, stands_back, nothing_popped}
+use Rattle.plus_planner.specs.Places.{task_from, path_of}
+use Rattle.plus_planner.specs.Worlds.{Stands}
+use Rattle.plus_planner.proofs.WorldLemmas.{always, then, path_back, stands_back, nothing_popped}
 use Rattle.plus_planner.proofs.planner.PlannerSpace.back.Goals as goal
 
 pub unreachable-requires : goal.unreachable-requires
@@ -11,11 +12,16 @@ unreachable-requires g c =
 
 pub returns-clause-path : goal.returns-clause-path
 returns-clause-path g c =
-    path_back c.args.place.now.taken.items c.pop.new.self.items c.in-Some.field-0 (c.pop.ensures.items ∙ ap (λ o. c.pop.new.self.items ++ option_to_list o) c.in-Some.is)
+    always c.keep.result (λ ds d e. ap (λ w. path_of w.items) c.keep.ensures.same
+    ∙ path_back c.args.place.now.taken.items c.pop.new.self.items c.in-Some.taken (c.pop.ensures.items ∙ ap (λ o. c.pop.new.self.items ++ option_to_list o) c.in-Some.is) ds d e)
 
 pub returns-clause-stands : goal.returns-clause-stands
 returns-clause-stands g c =
     let v = g.Q.Exact.value in
-    stands_back c.args.place.now.taken.items c.pop.new.self.items c.in-Some.field-0 (c.pop.ensures.items ∙ ap (λ o. c.pop.new.self.items ++ option_to_list o) c.in-Some.is)
-    g.Q.Exact.fits (task_from (problem_of v c.args.self.now.problem) (map (action_of v) c.args.self.now.actions.items) (v c.args.self.now.interval))
-    (g.G.Guide.atoms c.args.self.now.guide) (g.G.Guide.fluents c.args.self.now.guide) c.args.place.now.start c.requires.stands
+    let task = task_from (problem_of v c.args.self.now.problem) (map (action_of v) c.args.self.now.actions.items) (v c.args.self.now.interval) in
+    let place = c.keep.new.self in
+    then c.keep.result (λ k.
+    subst (λ t. Stands g.Q.Exact.fits task t place.taken.items place.tried.items) (sym c.keep.ensures.start)
+    (subst (λ xs. Stands g.Q.Exact.fits task c.args.place.now.start xs place.tried.items) (sym (ap (λ w. w.items) c.keep.ensures.same))
+    (stands_back c.args.place.now.taken.items c.pop.new.self.items c.in-Some.taken (c.pop.ensures.items ∙ ap (λ o. c.pop.new.self.items ++ option_to_list o) c.in-Some.is)
+    g.Q.Exact.fits task c.args.place.now.start c.args.place.now.tried.items place.tried.items c.requires.stands k))) c.keep.ensures.keeps

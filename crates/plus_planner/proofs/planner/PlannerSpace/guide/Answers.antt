@@ -1,4 +1,4 @@
-use Rattle.std.proofs.Common.{map, sym, ◌∙◌}
+use Rattle.std.proofs.Common.{map}
 use Rattle.plus_state.specs.View.{problem_of, action_of}
 use Rattle.plus_planner.specs.Places.{task_from}
 use Rattle.plus_planner.proofs.WorldLemmas.{state_fits}
@@ -8,5 +8,4 @@ pub number-requires : goal.number-requires
 number-requires g c =
     let v = g.Q.Exact.value in
     let task = task_from (problem_of v c.args.self.now.problem) (map (action_of v) c.args.self.now.actions.items) (v c.args.self.now.interval) in
-    let f = state_fits g.Q.Exact.fits task c.args.place.now.start c.args.place.now.taken.items c.requires.stands.behind c.now.result.now c.state.result.now c.now.ensures c.state.ensures.fits in
-    record { atoms_fit = f.atoms_fit ∙ sym c.requires.stands.guide_atoms; fluents_fit = f.fluents_fit ∙ sym c.requires.stands.guide_fluents }
+    state_fits g.Q.Exact.fits task c.args.place.now.start c.args.place.now.taken.items c.requires.stands.behind c.now.result.now c.state.result.now c.now.ensures c.state.ensures.fits
