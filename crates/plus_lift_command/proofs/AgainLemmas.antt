@@ -1,24 +1,21 @@
 -- The translation of a pair, printed and read again: put together from what its calls answer.
-use Rattle.std.proofs.Common.{◌≡◌, ℕ, List, [], ◌∷◌, subst, sym, refl, IsTrue, rules}
+use Rattle.std.proofs.Common.{◌≡◌, ℕ, List, subst, sym, refl, IsTrue}
 use Rattle.std.specs.Prelude.{Result, Ok, Err, MatchResult}
 use Rattle.plus_fraction.specs.Fraction.{Fraction}
 use Rattle.plus_tree.specs.declared.trees.Domain.{Domain}
 use Rattle.plus_tree.specs.declared.trees.Problem.{Problem}
 use Rattle.plus_types.specs.declared.typed.Typed.{Typed}
-use Rattle.plus_types.specs.Faults.{type_faults, is_empty, is_well_typed}
+use Rattle.plus_types.specs.Faults.{type_faults, is_well_typed}
 use Rattle.plus_printer.specs.Canon.{domain_text, problem_text}
 use Rattle.plus_translate.specs.Translates.{IsTranslation}
 use Rattle.plus_pair.specs.declared.pair.Refusal.{Refusal}
 use Rattle.plus_pair.specs.declared.pair.Refusal.TheVariants as refusals
 use Rattle.plus_pair.specs.Pair.{SpellsPair, PairRefused, SpellsWellTyped}
 use Rattle.plus_pair.specs.Reads.{NotPair}
+use Rattle.plus_pair.proofs.SpelledLemmas.{none_at_all}
 use Rattle.plus_translate_command.specs.Translate.{IsUntranslated}
 use Rattle.plus_translate_command.proofs.TranslateLemmas.{translated_or_read}
 use Rattle.plus_lift_command.specs.Again.{refusal_printed, SpellsAgain, untranslated, unread, NotPrinted, NotReadAgain}
-
-none_at_all : {A : Type 0} (xs : List A) → IsTrue (is_empty xs) → xs ≡ []
-none_at_all [] w = refl
-none_at_all (x ∷ xs) w = absurd (search rules)
 
 -- a well-typed pair that two texts spell
 pub spelled : (ds ps : List ℕ) (d : Domain) (p : Problem) → SpellsPair ds ps d p → IsTrue (is_well_typed d p) → SpellsWellTyped ds ps d p

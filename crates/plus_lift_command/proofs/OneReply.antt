@@ -22,11 +22,11 @@ use Rattle.plus_validator.proofs.OneJudgement.{one_judgement}
 use Rattle.plus_words.specs.Happenings.{default_happenings}
 use Rattle.plus_pair.specs.Pair.{PairRefused, SpellsWellTyped}
 use Rattle.plus_pair.proofs.OnePair.{pair_once, pair_or_not, pair_refused_once}
-use Rattle.plus_reply.specs.Statuses.{early_status, status_of}
+use Rattle.plus_reply.specs.Statuses.{early_status, kind_status, status_of}
 use Rattle.plus_reply.specs.Reply.{HasOneReply}
 use Rattle.plus_translate_command.proofs.OneReply.{untranslated_once, translated_once, translation_or_not, same_pair}
 use Rattle.plus_lift_command.specs.Again.{line_printed, SpellsAgain, NotAgain, untranslated, unread}
-use Rattle.plus_lift_command.specs.Lift.{late_line, lifted_text, LiftsCalls, late, judged, kind_status, LiftsPlan, no_plan, lifts, LiftsPair, no_texts, of_texts, Lifts, no_pair, of_pair}
+use Rattle.plus_lift_command.specs.Lift.{late_line, lifted_text, LiftsCalls, late, judged, LiftsPlan, no_plan, lifts, LiftsPair, no_texts, of_texts, Lifts, no_pair, of_pair}
 
 -- ---- the calls of a text
 

@@ -14,7 +14,6 @@ use Rattle.plus_report.specs.Plans.{plan_text}
 use Rattle.plus_steps.specs.Stepped.{timed}
 use Rattle.plus_translation.specs.Laws.{stripped}
 use Rattle.plus_numeric.specs.declared.answer.Kind.{Kind}
-use Rattle.plus_numeric.specs.declared.answer.Kind.TheVariants as kinds
 use Rattle.plus_numeric.specs.declared.answer.Stop.{Stop}
 use Rattle.plus_numeric.specs.declared.answer.Stop.TheVariants as stops
 use Rattle.plus_numeric.specs.declared.source.Source.TheVariants.{Translated}
@@ -30,7 +29,7 @@ use Rattle.plus_reply.specs.declared.status.Status.TheVariants as s
 use Rattle.plus_reply.specs.declared.reply.Reply.{Reply}
 use Rattle.plus_reply.specs.declared.reply.Fault.{Fault}
 use Rattle.plus_reply.specs.declared.reply.Fault.TheVariants as faults
-use Rattle.plus_reply.specs.Statuses.{early_status, status_of}
+use Rattle.plus_reply.specs.Statuses.{early_status, kind_status, status_of}
 use Rattle.plus_lift_command.specs.Again.{SpellsAgain, NotAgain}
 
 -- ---- times
@@ -62,12 +61,6 @@ pub record JudgesPlan (d : Domain) (p : Problem) (text : List ℕ) (r : Reply) :
   pub text_is : r.text.items ≡ text ++ (codes "; " ++ j.line.items)
 
 -- ---- the untimed plan
-
--- the status of a refusal
-abbrev pub kind_status : Kind → Status
-kind_status kinds.Invalid = s.Invalid
-kind_status kinds.Beyond = s.Beyond
-kind_status kinds.BadText = s.BadText
 
 -- a refusal of the untimed plan is told in its one line
 abbrev pub TellsStop : Stop → Result Reply Fault → Type 0

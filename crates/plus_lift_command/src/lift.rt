@@ -6,29 +6,18 @@ ghost use Rattle.plus_io.specs.Picks.{ReadsInOrder};
 ghost use Rattle.plus_number.specs.Frac.{fraction_of};
 ghost use Rattle.plus_pair.specs.Pair.{text_limit};
 ghost use Rattle.plus_reply.specs.Reply.{IsPlain, HasCause};
-ghost use Rattle.plus_lift_command.specs.Lift.{kind_status, TellsStop, LiftsPlan, LiftsPair, Lifts};
+ghost use Rattle.plus_lift_command.specs.Lift.{TellsStop, LiftsPlan, LiftsPair, Lifts};
 
 use crate::again::again;
 use crate::calls::lifted;
 use plus_interval::Interval;
 use plus_io::Shelf;
-use plus_numeric::{Kind, Source, Stop, numeric};
+use plus_numeric::{Source, Stop, numeric};
 use plus_pair::pair::{pair, release};
 use plus_reply::reply::{Fault, Reply, refused};
 use plus_reply::status::Status;
 use plus_types::Typed;
 use std::alloc::Global;
-
-/// The status of a refusal of a plan without time.
-pub fn status_of(kind: Kind) -> Status
-    ensures { result ≡ kind_status kind }
-{
-    match kind {
-        Kind::Invalid => Status::Invalid,
-        Kind::Beyond => Status::Beyond,
-        Kind::BadText => Status::BadText,
-    }
-}
 
 // Tells why there is no plan.
 fn stopped(stop: Stop) -> Result<Reply, Fault>
@@ -36,7 +25,7 @@ fn stopped(stop: Stop) -> Result<Reply, Fault>
 {
     match stop {
         Stop::Refused(refused) => Ok(Reply {
-            status: status_of(refused.kind),
+            status: Status::of_kind(refused.kind),
             text: refused.line,
         }),
         Stop::ReadFault => Err(Fault::ReadFault),

@@ -8,7 +8,7 @@ use Rattle.plus_report.specs.declared.refusals.Early.{Early}
 use Rattle.plus_pair.specs.Pair.{PairRefused, SpellsWellTyped}
 use Rattle.plus_pair.specs.Reads.{ReadsPair}
 
-none_at_all : {A : Type 0} (xs : List A) → IsTrue (is_empty xs) → xs ≡ []
+pub none_at_all : {A : Type 0} (xs : List A) → IsTrue (is_empty xs) → xs ≡ []
 none_at_all [] w = refl
 none_at_all (x ∷ xs) w = absurd (search rules)
 

@@ -1,9 +1,11 @@
--- How a run ends: the status of a refusal and of a checked plan, and what the writing of one line shows.
+-- How a run ends: the status of a refusal, of a checked plan and of a plan without time that is refused, and what the writing of one line shows.
 use Rattle.std.specs.Prelude.{◌≡◌, ◌⊎◌, ℕ, List, Option}
 use Rattle.plus_io.specs.Faults.{Rose}
 use Rattle.plus_io.specs.Taken.{Took, TookPart}
 use Rattle.plus_report.specs.declared.refusals.Early.{Early}
 use Rattle.plus_report.specs.declared.refusals.Early.TheVariants.{BadText, BadLine}
+use Rattle.plus_numeric.specs.declared.answer.Kind.{Kind}
+use Rattle.plus_numeric.specs.declared.answer.Kind.TheVariants as kinds
 use Rattle.plus_validator.specs.declared.judge.Outcome.{Outcome}
 use Rattle.plus_validator.specs.declared.judge.Outcome.TheVariants as outcomes
 use Rattle.plus_reply.specs.declared.status.Status.{Status}
@@ -24,6 +26,12 @@ status_of outcomes.BadText = s.BadText
 status_of outcomes.ReadFault = s.ReadFault
 status_of outcomes.WriteFault = s.WriteFault
 status_of outcomes.NoMemory = s.NoMemory
+
+-- the status of a plan without time that is refused
+abbrev pub kind_status : Kind → Status
+kind_status kinds.Invalid = s.Invalid
+kind_status kinds.Beyond = s.Beyond
+kind_status kinds.BadText = s.BadText
 
 -- the number that the process ends with
 abbrev pub exit_number : Status → ℕ

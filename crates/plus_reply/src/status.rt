@@ -3,9 +3,10 @@
 ghost use Rattle.std.specs.Prelude.{◌≡◌, ◌≤◌};
 ghost use Rattle.std.specs.Process.{exit_status};
 ghost use Rattle.plus_report.specs.Refusals.{early_text};
-ghost use Rattle.plus_reply.specs.Statuses.{early_status, exit_number, status_of, Writes};
+ghost use Rattle.plus_reply.specs.Statuses.{early_status, exit_number, kind_status, status_of, Writes};
 
 use plus_io::{Sink, write_all};
+use plus_numeric::Kind;
 use plus_report::{Early, write_early};
 use plus_validator::Outcome;
 use std::process::ExitCode;
@@ -60,6 +61,17 @@ impl Status {
             Outcome::ReadFault => Status::ReadFault,
             Outcome::WriteFault => Status::WriteFault,
             Outcome::NoMemory => Status::NoMemory,
+        }
+    }
+
+    /// The status of a plan without time that is refused.
+    pub fn of_kind(kind: Kind) -> Status
+        ensures { result ≡ kind_status kind }
+    {
+        match kind {
+            Kind::Invalid => Status::Invalid,
+            Kind::Beyond => Status::Beyond,
+            Kind::BadText => Status::BadText,
         }
     }
 }

@@ -1,11 +1,11 @@
 -- What `numeric` shows, put together from what its calls answer.
-use Rattle.std.proofs.Common.{◌≡◌, ℕ, ◌≤◌, List, [], Option, Some, None, subst, sym, ◌∙◌, ap, refl, false, IsTrue, rules, ◌∷◌, inl, inr}
+use Rattle.std.proofs.Common.{◌≡◌, ℕ, ◌≤◌, List, [], Option, Some, None, subst, sym, ◌∙◌, ap, refl, false, IsTrue, inl, inr}
 use Rattle.std.specs.Prelude.{IfSome}
 use Rattle.plus_io.specs.Taken.{Took, TookPart}
 use Rattle.plus_tree.specs.declared.trees.Domain.{Domain}
 use Rattle.plus_tree.specs.declared.trees.Problem.{Problem}
 use Rattle.plus_tree.specs.declared.trees.Call.{Call}
-use Rattle.plus_types.specs.Faults.{type_faults, is_empty, is_well_typed}
+use Rattle.plus_types.specs.Faults.{type_faults, is_well_typed}
 use Rattle.plus_report.specs.declared.refusals.Early.{Early}
 use Rattle.plus_report.specs.Refusals.{early_text}
 use Rattle.plus_numeric.specs.declared.answer.Kind.{Kind}
@@ -17,15 +17,12 @@ use Rattle.plus_reply.specs.declared.status.Status.TheVariants as s
 use Rattle.plus_run.specs.Command.{Command, Numeric}
 use Rattle.plus_pair.specs.Pair.{PairRefused, SpellsWellTyped}
 use Rattle.plus_pair.specs.Reads.{ReadsPair}
+use Rattle.plus_pair.proofs.SpelledLemmas.{none_at_all}
 use Rattle.plus_run.specs.Headline.{OnRefusal, RunsValid, RunsRefused, RunsBroken, IsAnswer}
-use Rattle.plus_reply.specs.Statuses.{early_status, Writes}
-use Rattle.plus_run.specs.Numeric.{valid_line, kind_status, IsNumeric, IsNotNumeric, no_pair, no_plan, RunsNumeric, RefusesNumeric, BreaksNumeric, in_valid, in_refusal}
+use Rattle.plus_reply.specs.Statuses.{early_status, kind_status, Writes}
+use Rattle.plus_run.specs.Numeric.{valid_line, IsNumeric, IsNotNumeric, no_pair, no_plan, RunsNumeric, RefusesNumeric, BreaksNumeric, in_valid, in_refusal}
 use Rattle.plus_run.proofs.RunLemmas.{on_refusal, early_plain}
 use Rattle.plus_run.proofs.AnswerLemmas.{by_fault}
-
-none_at_all : {A : Type 0} (xs : List A) → IsTrue (is_empty xs) → xs ≡ []
-none_at_all [] w = refl
-none_at_all (x ∷ xs) w = absurd (search rules)
 
 -- where the shelf tells the three texts, what is shown of the pair read and the plan is shown of them
 on_three :

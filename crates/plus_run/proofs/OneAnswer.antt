@@ -24,6 +24,7 @@ use Rattle.plus_run.specs.Command.{Command, Check, ShowDomain, ShowProblem}
 use Rattle.plus_run.specs.Shown.{IsSpelled, IsShown, IsNotShown}
 use Rattle.plus_run.specs.Headline.{SpellsWellTyped, IsValidRun, IsRefusedRun, for_pair, for_ground, for_plan, OnRefusal, status_of}
 use Rattle.plus_run.specs.Laws.{IsSettled}
+use Rattle.plus_run.proofs.NumericLemmas.{IsLess}
 
 -- ---- the answer of a check
 
@@ -110,12 +111,6 @@ pub wrote_once :
 wrote_once Says old new new' x y once a b =
     let same = once a.written b.written a.says b.says in
     (same.0, a.took ∙ ap (append_known old) same.1 ∙ sym b.took)
-
-abbrev IsLess : Status → Type 0
-IsLess s.Invalid = Unit {0}
-IsLess s.Beyond = Unit {0}
-IsLess s.BadText = Unit {0}
-IsLess _ = ⊥
 
 whole_of : (n : ℕ) (d : Domain) (p : Problem) (ls : List ℕ) (o : Outcome) (status : Status) (w : List ℕ) → status ≡ status_of o → IsLess status → IsRefusedIn d p n ls o w → IsWhole d p n ls o w
 whole_of n d p ls outcomes.Invalid status w i l h = h

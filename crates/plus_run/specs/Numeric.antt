@@ -6,22 +6,14 @@ use Rattle.plus_tree.specs.declared.trees.Problem.{Problem}
 use Rattle.plus_report.specs.declared.refusals.Early.{Early}
 use Rattle.plus_report.specs.Refusals.{early_text}
 use Rattle.plus_numeric.specs.declared.answer.Kind.{Kind}
-use Rattle.plus_numeric.specs.declared.answer.Kind.TheVariants as kinds
 use Rattle.plus_numeric.specs.declared.source.Source.TheVariants.{Given}
 use Rattle.plus_numeric.specs.Answers.{IsAccepted, IsRefused}
 use Rattle.plus_reply.specs.declared.status.Status.{Status}
-use Rattle.plus_reply.specs.declared.status.Status.TheVariants as s
 use Rattle.plus_pair.specs.Pair.{PairRefused, SpellsWellTyped}
-use Rattle.plus_reply.specs.Statuses.{early_status}
+use Rattle.plus_reply.specs.Statuses.{early_status, kind_status}
 
 abbrev pub valid_line : List ℕ
 valid_line = codes "valid\n"
-
--- the status of a refusal
-abbrev pub kind_status : Kind → Status
-kind_status kinds.Invalid = s.Invalid
-kind_status kinds.Beyond = s.Beyond
-kind_status kinds.BadText = s.BadText
 
 -- the three texts spell a well-typed pair and a plan of it
 pub record IsNumeric (domain problem plan : List ℕ) : Type 0 where

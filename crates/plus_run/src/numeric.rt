@@ -7,25 +7,14 @@ ghost use Rattle.plus_pair.specs.Pair.{text_limit};
 ghost use Rattle.plus_pair.specs.Reads.{ReadsPair};
 ghost use Rattle.plus_run.specs.Command.{Numeric};
 ghost use Rattle.plus_run.specs.Headline.{IsAnswer};
-ghost use Rattle.plus_run.specs.Numeric.{kind_status};
 
 use crate::command::PlanFiles;
 use plus_io::{Shelf, Sink};
-use plus_numeric::{Kind, Source, Stop};
+use plus_numeric::{Source, Stop};
 use plus_pair::pair::{Refusal, pair};
 use plus_reply::status::{Status, refuse, tell};
 use plus_types::Typed;
 use std::alloc::Global;
-
-fn status_of(kind: Kind) -> Status
-    ensures { result ≡ kind_status kind }
-{
-    match kind {
-        Kind::Invalid => Status::Invalid,
-        Kind::Beyond => Status::Beyond,
-        Kind::BadText => Status::BadText,
-    }
-}
 
 // Plays the plan of a pair that two texts spell.
 fn play<S: Shelf, O: Sink>(
@@ -46,7 +35,7 @@ fn play<S: Shelf, O: Sink>(
 {
     match plus_numeric::numeric(alloc, typed, Source::Given, shelf, plan, false) {
         Ok(_) => tell(out, b"valid\n", Status::Valid),
-        Err(Stop::Refused(refused)) => tell(out, &refused.line, status_of(refused.kind)),
+        Err(Stop::Refused(refused)) => tell(out, &refused.line, Status::of_kind(refused.kind)),
         Err(Stop::ReadFault) => Status::ReadFault,
         Err(Stop::NoMemory) => Status::NoMemory,
     }

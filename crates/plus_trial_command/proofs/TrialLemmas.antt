@@ -1,11 +1,11 @@
 -- What a trial replies, put together from what its calls answer.
-use Rattle.std.proofs.Common.{◌≡◌, ℕ, List, [], ◌∷◌, subst, sym, ◌∙◌, refl, IsTrue, rules}
+use Rattle.std.proofs.Common.{◌≡◌, ℕ, List, subst, sym, ◌∙◌, refl, IsTrue}
 use Rattle.std.specs.Prelude.{Result, Ok, Err, IfOk, IfErr}
 use Rattle.std.specs.declared.alloc.AllocError.{AllocError}
 use Rattle.plus_tree.specs.declared.trees.Domain.{Domain}
 use Rattle.plus_tree.specs.declared.trees.Problem.{Problem}
 use Rattle.plus_types.specs.declared.typed.Typed.{Typed}
-use Rattle.plus_types.specs.Faults.{type_faults, is_empty, is_well_typed}
+use Rattle.plus_types.specs.Faults.{type_faults, is_well_typed}
 use Rattle.plus_report.specs.declared.verdicts.Verdict.{Verdict}
 use Rattle.plus_report.specs.declared.verdicts.Verdict.TheVariants as verdicts
 use Rattle.plus_report.specs.declared.refusals.Early.{Early}
@@ -20,6 +20,7 @@ use Rattle.plus_pair.specs.declared.pair.Refusal.{Refusal}
 use Rattle.plus_pair.specs.declared.pair.Refusal.TheVariants as refusals
 use Rattle.plus_pair.specs.Pair.{SpellsPair}
 use Rattle.plus_pair.specs.Reads.{NotPair}
+use Rattle.plus_pair.proofs.SpelledLemmas.{none_at_all}
 use Rattle.plus_reply.specs.declared.status.Status.{Status}
 use Rattle.plus_reply.specs.declared.reply.Reply.{Reply}
 use Rattle.plus_reply.specs.declared.reply.Fault.{Fault}
@@ -83,10 +84,6 @@ pub told_plain : (j : Judged) (status : Status) → status ≡ status_of (outcom
 told_plain j status e = subst IsPlain (sym e) (judged_plain j.verdict)
 
 -- ---- the texts are a pair, and its plan is judged
-
-none_at_all : {A : Type 0} (xs : List A) → IsTrue (is_empty xs) → xs ≡ []
-none_at_all [] t = refl
-none_at_all (x ∷ xs) t = absurd (search rules)
 
 pub told_trial :
     (n : ℕ) (d : Domain) (p : Problem) (j : Judged) (status : Status) (line : List ℕ) → SpellsPair farm_domain (farm_problem n) d p
