@@ -14,11 +14,76 @@ const THINGS: &str =
 const BARE: &str = "(define (problem q) (:domain d) (:init) (:goal (and)))";
 
 // Domains and problems that are refused, and what is written. The place is that of the form or the name.
-const FAULTS: [(&str, &str, &str); 26] = [
+const FAULTS: [(&str, &str, &str); 39] = [
     (
         "(define (domain d) (:durative-action))",
         BARE,
         "bad text: domain 20-36: form\n",
+    ),
+    (
+        "(define (domain d) (:requirements :strips) (:requirements))",
+        BARE,
+        "bad text: domain 44-57: form\n",
+    ),
+    (
+        "(define (domain d) (:types - t))",
+        BARE,
+        "bad text: domain 27-28: form\n",
+    ),
+    (
+        "(define (domain d) ) )",
+        BARE,
+        "bad text: domain 21-22: form\n",
+    ),
+    (
+        "(define (domain d) (:action a :precondition (= a 1)))",
+        BARE,
+        "bad text: domain 49-50: form\n",
+    ),
+    (
+        "(define (domain d) (:action a :effect (when () (when () ()))))",
+        BARE,
+        "bad text: domain 48-52: form\n",
+    ),
+    (
+        "(define (domain d)",
+        BARE,
+        "bad text: domain 18-18: unclosed\n",
+    ),
+    (
+        "(define (domain d) (:predicates (p .",
+        BARE,
+        "bad text: domain 35-36: byte\n",
+    ),
+    (
+        "(define (domain d))",
+        "(define (problem p) (:domain d) (:init) )",
+        "bad text: problem 40-41: form\n",
+    ),
+    (
+        "(define (domain d))",
+        "(define (problem p) (:domain d) (:domain d))",
+        "bad text: problem 33-40: form\n",
+    ),
+    (
+        "(define (domain d))",
+        "(define (problem p) (:init (at -1 (p))))",
+        "bad text: problem 31-33: form\n",
+    ),
+    (
+        "(define (domain d))",
+        "(define (problem p) (:metric (x)",
+        "bad text: problem 32-32: unclosed\n",
+    ),
+    (
+        "(define (domain d))",
+        "(define (problem p) (:init (at 5 (not (not (p))))))",
+        "bad text: problem 39-42: form\n",
+    ),
+    (
+        "(define (domain d))",
+        "(define (problem p) (:init)",
+        "bad text: problem 27-27: unclosed\n",
     ),
     (
         "(define (domain d) (:predicates (p ?x - crate)))",

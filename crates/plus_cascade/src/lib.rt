@@ -9,8 +9,6 @@ pub mod cascade;
 mod firing;
 pub mod laws;
 pub mod rounds;
-#[cfg(test)]
-mod tests;
 
 pub use cascade::{Cascade, begin};
 pub use rounds::{CascadeStop, DueRound, FiredRound, round, round_changes, round_changes_among};

@@ -9,7 +9,5 @@ pub mod parts;
 pub mod problems;
 pub mod reading;
 pub mod schemas;
-#[cfg(test)]
-mod tests;
 
 pub use reading::{read_domain, read_problem};

@@ -15,8 +15,6 @@ pub mod net;
 pub mod settling;
 pub mod settling_among;
 pub mod stops;
-#[cfg(test)]
-mod tests;
 
 pub use among::first_other_among;
 pub use choices::holding;

@@ -20,8 +20,6 @@ pub mod mark;
 pub mod search;
 pub mod soon;
 pub mod sorted;
-#[cfg(test)]
-mod tests;
 
 pub use arrival::{Arrival, End};
 pub use halt::Halt;
