@@ -15,7 +15,8 @@ use Rattle.plus_pair.specs.Pair.{SpellsWellTyped}
 use Rattle.plus_pair.proofs.OnePair.{pair_once, pair_or_not, pair_refused_once}
 use Rattle.plus_reply.specs.Statuses.{early_status}
 use Rattle.plus_reply.specs.Reply.{HasOneReply}
-use Rattle.plus_translate_command.specs.Translate.{trans_refusal, IsUntranslated, half_text, TranslatesPair, half, no_translation, Translates, no_pair, of_pair}
+use Rattle.plus_translation_printer.specs.Printed.{half_text}
+use Rattle.plus_translate_command.specs.Translate.{trans_refusal, IsUntranslated, TranslatesPair, half, no_translation, Translates, no_pair, of_pair}
 
 -- a line tells of a fault, and not of want of memory
 told : (f : TransFault) (e : Early) → refusals.Early e ≡ trans_refusal f → IsTold f

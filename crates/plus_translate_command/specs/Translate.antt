@@ -4,16 +4,15 @@ use Rattle.plus_fraction.specs.Fraction.{Fraction}
 use Rattle.plus_tree.specs.declared.trees.Domain.{Domain}
 use Rattle.plus_tree.specs.declared.trees.Problem.{Problem}
 use Rattle.plus_types.specs.declared.faults.File.{File}
-use Rattle.plus_types.specs.declared.faults.File.TheVariants as files
 use Rattle.plus_report.specs.declared.refusals.Early.{Early}
 use Rattle.plus_report.specs.declared.refusals.Early.TheVariants as early
 use Rattle.plus_report.specs.declared.refusals.Text.TheVariants as texts
 use Rattle.plus_report.specs.declared.refusals.Word.TheVariants as words
 use Rattle.plus_report.specs.Refusals.{early_text}
-use Rattle.plus_printer.specs.Canon.{domain_text, problem_text}
 use Rattle.plus_translate.specs.declared.fault.TransFault.{TransFault}
 use Rattle.plus_translate.specs.declared.fault.TransFault.TheVariants.{NameTaken, OffGrid, TooDeep, Memory}
 use Rattle.plus_translate.specs.Translates.{IsTranslation, NoTranslation}
+use Rattle.plus_translation_printer.specs.Printed.{half_text}
 use Rattle.plus_pair.specs.declared.pair.Refusal.{Refusal}
 use Rattle.plus_pair.specs.declared.pair.Refusal.TheVariants as refusals
 use Rattle.plus_pair.specs.Pair.{text_named, PairRefused, SpellsWellTyped}
@@ -33,11 +32,6 @@ pub record IsUntranslated (q : Fraction) (d : Domain) (p : Problem) (refusal : R
   pub fault : TransFault
   pub cause : NoTranslation q d p fault
   pub refusal_is : refusal ≡ trans_refusal fault
-
--- the text of one half
-abbrev pub half_text : File → Domain → Problem → List ℕ
-half_text files.Domain d p = domain_text d
-half_text files.Problem d p = problem_text p
 
 -- What is written of a well-typed pair, with its status: one half of its translation; or the line that says why it has none.
 pub data TranslatesPair (file : File) (q : Fraction) (d : Domain) (p : Problem) (status : Status) (written : List ℕ) : Type 0 where

@@ -7,19 +7,19 @@ ghost use Rattle.plus_number.specs.Frac.{fraction_of};
 ghost use Rattle.plus_pair.specs.Pair.{text_limit};
 ghost use Rattle.plus_reply.specs.Reply.{IsPlain, HasCause};
 ghost use Rattle.plus_translate.specs.Translates.{IsTranslation};
-ghost use Rattle.plus_translate_command.specs.Translate.{trans_refusal, half_text, IsUntranslated, TranslatesPair, Translates};
+ghost use Rattle.plus_translate_command.specs.Translate.{trans_refusal, IsUntranslated, TranslatesPair, Translates};
 
 use plus_interval::Interval;
 use plus_io::Shelf;
-use plus_pair::pair::{Refusal, bad_text, pair, release, release_trees, text_for};
-use plus_reply::canonical::{domain_text, problem_text};
+use plus_pair::pair::{Refusal, bad_text, pair, release, text_for};
 use plus_reply::reply::{Fault, Reply, refused};
 use plus_reply::status::Status;
 use plus_report::{Early, Text, Word};
 use plus_translate::{TransFault, translate};
+use plus_translation_printer::translated_text;
 use plus_tree::{Domain, Problem};
 use plus_types::{File, Typed};
-use std::alloc::{AllocError, Global};
+use std::alloc::Global;
 
 // Why a pair has no translation.
 fn refuse_translation(fault: TransFault) -> Refusal
@@ -50,22 +50,6 @@ pub fn translated(
     }
 }
 
-// The text of one half.
-#[tactic(none)]
-fn half(
-    alloc: Global,
-    file: File,
-    domain: &Domain,
-    problem: &Problem,
-) -> Result<Vec<u8>, AllocError>
-    ensures { IfOk result (λ text. text.items ≡ half_text file domain.now problem.now) }
-{
-    match file {
-        File::Domain => domain_text(alloc, domain),
-        File::Problem => problem_text(alloc, problem),
-    }
-}
-
 // What is replied on a well-typed pair.
 #[tactic(none)]
 fn of_pair(alloc: Global, file: File, interval: Interval, typed: &Typed) -> Result<Reply, Fault>
@@ -73,19 +57,12 @@ fn of_pair(alloc: Global, file: File, interval: Interval, typed: &Typed) -> Resu
         typed.now.domain typed.now.problem r.status r.text.items) }
     ensures memory { IfErr result (λ fault. fault ≡ Fault.NoMemory) }
 {
-    match translated(alloc, typed, interval) {
-        Ok((domain, problem)) => {
-            let text = half(alloc, file, &domain, &problem);
-            release_trees(domain, problem);
-            match text {
-                Ok(text) => Ok(Reply {
-                    status: Status::Valid,
-                    text,
-                }),
-                Err(_) => Err(Fault::NoMemory),
-            }
-        }
-        Err(refusal) => refused(alloc, refusal),
+    match translated_text(alloc, file, typed, interval.value) {
+        Ok(text) => Ok(Reply {
+            status: Status::Valid,
+            text,
+        }),
+        Err(fault) => refused(alloc, refuse_translation(fault)),
     }
 }
 
