@@ -11,6 +11,8 @@ use mathlib.Core.Former.{Count}
 use Rattle.std.specs.Prelude.{Vec}
 use Rattle.std.specs.declared.alloc.Global.{Global}
 use Rattle.plus_state.specs.declared.term.Cond.{Cond, All, All', Any, Any', Row_of-Cond, end_of-Cond, more_of-Cond, items-the_row-Cond, items_hidden-the_row-Cond-0}
+use Rattle.plus_state.specs.declared.term.Cond as conds
+use Rattle.plus_state.specs.declared.term.AtomId.{AtomId}
 use Rattle.plus_state.specs.View.{condition_of, all_in, any_in}
 use Rattle.plus_state.specs.Fits.{Fits}
 use Rattle.plus_state.specs.Node.{Node}
@@ -217,6 +219,27 @@ pub deciding_stop : (all : Bool) (known k : Option Bool) (c : Condition) (rest w
 deciding_stop all known k c rest whole s h e d =
     let here : Some (not all) ≡ decided c s = sym d ∙ e in
     d ∙ sym (decides_behind all known) ∙ ap (join_decided all known) (sym (decides_here all _) ∙ ap (λ o. join_decided all o (decided (joined all rest) s)) here ∙ sym (decided_pair all c (joined all rest) s)) ∙ h.so_far
+
+neutral : (all : Bool) (known : Option Bool) → join_decided all known (Some all) ≡ known
+neutral true (Some true) = refl
+neutral true (Some false) = refl
+neutral true None = refl
+neutral false (Some true) = refl
+neutral false (Some false) = refl
+neutral false None = refl
+
+-- a member that changes nothing
+pub deciding_same : (all : Bool) (known : Option Bool) (c : Condition) (rest whole : List Condition) (s : State) → Deciding all known (c ∷ rest) whole s → Some all ≡ decided c s → Deciding all known rest whole s
+deciding_same all known c rest whole s h e =
+    subst (λ k. Deciding all k rest whole s) (neutral all known) (deciding_next all known (Some all) c rest whole s h e)
+
+pub member_atom : {Q : Type 0} (v : Q → Fraction) (cond : Cond Q) (a : AtomId) (positive b : Bool) (s : State) → cond ≡ conds.Atom a positive → b ≡ signed positive (atom_of s a.0) → Some b ≡ decided (condition_of v cond) s
+member_atom v cond a positive b s e h =
+    ap Some h ∙ decided_atom a.0 positive s ∙ ap (λ c. decided (condition_of v c) s) (sym e)
+
+pub member_compare : {Q : Type 0} (v : Q → Fraction) (cond : Cond Q) (test : _) (left right : _) (positive : Bool) (s : State) → cond ≡ conds.Compare test left right positive → None ≡ decided (condition_of v cond) s
+member_compare v cond test left right positive s e =
+    decided_compare _ _ _ positive s ∙ ap (λ c. decided (condition_of v c) s) (sym e)
 
 pub deciding_end : (all : Bool) (known : Option Bool) (whole : List Condition) (s : State) → Deciding all known [] whole s → known ≡ decided (joined all whole) s
 deciding_end all known whole s h = sym (decided_last all known) ∙ ap (join_decided all known) (sym (decided_unit all s)) ∙ h.so_far
