@@ -14,7 +14,7 @@ use Rattle.plus_state.specs.Steps.{updated_nodes}
 use Rattle.plus_state.proofs.Testing.{pass_none, pass_append, fail_left, fail_right}
 use Rattle.plus_state.specs.Changes.{patched_list, AreIn, Over, Rises}
 use Rattle.plus_state.proofs.PatchLemmas.{length-patched}
-use Rattle.plus_state.specs.Writes.{on, From, Ordered, Sorts, value_at, after, walk, shut, at_open}
+use Rattle.plus_state.specs.Writes.{on, From, Ordered, Sorts, value_at, after, walk, shut, is_open, at_open}
 
 pub in_append : {A : Type 0} (n : ℕ) (xs ys : List (ℕ × A)) → AreIn n xs → AreIn n ys → AreIn n (xs ++ ys)
 in_append n [] ys h g = g
@@ -195,6 +195,41 @@ lasting_next cs new o o' p rest whole h n g = record {
 pub lasting_end : (cs end : List (ℕ × Bool)) (o : Option (ℕ × Bool)) (whole : List (ℕ × Bool)) → Lasting cs o [] whole → end ≡ cs ++ as_list o → Rises end × ((n : ℕ) → AreIn n whole → AreIn n end) × ((bs : List Bool) → patched_list end bs ≡ patched_list whole bs)
 lasting_end cs end o whole h e =
     (subst Rises (sym e) (opening_end cs o h.opening), λ n i. subst (AreIn n) (sym e) (h.inside n i).1, λ bs. ap (λ l. patched_list l bs) e ∙ h.so_far bs)
+
+-- numbers that rise where none is that of the one before it
+over_less : {A : Type 0} (j k : ℕ) (xs : List (ℕ × A)) → j ≤ k → Over k xs → Over j xs
+over_less j k [] l h = tt
+over_less j k (x ∷ xs) l h = (omega (arith, l, h.0), over_less j k xs l h.1)
+
+abbrev OverOpen : {A : Type 0} → Option (ℕ × A) → List (ℕ × A) → Type 0
+OverOpen None rest = Unit {0}
+OverOpen (Some c) rest = Over c.0 rest
+
+pub record Rising {A : Type 0} (o : Option (ℕ × A)) (rest whole : List (ℕ × A)) : Type 0 where
+  pub order : Ordered rest
+  pub near : Near o rest
+  pub so_far : OverOpen o rest × Rises rest → Rises whole
+
+pub rising_start : {A : Type 0} (whole : List (ℕ × A)) → Ordered whole → Rising None whole whole
+rising_start whole h = record { order = h; near = tt; so_far = λ r. r.1 }
+
+behind_open : {A : Type 0} (o : Option (ℕ × A)) (p : ℕ × A) (rest : List (ℕ × A)) → Near o (p ∷ rest) → is_open o p.0 ≡ false → Over p.0 rest → OverOpen o (p ∷ rest)
+behind_open None p rest n e h = tt
+behind_open (Some c) p rest n e h =
+    let d = eqb-false c.0 p.0 e in
+    let l : c.0 < p.0 = omega (arith, n.0, d) in
+    (l, over_less c.0 p.0 rest (omega (arith, l)) h)
+
+pub rising_next : {A : Type 0} (o o' : Option (ℕ × A)) (p : ℕ × A) (rest whole : List (ℕ × A)) → Rising o (p ∷ rest) whole → is_open o p.0 ≡ false → o' ≡ Some p → Rising o' rest whole
+rising_next o o' p rest whole h e g = subst (λ x. Rising x rest whole) (sym g) (record {
+  order = h.order.1;
+  near = h.order.0;
+  so_far = λ r. h.so_far (behind_open o p rest h.near e r.0, r);
+})
+
+pub rising_end : {A : Type 0} (o : Option (ℕ × A)) (whole : List (ℕ × A)) → Rising o [] whole → Rises whole
+rising_end None whole h = h.so_far (tt, tt)
+rising_end (Some c) whole h = h.so_far (tt, tt)
 
 -- the last write on each number counts
 abbrev last_of : {A : Type 0} → List A → A → A

@@ -69,6 +69,11 @@ abbrev pub shut : {A : Type 0} → Option (ℕ × A) → ℕ → List (ℕ × A)
 shut None k = []
 shut (Some c) k = if nat_eq c.0 k then [] else c ∷ []
 
+-- the change that is open is one of this number
+abbrev pub is_open : {A : Type 0} → Option (ℕ × A) → ℕ → Bool
+is_open None k = false
+is_open (Some c) k = nat_eq c.0 k
+
 -- the value of number k where a change is open, else this one
 abbrev pub at_open : {A : Type 0} → Option (ℕ × A) → ℕ → A → A
 at_open None k d = d

@@ -1,11 +1,11 @@
 //! What becomes of atoms: what is deleted goes, and then what is added comes.
-ghost use Rattle.std.specs.Prelude.{◌≡◌, ◌++◌, true, false, length, map, option_map, IfOk};
+ghost use Rattle.std.specs.Prelude.{◌≡◌, ◌++◌, true, false, length, map, option_map, IfOk, IsTrue};
 ghost use Rattle.plus_model.specs.Joint.{new_atoms};
 ghost use Rattle.plus_state.specs.Due.{DuesFit, atom_changes as made_of};
 ghost use Rattle.plus_state.specs.Stops.{due_of};
 ghost use Rattle.plus_state.specs.Changes.{patched_list, AreIn, Rises};
 ghost use Rattle.plus_state.specs.ChangesView.{atom_change, atom_changes};
-ghost use Rattle.plus_state.specs.Writes.{Sorts, Ordered, put_of, puts_as, shut};
+ghost use Rattle.plus_state.specs.Writes.{Sorts, Ordered, put_of, puts_as, shut, is_open};
 
 use crate::changes::AtomChange;
 use crate::due::Due;
@@ -68,6 +68,31 @@ fn sorted_puts<Q: Exact>(alloc: Global, due: &[Due<Q>]) -> Result<Vec<AtomChange
     Ok(all)
 }
 
+// Whether the change that is open is one of this atom.
+fn is_of(last: Option<AtomChange>, atom: AtomId) -> bool
+    ensures { result ≡ is_open (option_map atom_change last) atom.0 }
+{
+    match last {
+        None => false,
+        Some(c) => c.atom.0 == atom.0,
+    }
+}
+
+// Whether no atom is changed twice.
+fn are_once(puts: &[AtomChange]) -> bool
+    requires { Ordered (atom_changes puts.now) }
+    ensures { IsTrue result → Rises (atom_changes puts.now) }
+{
+    let mut last: Option<AtomChange> = None;
+    'each: for put in puts {
+        if is_of(last, put.atom) {
+            return false;
+        }
+        last = Some(*put);
+    }
+    true
+}
+
 // Ends the change that is open, unless it is one of this atom.
 fn end_open(
     changes: &mut Vec<AtomChange>,
@@ -117,6 +142,9 @@ pub fn changed_atoms<Q: Exact>(alloc: Global, due: &[Due<Q>]) -> Result<Vec<Atom
     ensures same { IfOk result (λ c. (bs : _) → patched_list (atom_changes c.items) bs ≡ new_atoms 0 (made_of (map (due_of Q.value) due.now)) bs) }
 {
     let puts = sorted_puts(alloc, due)?;
+    if are_once(&puts) {
+        return Ok(puts);
+    }
     let changes = last_of_each(alloc, &puts)?;
     Ok(changes)
 }
