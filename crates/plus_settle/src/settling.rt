@@ -8,6 +8,7 @@ ghost use Rattle.plus_settle.specs.Steps.{AllPass};
 ghost use Rattle.plus_settle.specs.Rates.{rates_steps};
 ghost use Rattle.plus_settle.specs.Members.{process_numbers, AreMembers};
 ghost use Rattle.plus_settle.specs.Settles.{condition_nodes, of_rate, OwnRates, Confirmed, own_then, SettleAnswers};
+ghost use Rattle.plus_settle.specs.Uncoupled.{Uncoupled};
 
 use crate::choices::{chosen, holding, settle_stop};
 use crate::confirms::first_other;
@@ -117,12 +118,29 @@ pub fn settle_from<Q: Exact>(
     Ok(Running { members, rates })
 }
 
+// The set of these members, which go on at these rates, where none of them reads a moving fluent.
+pub fn uncoupled<Q: Exact>(
+    ground: &Ground<Q>,
+    members: Vec<ProcessId>,
+    rates: Rates<Q>,
+) -> Result<Running<Q>, SettleStop<Q>>
+    requires members { AreMembers (length (ground.now.processes.items)) (process_numbers members.items) }
+    requires rates { length rates ≡ length (ground.now.fluents.items) }
+    ensures { Uncoupled (problem_of Q.value ground.now) (process_numbers members.items) rates result }
+{
+    match first_coupled(ground, &members, &rates) {
+        Some((process, fluent)) => Err(SettleStop::Coupled(process, fluent)),
+        None => Ok(Running { members, rates }),
+    }
+}
+
 /// The running set of a state and its net rates. The processes that hold in the state give rates, those
 /// that hold just after it at these rates are the set, and it must confirm itself: at its own rates
 /// exactly its members hold just after. No rate of a member may read a fluent that moves. The refusal
 /// is the first step that stops: the conditions of all processes, the rates of those that hold, all
 /// processes just after at these rates, the rates of the set, all processes just after at those up to
 /// the first that differs, and then the first member that reads a moving fluent; or want of memory.
+/// Where those that hold confirm themselves at once, nothing is asked twice.
 pub fn settle<Q: Exact>(
     alloc: Global,
     ground: &Ground<Q>,
@@ -135,5 +153,9 @@ pub fn settle<Q: Exact>(
 {
     let present = holding(alloc, ground, state)?;
     let first = own_rates(alloc, ground, &present, state)?;
-    settle_from(alloc, ground, &present, state, &first)
+    match first_other(ground, &present, state, &first) {
+        Err(stop) => Err(settle_stop(stop)),
+        Ok(Some(_)) => settle_from(alloc, ground, &present, state, &first),
+        Ok(None) => uncoupled(ground, present, first),
+    }
 }

@@ -13,8 +13,7 @@ ghost use Rattle.plus_settle.specs.Uncoupled.{Uncoupled};
 
 use crate::among::first_other_among;
 use crate::choices::settle_stop;
-use crate::coupling::first_coupled;
-use crate::settling::{Running, own_rates, settle_from};
+use crate::settling::{Running, own_rates, settle_from, uncoupled};
 use crate::stops::SettleStop;
 use plus_crossing::rates::Rates;
 use plus_number::exact::Exact;
@@ -38,8 +37,8 @@ fn readers_of_moving<Q: Exact>(
     Ok(listed)
 }
 
-// The set of these members, which go on at these rates, where none of them reads a moving fluent.
-fn uncoupled<Q: Exact>(
+// The set of a copy of these members, which go on at these rates, where none of them reads a moving fluent.
+fn uncoupled_copy<Q: Exact>(
     alloc: Global,
     ground: &Ground<Q>,
     members: &[ProcessId],
@@ -49,12 +48,9 @@ fn uncoupled<Q: Exact>(
     requires rates { length rates ≡ length (ground.now.fluents.items) }
     ensures { Uncoupled (problem_of Q.value ground.now) (process_numbers members.now) rates result }
 {
-    match first_coupled(ground, members, &rates) {
-        Some(pair) => Err(SettleStop::Coupled(pair.0, pair.1)),
-        None => match Vec::from_slice(alloc, members) {
-            Err(_) => Err(SettleStop::Memory),
-            Ok(members) => Ok(Running { members, rates }),
-        },
+    match Vec::from_slice(alloc, members) {
+        Err(_) => Err(SettleStop::Memory),
+        Ok(members) => uncoupled(ground, members, rates),
     }
 }
 
@@ -83,7 +79,7 @@ pub fn settle_among<Q: Exact>(
         Ok(listed) => match first_other_among(ground, present, state, &first, &listed) {
             Err(stop) => Err(settle_stop(stop)),
             Ok(Some(_)) => settle_from(alloc, ground, present, state, &first),
-            Ok(None) => uncoupled(alloc, ground, present, first),
+            Ok(None) => uncoupled_copy(alloc, ground, present, first),
         },
     }
 }

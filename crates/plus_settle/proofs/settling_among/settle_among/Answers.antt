@@ -32,8 +32,8 @@ first_other_among-requires-clause-others g c =
     let r = subst (λ (xs : List _). ReadAny c.args.readers.now (moving_of c.in_ok-first.first) (process_numbers xs)) (sym c.deref.ensures.value) c.in-Ok.ensures in
     others_confirmed g.Q.Exact.fits P c.args.state.now c.args.readers.now (process_numbers c.args.present.now) c.in_ok-first.first (process_numbers c.deref.result.now) g.met.Q.Exact.zero_fits c.requires.pass c.requires.present c.requires.readers r
 
-pub uncoupled-requires-clause-members : goal.uncoupled-requires-clause-members
-uncoupled-requires-clause-members g c =
+pub uncoupled_copy-requires-clause-members : goal.uncoupled_copy-requires-clause-members
+uncoupled_copy-requires-clause-members g c =
     holding_members (problem_of g.Q.Exact.value c.args.ground.now) c.args.state.now _ _ (length-map c.args.ground.now.processes.items (process_of g.Q.Exact.value)) c.requires.present
 
 pub returns-in-Err-first_other_among-clause-told : goal.returns-in-Err-first_other_among-clause-told
@@ -48,10 +48,10 @@ returns-in-Ok-None-clause-told g c =
     let t = c.in_ok-first.ensures.told in
     let h = rw c.in-Ok-None.field-0-is at c.in-Ok-None.ensures in
     let n = holding_members P c.args.state.now (length P.processes) (process_numbers c.args.present.now) refl c.requires.present in
-    short_way g.Q.Exact.value g.Q.Exact.fits P c.args.state.now (process_numbers c.args.present.now) c.in_ok-first.first c.requires.pass c.requires.present t.0 t.1 n h.0 h.1 h.2 c.uncoupled.result c.uncoupled.ensures
+    short_way g.Q.Exact.value g.Q.Exact.fits P c.args.state.now (process_numbers c.args.present.now) c.in_ok-first.first c.requires.pass c.requires.present t.0 t.1 n h.0 h.1 h.2 c.uncoupled_copy.result c.uncoupled_copy.ensures
 
 pub returns-in-Ok-None-clause-members : goal.returns-in-Ok-None-clause-members
 returns-in-Ok-None-clause-members g c =
     let P = problem_of g.Q.Exact.value c.args.ground.now in
-    short_members P (process_numbers c.args.present.now) c.in_ok-first.first _ c.uncoupled.result c.uncoupled.ensures
+    short_members P (process_numbers c.args.present.now) c.in_ok-first.first _ c.uncoupled_copy.result c.uncoupled_copy.ensures
     (holding_members P c.args.state.now _ _ (length-map c.args.ground.now.processes.items (process_of g.Q.Exact.value)) c.requires.present)
