@@ -1,10 +1,12 @@
 -- Searching a table of names is searching the list of their bytes.
-use Rattle.std.proofs.Common.{◌≡◌, ℕ, zero, suc, ◌+◌, ◌<◌, ◌≤◌, Bool, true, false, List, [], ◌∷◌, ap, sym, refl, ◌∙◌, map, length, cond, position, ◌||◌, drop, drop-cons, get_or, arith, Vec, Global, Bor, ◌&&◌}
+use Rattle.std.proofs.Common.{◌≡◌, ℕ, zero, suc, ◌+◌, ◌<◌, ◌≤◌, Bool, true, false, List, [], ◌∷◌, ap, sym, refl, ◌∙◌, map, length, cond, position, ◌||◌, drop, drop-cons, get_or, arith, Bor, ◌&&◌, not, None, Some, nat_lt, add-one}
+use Rattle.smallvec.specs.SmallVec.{SmallVec}
 use Rattle.std.specs.Str.{bytes_eq}
 use Rattle.std.specs.Cmp.Lexicographic.{pointwise}
 use Rattle.plus_types.specs.Faults.{same_names}
-use Rattle.std.specs.List.{list_any, prefix_len}
+use Rattle.std.specs.List.{list_any, prefix_len, position_or_len}
 use Rattle.std.proofs.lemmas.List.{length-map}
+use Rattle.std.proofs.lemmas.Bool.Decides.{nat_tests}
 
 pub list_any-map : {X Y : Type 0} (p : Y → Bool) (f : X → Y) (xs : List X) → list_any p (map f xs) ≡ list_any (λ x. p (f x)) xs
 list_any-map p f [] = refl
@@ -38,10 +40,46 @@ same-shown (x ∷ xs) [] = refl
 same-shown (x ∷ xs) (y ∷ ys) = ap (λ b. bytes_eq x.now y.now && b) (same-shown xs ys)
 
 pub any-same-shown :
-    (k : List (Bor (List ℕ))) (keys : List (Vec (Bor (List ℕ)) Global))
+    (k : List (Bor (List ℕ))) (keys : List (SmallVec (Bor (List ℕ))))
     → list_any (λ y. pointwise (λ x z. bytes_eq x.now z.now) k y.items) keys
     ≡ list_any (same_names (map (λ n. n.now) k)) (map (λ key. map (λ n. n.now) key.items) keys)
 any-same-shown k [] = refl
 any-same-shown k (y ∷ ys) =
     ap (λ b. b || list_any (λ z. pointwise (λ x w. bytes_eq x.now w.now) k z.items) ys) (same-shown k y.items)
     ∙ ap (λ b. same_names (map (λ n. n.now) k) (map (λ n. n.now) y.items) || b) (any-same-shown k ys)
+
+-- none of the members so far passes, and neither does this one
+pub none-yet :
+    {X : Type 0} (p : X → Bool) (xs : List X) (i : ℕ) (x : X)
+    → i < length xs → x ≡ get_or xs i x → p x ≡ false
+    → position_or_len p xs ≡ i + position_or_len p (drop i xs)
+    → position_or_len p xs ≡ (i + 1) + position_or_len p (drop (i + 1) xs)
+none-yet p xs i x h m e s =
+    let rest = position_or_len p (drop (suc i) xs) in
+    let step : position_or_len p (drop i xs) ≡ 1 + rest =
+    ap (position_or_len p) (drop-cons xs i x h) ∙ ap (λ y. cond (not (p y)) (1 + rest) 0) (sym m) ∙ ap (λ b. cond (not b) (1 + rest) 0) e in
+    rw add-one (omega (arith, s, step))
+
+-- none of the members so far passes, and this one does
+pub first-found :
+    {X : Type 0} (p : X → Bool) (xs : List X) (i : ℕ) (x : X)
+    → i < length xs → x ≡ get_or xs i x → p x ≡ true
+    → position_or_len p xs ≡ i + position_or_len p (drop i xs)
+    → Some i ≡ position p xs
+first-found p xs i x h m e s =
+    let rest = position_or_len p (drop (suc i) xs) in
+    let step : position_or_len p (drop i xs) ≡ 0 =
+    ap (position_or_len p) (drop-cons xs i x h) ∙ ap (λ y. cond (not (p y)) (1 + rest) 0) (sym m) ∙ ap (λ b. cond (not b) (1 + rest) 0) e in
+    let at : position_or_len p xs ≡ i = omega (arith, s, step) in
+    let within : nat_lt i (length xs) ≡ true = grind (arith, nat_tests) in
+    sym (ap (λ n. cond (nat_lt n (length xs)) (Some n) None) at ∙ ap (λ b. cond b (Some i) None) within)
+
+-- no member passes
+pub none-found :
+    {X : Type 0} (p : X → Bool) (xs : List X) (i : ℕ)
+    → length xs ≤ i → position_or_len p xs ≡ i + position_or_len p (drop i xs)
+    → None ≡ position p xs
+none-found p xs i h s =
+    let past : length xs ≤ position_or_len p xs = omega (arith, h, s) in
+    let beyond : nat_lt (position_or_len p xs) (length xs) ≡ false = grind (arith, nat_tests) in
+    sym (ap (λ b. cond b (Some (position_or_len p xs)) None) beyond)

@@ -11,13 +11,17 @@ use crate::known::Known;
 use crate::uses::used;
 use indexmap::IndexSet;
 use plus_tree::{Init, Term, Use};
+use smallvec::SmallVec;
 use std::alloc::{AllocError, Global};
 use std::marker::Model;
+
+/// The names of a ground fluent: its own, and those of its objects.
+type Key<'a> = SmallVec<&'a [u8], 4>;
 
 /// The ground fluents that have a first value. Contracts see each as the list of its names.
 #[derive(Drop)]
 struct Valued<'a> {
-    table: IndexSet<Vec<&'a [u8]>>,
+    table: IndexSet<Key<'a>>,
 }
 
 impl<'a> Model for Valued<'a> {
@@ -41,10 +45,10 @@ fn term_name(term: &Term) -> &[u8]
 }
 
 // The names of a ground fluent.
-fn key<'a>(alloc: Global, fluent: &'a Use) -> Result<Vec<&'a [u8]>, AllocError>
+fn key<'a>(alloc: Global, fluent: &'a Use) -> Result<Key<'a>, AllocError>
     ensures { IfOk result (λ key. map (λ name. name.now) key.items ≡ ground_name fluent.now) }
 {
-    let mut names = Vec::new(alloc);
+    let mut names = SmallVec::new(alloc);
     names.push(fluent.head.name.bytes())?;
     'terms: for arg in fluent.args.as_slice() {
         names.push(term_name(arg))?;

@@ -8,6 +8,9 @@ use indexmap::IndexSet;
 use std::alloc::{AllocError, Global};
 use std::marker::Model;
 
+// A name is sought one by one among so many, and by its hash among more.
+const FEW: usize = 4;
+
 /// Names without repeats, in the order in which they were added.
 #[derive(Drop)]
 pub struct Names {
@@ -47,7 +50,16 @@ impl Names {
         ensures place { result ≡ position (bytes_eq name.now) self.now }
         ensures within { IfSome result (λ i. i < length self.now) }
     {
-        self.table.get_index_of(name)
+        let keys = self.table.as_slice();
+        if keys.len() > FEW {
+            return self.table.get_index_of(name);
+        }
+        'keys: for place in 0..keys.len() {
+            if name == keys[place].as_slice() {
+                return Some(place);
+            }
+        }
+        None
     }
 
     /// The name at a place.
