@@ -100,6 +100,33 @@ fn truth_after<Q: Exact>(
     }
 }
 
+// The same, where a lone comparison needs no look at what atoms decide.
+#[tactic(auto, using(crate::proofs::Walking::afters))]
+fn soon<Q: Exact>(
+    cond: &Cond<Q>,
+    state: &State<Q>,
+    rates: &Rates<Q>,
+    before: u32,
+) -> Result<bool, CondStop<Q>>
+    requires fits { Fits (length (state.now.atoms)) (length (state.now.fluents)) (condition_of Q.value cond.now) }
+    requires rates { length rates.now ≡ length (state.now.fluents) }
+    requires few { before + comparisons_of (condition_of Q.value cond.now) < 2 ^ 32 }
+    ensures { AfterAnswers Q.value Q.fits before (condition_of Q.value cond.now) state.now rates.now result }
+{
+    match cond {
+        Cond::Compare {
+            test,
+            left,
+            right,
+            positive,
+        } => match compare_after(*test, left, right, *positive, state, rates) {
+            Ok(truth) => Ok(truth),
+            Err(stop) => Err(at(stop, before + 1)),
+        },
+        _ => truth_after(cond, state, rates, before),
+    }
+}
+
 /// Whether a condition holds just after a state: at every moment soon enough after it, when the fluents
 /// move at these rates. The refusal is the first test that fails: the live comparisons in the order of
 /// the text, of each the piece of the left side and, where that has a value, of the right.
@@ -113,6 +140,6 @@ pub fn just_after<Q: Exact>(
     requires few { comparisons_of (condition_of Q.value cond.now) < 2 ^ 32 }
     ensures { JustAfterAnswers Q.value Q.fits (condition_of Q.value cond.now) state.now rates.now result }
 {
-    let truth = truth_after(cond, state, rates, 0)?;
+    let truth = soon(cond, state, rates, 0)?;
     Ok(truth)
 }

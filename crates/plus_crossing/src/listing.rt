@@ -107,6 +107,32 @@ fn roots_from<Q: Exact>(
     }
 }
 
+// The same, where a lone comparison needs no look at what atoms decide.
+#[tactic(auto, using(crate::proofs::RootLists::listing))]
+fn roots_of<Q: Exact>(
+    cond: &Cond<Q>,
+    state: &State<Q>,
+    rates: &Rates<Q>,
+    before: u32,
+    into: &mut Vec<Q>,
+) -> Result<(), RootsStop<Q>>
+    requires fits { Fits (length (state.now.atoms)) (length (state.now.fluents)) (condition_of Q.value cond.now) }
+    requires rates { length rates.now ≡ length (state.now.fluents) }
+    requires few { before + comparisons_of (condition_of Q.value cond.now) < 2 ^ 32 }
+    ensures { RootsTell Q.value Q.fits before (condition_of Q.value cond.now) state.now rates.now into.old.items into.new.items result }
+{
+    match cond {
+        Cond::Compare { left, right, .. } => match compare_root(left, right, state, rates) {
+            Err(stop) => Err(RootsStop::Condition(at(stop, before + 1))),
+            Ok(root) => match append(into, root) {
+                Err(_) => Err(RootsStop::Memory),
+                Ok(()) => Ok(()),
+            },
+        },
+        _ => roots_from(cond, state, rates, before, into),
+    }
+}
+
 /// Appends the moments above 0 at which the sides of a live comparison meet, when the fluents move at
 /// these rates: one for each such comparison, in the order of the text. The refusal is the first test
 /// that fails: the live comparisons in the order of the text, of each the pieces of its sides and then
@@ -122,5 +148,5 @@ pub fn roots_into<Q: Exact>(
     requires few { comparisons_of (condition_of Q.value cond.now) < 2 ^ 32 }
     ensures { RootsTell Q.value Q.fits 0 (condition_of Q.value cond.now) state.now rates.now into.old.items into.new.items result }
 {
-    roots_from(cond, state, rates, 0, into)
+    roots_of(cond, state, rates, 0, into)
 }

@@ -97,6 +97,62 @@ fn quotient<Q: Exact>(x: Linear<Q>, y: Linear<Q>) -> Result<Option<Linear<Q>>, P
     Ok(Some(Linear { value, slope }))
 }
 
+// The piece of an expression, whose operands are worked from the left.
+#[tactic(auto, using(crate::proofs::Joins::joins))]
+fn calculated<Q: Exact>(
+    expr: &Expr<Q>,
+    state: &State<Q>,
+    rates: &Rates<Q>,
+) -> Result<Option<Linear<Q>>, PieceStop<Q>>
+    requires fits { IsIn (length (state.now.fluents)) (expression_of Q.value expr.now) }
+    requires rates { length rates.now ≡ length (state.now.fluents) }
+    ensures { Worked Q.value Q.fits
+        (piece_in (expression_of Q.value expr.now) state.now rates.now)
+        (piece_asks (expression_of Q.value expr.now) state.now rates.now) result }
+{
+    match expr {
+        Expr::Number(x) => Ok(Some(Linear {
+            value: *x,
+            slope: zero(),
+        })),
+        Expr::Fluent(f) => match state.fluent(*f) {
+            None => Ok(None),
+            Some(v) => Ok(Some(Linear {
+                value: v,
+                slope: rates.get(*f),
+            })),
+        },
+        Expr::Add(a, b) => match calculated(a, state, rates)? {
+            None => Ok(None),
+            Some(x) => match calculated(b, state, rates)? {
+                None => Ok(None),
+                Some(y) => Ok(sum(x, y)?),
+            },
+        },
+        Expr::Sub(a, b) => match calculated(a, state, rates)? {
+            None => Ok(None),
+            Some(x) => match calculated(b, state, rates)? {
+                None => Ok(None),
+                Some(y) => Ok(difference(x, y)?),
+            },
+        },
+        Expr::Mul(a, b) => match calculated(a, state, rates)? {
+            None => Ok(None),
+            Some(x) => match calculated(b, state, rates)? {
+                None => Ok(None),
+                Some(y) => Ok(product(x, y)?),
+            },
+        },
+        Expr::Div(a, b) => match calculated(a, state, rates)? {
+            None => Ok(None),
+            Some(x) => match calculated(b, state, rates)? {
+                None => Ok(None),
+                Some(y) => Ok(quotient(x, y)?),
+            },
+        },
+    }
+}
+
 /// Value and slope of an expression in a state, along these rates; none where it has no value. The
 /// refusal is the first test that fails, operands from the left.
 #[tactic(auto, using(crate::proofs::Joins::joins))]
@@ -123,33 +179,9 @@ pub fn piece<Q: Exact>(
                 slope: rates.get(*f),
             })),
         },
-        Expr::Add(a, b) => match piece(a, state, rates)? {
-            None => Ok(None),
-            Some(x) => match piece(b, state, rates)? {
-                None => Ok(None),
-                Some(y) => Ok(sum(x, y)?),
-            },
-        },
-        Expr::Sub(a, b) => match piece(a, state, rates)? {
-            None => Ok(None),
-            Some(x) => match piece(b, state, rates)? {
-                None => Ok(None),
-                Some(y) => Ok(difference(x, y)?),
-            },
-        },
-        Expr::Mul(a, b) => match piece(a, state, rates)? {
-            None => Ok(None),
-            Some(x) => match piece(b, state, rates)? {
-                None => Ok(None),
-                Some(y) => Ok(product(x, y)?),
-            },
-        },
-        Expr::Div(a, b) => match piece(a, state, rates)? {
-            None => Ok(None),
-            Some(x) => match piece(b, state, rates)? {
-                None => Ok(None),
-                Some(y) => Ok(quotient(x, y)?),
-            },
-        },
+        Expr::Add(_, _) => Ok(calculated(expr, state, rates)?),
+        Expr::Sub(_, _) => Ok(calculated(expr, state, rates)?),
+        Expr::Mul(_, _) => Ok(calculated(expr, state, rates)?),
+        Expr::Div(_, _) => Ok(calculated(expr, state, rates)?),
     }
 }
