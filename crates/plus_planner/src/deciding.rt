@@ -7,6 +7,7 @@ ghost use Rattle.plus_planner.specs.Standing.{CanReach};
 ghost use Rattle.plus_planner.specs.Places.{now_in, base_in, task_from, StandsBehind, ActFails, Goes, ActEnds, WaitEnds, CanTry, Walks};
 
 use crate::carrying::{carry, refused};
+use crate::held::Held;
 use crate::places::{Place, Taken};
 use plus_number::exact::Exact;
 use plus_search::Fate;
@@ -30,6 +31,7 @@ fn refuses<Q: Exact>(action: &Action<Q>, timeline: &Timeline<Q>) -> Option<Fate>
 
 // Carries a timeline to a time. Where it comes there, the decision is taken.
 fn go<Q: Exact>(
+    alloc: Global,
     ground: &Ground<Q>,
     taken: &mut Vec<Taken<Q>>,
     mut timeline: Timeline<Q>,
@@ -42,14 +44,21 @@ fn go<Q: Exact>(
 {
     let fate = carry(&mut timeline, ground, time)?;
     match fate {
-        Fate::Alive => taken.push(Taken { decision, timeline })?,
+        Fate::Alive => {
+            let held = Held::new(alloc, timeline)?;
+            taken.push(Taken {
+                decision,
+                timeline: held,
+            })?;
+        }
         Fate::Broken => {}
         Fate::Beyond => {}
     }
     Ok(fate)
 }
 
-// Does an action at the present time.
+// Does an action at the present time. Its condition is asked first: most tries end there, and pay nothing
+// for what the rest takes.
 fn act<Q: Exact>(
     alloc: Global,
     ground: &Ground<Q>,
@@ -64,14 +73,31 @@ fn act<Q: Exact>(
     ensures start { OnOk result (place.new.start ≡ place.old.start) }
     ensures tried { OnOk result (place.new.tried ≡ place.old.tried) }
 {
-    let now = place.now();
-    if let Some(fate) = refuses(action, now) {
+    if let Some(fate) = refuses(action, place.now()) {
         return Ok(fate);
     }
-    let mut timeline = now.copy(alloc)?;
+    perform(alloc, ground, action, place, decision)
+}
+
+// Does an action on a copy of the present timeline, and carries that on to the present time.
+fn perform<Q: Exact>(
+    alloc: Global,
+    ground: &Ground<Q>,
+    action: &Action<Q>,
+    place: &mut Place<Q>,
+    decision: u32,
+) -> Result<Fate, AllocError>
+    requires { CanTry (problem_of Q.value ground.now) (action_of Q.value action.now)
+        (now_in place.old.start place.old.taken.items) }
+    ensures ends { IfOk result (ActEnds Q.fits (problem_of Q.value ground.now) (action_of Q.value action.now)
+        decision (now_in place.old.start place.old.taken.items) place.old.taken.items place.new.taken.items) }
+    ensures start { OnOk result (place.new.start ≡ place.old.start) }
+    ensures tried { OnOk result (place.new.tried ≡ place.old.tried) }
+{
+    let mut timeline = place.now().copy(alloc)?;
     let time = timeline.time();
     match timeline.act(ground, action, 1) {
-        Ok(()) => go(ground, &mut place.taken, timeline, time, decision),
+        Ok(()) => go(alloc, ground, &mut place.taken, timeline, time, decision),
         Err(stop) => refused(stop),
     }
 }
@@ -98,7 +124,7 @@ fn wait<Q: Exact>(
         Err(_) => Ok(Fate::Beyond),
         Ok(time) => {
             let timeline = place.base(decision).copy(alloc)?;
-            go(ground, &mut place.taken, timeline, time, decision)
+            go(alloc, ground, &mut place.taken, timeline, time, decision)
         }
     }
 }

@@ -5,6 +5,7 @@ pub mod carrying;
 pub mod deciding;
 pub mod goals;
 pub mod guides;
+pub mod held;
 pub mod laws;
 pub mod listing;
 pub mod places;

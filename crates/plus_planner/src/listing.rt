@@ -25,7 +25,7 @@ fn list_one<Q: Exact>(
         return Ok(());
     }
     let label = Label::new(alloc, actions[number].label.bytes())?;
-    acts.push((taken.timeline.time(), label))?;
+    acts.push((taken.timeline.get().time(), label))?;
     Ok(())
 }
 

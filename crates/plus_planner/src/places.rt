@@ -1,5 +1,6 @@
 //! Where a walk over decisions stands.
 
+use crate::held::Held;
 use plus_number::exact::Exact;
 use plus_timeline::Timeline;
 
@@ -7,7 +8,7 @@ use plus_timeline::Timeline;
 #[derive(Drop)]
 pub struct Taken<Q: Exact> {
     pub decision: u32,
-    pub timeline: Timeline<Q>,
+    pub timeline: Held<Q>,
 }
 
 /// A decision that was taken and taken back, and how many had been taken before it.
@@ -35,7 +36,7 @@ impl<Q: Exact> Place<Q> {
         ensures { result.now ≡ now_in self.now.start self.now.taken.items }
     {
         match self.taken.last() {
-            Some(last) => &last.timeline,
+            Some(last) => last.timeline.get(),
             None => &self.start,
         }
     }
@@ -48,7 +49,7 @@ impl<Q: Exact> Place<Q> {
         let mut base = &self.start;
         for taken in &self.taken {
             if taken.decision < actions {
-                base = &taken.timeline;
+                base = taken.timeline.get();
             }
         }
         base

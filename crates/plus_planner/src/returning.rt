@@ -20,6 +20,9 @@ impl<Q: Exact> Place<Q> {
     pub fn find(&self, decision: u32) -> Option<usize>
         ensures { IfSome result (IsFoundAt (length self.now.taken.items) decision self.now.tried.items) }
     {
+        if self.rises(decision) {
+            return None;
+        }
         self.find_among(decision, self.tried.len())
     }
 
@@ -85,7 +88,7 @@ impl<Q: Exact> Place<Q> {
 
     // Whether a decision that was tried here is to be kept.
     fn may_keep(&self, taken: &Taken<Q>) -> bool {
-        is_small(&taken.timeline) && self.rises(taken.decision) && self.has_room()
+        is_small(taken.timeline.get()) && self.rises(taken.decision) && self.has_room()
     }
 
     /// Forgets what was tried behind the present place, and keeps a decision that was tried here, where it

@@ -1,5 +1,6 @@
 use Rattle.std.proofs.Common.{◌≡◌, ◌≤◌, map, ap, subst, sym, ◌∙◌}
 use Rattle.plus_state.specs.View.{action_of}
+use Rattle.plus_timeline.specs.Timeline.{TimelineView}
 use Rattle.plus_state.specs.declared.problem.Action.{Action}
 use Rattle.plus_planner.proofs.DecidingLemmas.{action_at, length_mapped}
 use Rattle.plus_planner.proofs.ListingLemmas.{list_wait, list_act}
@@ -21,4 +22,4 @@ returns g c =
     list_act v (map (action_of v) c.args.actions.now) c.args.acts.now.items c.args.taken.now.decision c.args.taken.now.timeline.now.time
     c.push.new.self.items (action_of v action) c.time.result c.in_ok-label.label
     (action_at (action_of v) c.args.actions.now c.args.taken.now.decision action c.if-number-actions.false c.index-actions-number.is)
-    (c.in_ok-label.ensures ∙ c.bytes.ensures ∙ label_of _ action (sym c.index-actions-number.is)) c.time.ensures c.in_ok-push.ensures.items
+    (c.in_ok-label.ensures ∙ c.bytes.ensures ∙ label_of _ action (sym c.index-actions-number.is)) (c.time.ensures ∙ ap (λ (t : TimelineView). t.now.time) c.get.ensures) c.in_ok-push.ensures.items
