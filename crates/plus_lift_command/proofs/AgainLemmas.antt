@@ -5,21 +5,17 @@ use Rattle.plus_fraction.specs.Fraction.{Fraction}
 use Rattle.plus_tree.specs.declared.trees.Domain.{Domain}
 use Rattle.plus_tree.specs.declared.trees.Problem.{Problem}
 use Rattle.plus_types.specs.declared.typed.Typed.{Typed}
-use Rattle.plus_types.specs.Faults.{type_faults, is_well_typed}
+use Rattle.plus_types.specs.Faults.{is_well_typed}
 use Rattle.plus_printer.specs.Canon.{domain_text, problem_text}
 use Rattle.plus_translate.specs.Translates.{IsTranslation}
 use Rattle.plus_pair.specs.declared.pair.Refusal.{Refusal}
 use Rattle.plus_pair.specs.declared.pair.Refusal.TheVariants as refusals
 use Rattle.plus_pair.specs.Pair.{SpellsPair, PairRefused, SpellsWellTyped}
 use Rattle.plus_pair.specs.Reads.{NotPair}
-use Rattle.plus_pair.proofs.SpelledLemmas.{none_at_all}
+use Rattle.plus_pair.proofs.SpelledLemmas.{well_spelled}
 use Rattle.plus_translate_command.specs.Translate.{IsUntranslated}
 use Rattle.plus_translate_command.proofs.TranslateLemmas.{translated_or_read}
 use Rattle.plus_lift_command.specs.Again.{refusal_printed, SpellsAgain, untranslated, unread, NotPrinted, NotReadAgain}
-
--- a well-typed pair that two texts spell
-pub spelled : (ds ps : List ℕ) (d : Domain) (p : Problem) → SpellsPair ds ps d p → IsTrue (is_well_typed d p) → SpellsWellTyped ds ps d p
-spelled ds ps d p h w = record { spelled = h; well_typed = none_at_all (type_faults d p) w }
 
 pub not_again : (q : Fraction) (d : Domain) (p : Problem) (r : Refusal) → IsUntranslated q d p r → NotReadAgain q d p r
 not_again q d p (refusals.Early e) h = untranslated h
@@ -44,7 +40,7 @@ pub printed_read : (d : Domain) (p : Problem) (ds ps : List ℕ) (t : Typed) →
     → IsTrue (is_well_typed t.domain t.problem) → SpellsWellTyped (domain_text d) (problem_text p) t.domain t.problem
 printed_read d p ds ps t i j h w =
     subst (λ x. SpellsWellTyped x (problem_text p) t.domain t.problem) i
-    (subst (λ x. SpellsWellTyped ds x t.domain t.problem) j (spelled ds ps t.domain t.problem h w))
+    (subst (λ x. SpellsWellTyped ds x t.domain t.problem) j (well_spelled ds ps t.domain t.problem h w))
 
 -- or refused
 pub printed_refused : (d : Domain) (p : Problem) (ds ps : List ℕ) (r s : Refusal) → ds ≡ domain_text d → ps ≡ problem_text p → NotPair ds ps r

@@ -1,3 +1,4 @@
+pub mod LawLemmas
 pub mod PairLemmas
 pub mod SpelledLemmas
 pub mod TextLemmas

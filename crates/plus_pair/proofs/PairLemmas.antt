@@ -14,6 +14,14 @@ use Rattle.plus_places.proofs.Problems as problems
 use Rattle.plus_types.specs.declared.faults.TypeFault.{TypeFault}
 use Rattle.plus_types.specs.declared.faults.TypeFault.TheVariants as types
 use Rattle.plus_types.specs.Faults.{type_faults, IsFirstFault}
+use Rattle.plus_types.specs.declared.faults.File.{File}
+use Rattle.plus_types.specs.declared.faults.Wrong.{Wrong}
+use Rattle.plus_typing.proofs.First.{first_fault_is_first_unmet}
+use Rattle.plus_tree.specs.declared.names.Span.{Span}
+use Rattle.plus_parser.specs.SpellsDomain.{SpellsWithin}
+use Rattle.plus_parser.specs.SpellsProblem.{SpellsProblemWithin}
+use Rattle.plus_grammar.proofs.Texts.{domain_texts, problem_texts}
+use Rattle.plus_pair.proofs.LawLemmas.{domain_place, problem_place}
 use Rattle.plus_report.specs.declared.refusals.Text.TheVariants as texts
 use Rattle.plus_report.specs.declared.refusals.Early as early
 use Rattle.plus_pair.specs.declared.pair.Refusal.{Refusal}
@@ -25,6 +33,15 @@ use Rattle.plus_pair.specs.Reads.{ReadsDomain, ReadsProblem, ReadsPair, NoDomain
 abbrev pub WasRead : Option (List ℕ) → List ℕ → Type 0
 WasRead bytes text = IfSome bytes (λ bs. (text ≡ bs) × (length bs ≤ 1048576))
 
+-- what was read of it is spelled by it
+pub domain_read : (bytes : Option (List ℕ)) (text : List ℕ) (d : Domain) → WasRead bytes text → SpellsWithin 64 text d → ReadsDomain bytes d
+domain_read None text d h s = tt
+domain_read (Some bs) text d h s = ((domain_texts 64 bs d).0 (subst (λ t. SpellsWithin 64 t d) h.0 s), h.1)
+
+pub problem_read : (bytes : Option (List ℕ)) (text : List ℕ) (p : Problem) → WasRead bytes text → SpellsProblemWithin 64 text p → ReadsProblem bytes p
+problem_read None text p h s = tt
+problem_read (Some bs) text p h s = ((problem_texts 64 bs p).0 (subst (λ t. SpellsProblemWithin 64 t p) h.0 s), h.1)
+
 domain_line :
     (bytes : Option (List ℕ)) (text : List ℕ) (fault : TextFault) (e : early.Early) → WasRead bytes text
     → IsPlace DomainTokens 64 text fault → text_refusal texts.Domain (length text) fault ≡ Early e
@@ -32,7 +49,7 @@ domain_line :
 domain_line None text fault e h f q = tt
 domain_line (Some bs) text fault e h f q =
     let place = subst (λ t. IsPlace DomainTokens 64 t fault) h.0 f in
-    no_domain fault h.1 (domains.spells_none 64 bs fault (omega arith) place) place (subst (λ t. text_refusal texts.Domain (length t) fault ≡ Early e) h.0 q)
+    no_domain fault h.1 (λ d sp. domains.spells_none 64 bs fault (omega arith) place d ((domain_texts 64 bs d).1 sp)) (domain_place 64 bs fault place) (subst (λ t. text_refusal texts.Domain (length t) fault ≡ Early e) h.0 q)
 
 no_domain_by :
     (bytes : Option (List ℕ)) (b n : ℕ) (text : List ℕ) (fault : TextFault) → WasRead bytes text
@@ -57,7 +74,7 @@ problem_line :
 problem_line None text fault e h f q = tt
 problem_line (Some bs) text fault e h f q =
     let place = subst (λ t. IsPlace ProblemTokens 64 t fault) h.0 f in
-    no_problem fault h.1 (problems.spells_none 64 bs fault (omega arith) place) place (subst (λ t. text_refusal texts.Problem (length t) fault ≡ Early e) h.0 q)
+    no_problem fault h.1 (λ p sp. problems.spells_none 64 bs fault (omega arith) place p ((problem_texts 64 bs p).1 sp)) (problem_place 64 bs fault place) (subst (λ t. text_refusal texts.Problem (length t) fault ≡ Early e) h.0 q)
 
 no_problem_by :
     (bytes : Option (List ℕ)) (b n : ℕ) (text : List ℕ) (fault : TextFault) → WasRead bytes text
@@ -101,19 +118,19 @@ pair_by_problem domain problem later d b m n ReadFault q k rd h = omega arith
 pair_by_problem domain problem later d b m n NoMemory q k rd h = tt
 
 types_then :
-    (domain problem : Option (List ℕ)) (d : Domain) (p : Problem) (fault : TypeFault) (e : early.Early) → ReadsDomain domain d
-    → ReadsProblem problem p → IsFirstFault (type_faults d p) fault → type_refusal fault ≡ Early e
+    (domain problem : Option (List ℕ)) (d : Domain) (p : Problem) (wrong : Wrong) (file : File) (span : Span) (e : early.Early) → ReadsDomain domain d
+    → ReadsProblem problem p → IsFirstFault (type_faults d p) (types.At wrong file span) → type_refusal (types.At wrong file span) ≡ Early e
     → IfSome domain (λ ds. IfSome problem (λ ps. PairRefused ds ps e))
-types_then None problem d p fault e rd rp f q = tt
-types_then (Some ds) None d p fault e rd rp f q = tt
-types_then (Some ds) (Some ps) d p fault e rd rp f q =
-    by_types d p fault (record { domain_within = rd.1; problem_within = rp.1; domain_spelled = rd.0; problem_spelled = rp.0 }) f q
+types_then None problem d p wrong file span e rd rp f q = tt
+types_then (Some ds) None d p wrong file span e rd rp f q = tt
+types_then (Some ds) (Some ps) d p wrong file span e rd rp f q =
+    by_types d p wrong file span (record { domain_within = rd.1; problem_within = rp.1; domain_spelled = rd.0; problem_spelled = rp.0 }) (first_fault_is_first_unmet d p wrong file span f) q
 
 types_by :
     (domain problem : Option (List ℕ)) (d : Domain) (p : Problem) (b n : ℕ) (fault : TypeFault) → ReadsDomain domain d
     → ReadsProblem problem p → IsFirstFault (type_faults d p) fault → NoPair domain problem b n (type_refusal fault)
 types_by domain problem d p b n types.Memory rd rp f = tt
-types_by domain problem d p b n (types.At wrong file span) rd rp f = types_then domain problem d p (types.At wrong file span) _ rd rp f refl
+types_by domain problem d p b n (types.At wrong file span) rd rp f = types_then domain problem d p wrong file span _ rd rp f refl
 
 pub pair_by_types :
     (domain problem later : Option (List ℕ)) (d : Domain) (p : Problem) (b n : ℕ) (fault : TypeFault) (r : Refusal) → later ≡ problem

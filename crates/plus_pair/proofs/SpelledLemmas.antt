@@ -4,13 +4,18 @@ use Rattle.std.specs.Prelude.{IfSome}
 use Rattle.plus_tree.specs.declared.trees.Domain.{Domain}
 use Rattle.plus_tree.specs.declared.trees.Problem.{Problem}
 use Rattle.plus_types.specs.Faults.{type_faults, is_empty, is_well_typed}
+use Rattle.plus_typing.proofs.Typed.{well_typed_by_statements}
 use Rattle.plus_report.specs.declared.refusals.Early.{Early}
-use Rattle.plus_pair.specs.Pair.{PairRefused, SpellsWellTyped}
+use Rattle.plus_pair.specs.Pair.{PairRefused, SpellsPair, SpellsWellTyped}
 use Rattle.plus_pair.specs.Reads.{ReadsPair}
 
-pub none_at_all : {A : Type 0} (xs : List A) → IsTrue (is_empty xs) → xs ≡ []
+none_at_all : {A : Type 0} (xs : List A) → IsTrue (is_empty xs) → xs ≡ []
 none_at_all [] w = refl
 none_at_all (x ∷ xs) w = absurd (search rules)
+
+-- a pair that two texts spell and in which a walk finds no fault meets the rules
+pub well_spelled : (ds ps : List ℕ) (d : Domain) (p : Problem) → SpellsPair ds ps d p → IsTrue (is_well_typed d p) → SpellsWellTyped ds ps d p
+well_spelled ds ps d p h w = record { spelled = h; well_typed = (well_typed_by_statements d p).0 (none_at_all (type_faults d p) w) }
 
 -- ---- where the shelf tells both texts, what is shown of the pair read is shown of them
 pub on_pair :
@@ -20,7 +25,7 @@ pub on_pair :
 on_pair None problem d p P r w f = tt
 on_pair (Some ds) None d p P r w f = tt
 on_pair (Some ds) (Some ps) d p P r w f =
-    f ds ps (record { spelled = r; well_typed = none_at_all (type_faults d p) w })
+    f ds ps (well_spelled ds ps d p r w)
 
 pub told :
     (domain problem : Option (List ℕ)) (e : Early) (P : List ℕ → List ℕ → Type 0)

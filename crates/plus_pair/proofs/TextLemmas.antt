@@ -10,7 +10,6 @@ use Rattle.plus_places.specs.Place.{Refuses}
 use Rattle.plus_types.specs.declared.faults.TypeFault.{TypeFault}
 use Rattle.plus_types.specs.Faults.{type_faults, IsFirstFault}
 use Rattle.plus_report.specs.declared.refusals.Text.TheVariants as texts
-use Rattle.plus_report.specs.declared.refusals.Early as early
 use Rattle.plus_report.specs.declared.refusals.Early.TheVariants.{TooLong}
 use Rattle.plus_pair.specs.declared.pair.Refusal.{Refusal}
 use Rattle.plus_pair.specs.declared.pair.Refusal.TheVariants.{Early, ReadFault, NoMemory}

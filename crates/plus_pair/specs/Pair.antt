@@ -1,13 +1,14 @@
 -- The domain and the problem that two texts spell, and why two texts are no pair. The domain's text comes first: its
 -- length, then its tree; then the problem's; then their types.
-use Rattle.std.specs.Prelude.{◌≡◌, ℕ, ◌+◌, ◌-◌, ◌^◌, ◌<◌, ◌≤◌, min, List, [], length}
+use Rattle.std.specs.Prelude.{◌≡◌, ℕ, ◌+◌, ◌-◌, ◌^◌, ◌<◌, ◌≤◌, min, List, length}
 use Rattle.plus_tokens.specs.declared.token.LexFault.TheVariants as lex
 use Rattle.plus_tree.specs.declared.faults.TextFault.{TextFault}
 use Rattle.plus_tree.specs.declared.faults.TextFault.TheVariants as faults
 use Rattle.plus_tree.specs.declared.trees.Domain.{Domain}
 use Rattle.plus_tree.specs.declared.trees.Problem.{Problem}
-use Rattle.plus_parser.specs.SpellsDomain.{DomainTokens, SpellsWithin}
-use Rattle.plus_parser.specs.SpellsProblem.{ProblemTokens, SpellsProblemWithin}
+use Rattle.plus_tree.specs.declared.names.Span.{Span}
+use Rattle.plus_grammar.specs.Wholes.{IsDomain, IsProblem}
+use Rattle.plus_grammar.specs.Texts.{IsDomainText, IsProblemText}
 use Rattle.plus_places.specs.Place.{IsPlace}
 use Rattle.plus_types.specs.declared.faults.File.{File}
 use Rattle.plus_types.specs.declared.faults.File.TheVariants as files
@@ -15,7 +16,9 @@ use Rattle.plus_types.specs.declared.faults.Wrong.{Wrong}
 use Rattle.plus_types.specs.declared.faults.Wrong.TheVariants as wrongs
 use Rattle.plus_types.specs.declared.faults.TypeFault.{TypeFault}
 use Rattle.plus_types.specs.declared.faults.TypeFault.TheVariants as types
-use Rattle.plus_types.specs.Faults.{type_faults, IsFirstFault}
+use Rattle.plus_typing.specs.WellTyped.{IsWellTyped}
+use Rattle.plus_typing.specs.Asked.{rules_asked}
+use Rattle.plus_typing.specs.Laws.{IsFirstUnmet}
 use Rattle.plus_report.specs.declared.refusals.Text.{Text}
 use Rattle.plus_report.specs.declared.refusals.Text.TheVariants as texts
 use Rattle.plus_report.specs.declared.refusals.Word.{Word}
@@ -69,35 +72,36 @@ type_refusal types.Memory = NoMemory
 pub data DomainRefused (text : List ℕ) (e : early.Early) : Type 0 where
   long_domain : text_limit < length text → e ≡ TooLong texts.Domain → DomainRefused text e
   no_domain :
-      (fault : TextFault) → length text ≤ text_limit → ((d : Domain) → SpellsWithin depth_limit text d → ⊥)
-      → IsPlace DomainTokens depth_limit text fault → text_refusal texts.Domain (length text) fault ≡ Early e → DomainRefused text e
+      (fault : TextFault) → length text ≤ text_limit → ((d : Domain) → IsDomainText depth_limit text d → ⊥)
+      → IsPlace IsDomain depth_limit text fault → text_refusal texts.Domain (length text) fault ≡ Early e → DomainRefused text e
 
 -- why the problem's text is refused, in the same way
 pub data ProblemRefused (text : List ℕ) (e : early.Early) : Type 0 where
   long_problem : text_limit < length text → e ≡ TooLong texts.Problem → ProblemRefused text e
   no_problem :
-      (fault : TextFault) → length text ≤ text_limit → ((p : Problem) → SpellsProblemWithin depth_limit text p → ⊥)
-      → IsPlace ProblemTokens depth_limit text fault → text_refusal texts.Problem (length text) fault ≡ Early e → ProblemRefused text e
+      (fault : TextFault) → length text ≤ text_limit → ((p : Problem) → IsProblemText depth_limit text p → ⊥)
+      → IsPlace IsProblem depth_limit text fault → text_refusal texts.Problem (length text) fault ≡ Early e → ProblemRefused text e
 
 -- the two texts are within their limits and spell this pair
 pub record SpellsPair (domain problem : List ℕ) (d : Domain) (p : Problem) : Type 0 where
   pub domain_within : length domain ≤ text_limit
   pub problem_within : length problem ≤ text_limit
-  pub domain_spelled : SpellsWithin depth_limit domain d
-  pub problem_spelled : SpellsProblemWithin depth_limit problem p
+  pub domain_spelled : IsDomainText depth_limit domain d
+  pub problem_spelled : IsProblemText depth_limit problem p
 
 -- Why two texts are no well-typed pair: the domain's text, or, where it spells a domain, the problem's, or, where the two
--- spell a pair, its types.
+-- spell a pair, the first rule of types that is not met, in the order in which they are asked.
 pub data PairRefused (domain problem : List ℕ) (e : early.Early) : Type 0 where
   by_domain : DomainRefused domain e → PairRefused domain problem e
   by_problem :
-      (d : Domain) → length domain ≤ text_limit → SpellsWithin depth_limit domain d → ProblemRefused problem e
+      (d : Domain) → length domain ≤ text_limit → IsDomainText depth_limit domain d → ProblemRefused problem e
       → PairRefused domain problem e
   by_types :
-      (d : Domain) (p : Problem) (fault : TypeFault) → SpellsPair domain problem d p → IsFirstFault (type_faults d p) fault
-      → type_refusal fault ≡ Early e → PairRefused domain problem e
+      (d : Domain) (p : Problem) (wrong : Wrong) (file : File) (span : Span) → SpellsPair domain problem d p
+      → IsFirstUnmet (rules_asked d p) wrong file span → type_refusal (types.At wrong file span) ≡ Early e
+      → PairRefused domain problem e
 
--- the two texts spell this pair, and it is well typed
+-- the two texts spell this pair, and it meets each rule of types
 pub record SpellsWellTyped (domain problem : List ℕ) (d : Domain) (p : Problem) : Type 0 where
   pub spelled : SpellsPair domain problem d p
-  pub well_typed : type_faults d p ≡ []
+  pub well_typed : IsWellTyped d p

@@ -4,8 +4,7 @@ use Rattle.std.specs.Prelude.{◌≡◌, ℕ, ◌<◌, ◌≤◌, List, length, 
 use Rattle.plus_io.specs.Faults.{Rose}
 use Rattle.plus_tree.specs.declared.trees.Domain.{Domain}
 use Rattle.plus_tree.specs.declared.trees.Problem.{Problem}
-use Rattle.plus_parser.specs.SpellsDomain.{SpellsWithin}
-use Rattle.plus_parser.specs.SpellsProblem.{SpellsProblemWithin}
+use Rattle.plus_grammar.specs.Texts.{IsDomainText, IsProblemText}
 use Rattle.plus_report.specs.declared.refusals.Text.{Text}
 use Rattle.plus_report.specs.declared.refusals.Early.TheVariants.{TooLong}
 use Rattle.plus_pair.specs.declared.pair.Refusal.{Refusal}
@@ -19,10 +18,10 @@ NotRead text bytes before now ReadFault = Rose before now
 NotRead text bytes before now NoMemory = Unit {0}
 
 abbrev pub ReadsDomain : Option (List ℕ) → Domain → Type 0
-ReadsDomain bytes d = IfSome bytes (λ bs. SpellsWithin depth_limit bs d × (length bs ≤ text_limit))
+ReadsDomain bytes d = IfSome bytes (λ bs. IsDomainText depth_limit bs d × (length bs ≤ text_limit))
 
 abbrev pub ReadsProblem : Option (List ℕ) → Problem → Type 0
-ReadsProblem bytes p = IfSome bytes (λ bs. SpellsProblemWithin depth_limit bs p × (length bs ≤ text_limit))
+ReadsProblem bytes p = IfSome bytes (λ bs. IsProblemText depth_limit bs p × (length bs ≤ text_limit))
 
 abbrev pub ReadsPair : Option (List ℕ) → Option (List ℕ) → Domain → Problem → Type 0
 ReadsPair domain problem d p = IfSome domain (λ ds. IfSome problem (λ ps. SpellsPair ds ps d p))

@@ -1,11 +1,11 @@
 -- What `numeric` shows, put together from what its calls answer.
-use Rattle.std.proofs.Common.{◌≡◌, ℕ, ◌≤◌, List, [], Option, Some, None, subst, sym, ◌∙◌, ap, refl, false, IsTrue, inl, inr}
+use Rattle.std.proofs.Common.{◌≡◌, ℕ, ◌≤◌, List, [], Option, Some, None, subst, sym, ◌∙◌, refl, false, IsTrue, inl, inr}
 use Rattle.std.specs.Prelude.{IfSome}
 use Rattle.plus_io.specs.Taken.{Took, TookPart}
 use Rattle.plus_tree.specs.declared.trees.Domain.{Domain}
 use Rattle.plus_tree.specs.declared.trees.Problem.{Problem}
 use Rattle.plus_tree.specs.declared.trees.Call.{Call}
-use Rattle.plus_types.specs.Faults.{type_faults, is_well_typed}
+use Rattle.plus_types.specs.Faults.{is_well_typed}
 use Rattle.plus_report.specs.declared.refusals.Early.{Early}
 use Rattle.plus_report.specs.Refusals.{early_text}
 use Rattle.plus_numeric.specs.declared.answer.Kind.{Kind}
@@ -17,8 +17,8 @@ use Rattle.plus_reply.specs.declared.status.Status.TheVariants as s
 use Rattle.plus_run.specs.Command.{Command, Numeric}
 use Rattle.plus_pair.specs.Pair.{PairRefused, SpellsWellTyped}
 use Rattle.plus_pair.specs.Reads.{ReadsPair}
-use Rattle.plus_pair.proofs.SpelledLemmas.{none_at_all}
-use Rattle.plus_run.specs.Headline.{OnRefusal, RunsValid, RunsRefused, RunsBroken, IsAnswer}
+use Rattle.plus_pair.proofs.SpelledLemmas.{well_spelled}
+use Rattle.plus_run.specs.Headline.{OnRefusal, RunsRefused, RunsBroken, IsAnswer}
 use Rattle.plus_reply.specs.Statuses.{early_status, kind_status, Writes}
 use Rattle.plus_run.specs.Numeric.{valid_line, IsNumeric, IsNotNumeric, no_pair, no_plan, RunsNumeric, RefusesNumeric, BreaksNumeric, in_valid, in_refusal}
 use Rattle.plus_run.proofs.RunLemmas.{on_refusal, early_plain}
@@ -32,7 +32,7 @@ on_three :
 on_three None problem plan d p P r w f = tt
 on_three (Some ds) None plan d p P r w f = tt
 on_three (Some ds) (Some ps) None d p P r w f = tt
-on_three (Some ds) (Some ps) (Some ls) d p P r w f = f ds ps ls (record { spelled = r; well_typed = none_at_all (type_faults d p) w }) refl
+on_three (Some ds) (Some ps) (Some ls) d p P r w f = f ds ps ls (well_spelled ds ps d p r w) refl
 
 told : (P : List ℕ → Type 0) (later plan : Option (List ℕ)) (ls : List ℕ) → later ≡ plan → plan ≡ Some ls → IfSome later P → P ls
 told P later plan ls e f h = subst (λ o. IfSome o P) (e ∙ f) h

@@ -1,7 +1,6 @@
 -- A command over the same files has one answer.
 use Rattle.std.proofs.Common.{◌≡◌, ℕ, List, Option, Some, None, subst, sym, ◌∙◌, refl, inl, inr}
-use Rattle.plus_parser.specs.SpellsDomain.{SpellsWithin}
-use Rattle.plus_parser.specs.SpellsProblem.{SpellsProblemWithin}
+use Rattle.plus_grammar.specs.Texts.{IsDomainText, IsProblemText}
 use Rattle.plus_printer.specs.Canon.{domain_text, problem_text}
 use Rattle.plus_reply.specs.declared.status.Status.{Status}
 use Rattle.plus_reply.specs.declared.status.Status.TheVariants as s
@@ -11,7 +10,7 @@ use Rattle.plus_translate_command.specs.Translate.{Translates}
 use Rattle.plus_translate_command.proofs.OneReply as translations
 use Rattle.plus_lift_command.specs.Lift.{Lifts}
 use Rattle.plus_lift_command.proofs.OneReply as lifts
-use Rattle.plus_run.specs.Command.{Command, Check, ShowDomain, ShowProblem, Numeric, Trial, Translate, Lift, Plan}
+use Rattle.plus_run.specs.Command.{Check, ShowDomain, ShowProblem, Numeric, Trial, Translate, Lift, Plan}
 use Rattle.plus_pair.specs.Pair.{depth_limit, DomainRefused, ProblemRefused}
 use Rattle.plus_run.specs.Headline.{usage_line}
 use Rattle.plus_reply.specs.Statuses.{Writes}
@@ -34,11 +33,11 @@ one_answer (Some (Check dn pn ln n)) bytes old new new' a b c d a' b' c' d' x y 
     both_checks n (bytes dn) (bytes pn) (bytes ln) old new new' x y t.0 t.1.0 t.1.1.0 g i
     h.valid h.refused (no_usage (Check dn pn ln n) x h.usage) k.valid k.refused (no_usage (Check dn pn ln n) y k.usage)
 one_answer (Some (ShowDomain f)) bytes old new new' a b c d a' b' c' d' x y t h k g i whole =
-    both_shows (SpellsWithin depth_limit) domain_text DomainRefused (bytes f) old new new' x y t.0
+    both_shows (IsDomainText depth_limit) domain_text DomainRefused (bytes f) old new new' x y t.0
     domain_spelled_once domain_refused_once domain_or_not g i
     h.valid h.refused (no_usage (ShowDomain f) x h.usage) k.valid k.refused (no_usage (ShowDomain f) y k.usage)
 one_answer (Some (ShowProblem f)) bytes old new new' a b c d a' b' c' d' x y t h k g i whole =
-    both_shows (SpellsProblemWithin depth_limit) problem_text ProblemRefused (bytes f) old new new' x y t.0
+    both_shows (IsProblemText depth_limit) problem_text ProblemRefused (bytes f) old new new' x y t.0
     problem_spelled_once problem_refused_once problem_or_not g i
     h.valid h.refused (no_usage (ShowProblem f) x h.usage) k.valid k.refused (no_usage (ShowProblem f) y k.usage)
 one_answer (Some (Numeric dn pn ln)) bytes old new new' a b c d a' b' c' d' x y t h k g i whole =

@@ -1,5 +1,5 @@
 -- What an answer of the top call shows.
-use Rattle.std.specs.Prelude.{◌≡◌, ℕ, List, [], Option, Some, None, IfSome, codes}
+use Rattle.std.specs.Prelude.{◌≡◌, ℕ, List, Option, Some, None, IfSome, codes}
 use Rattle.plus_io.specs.Faults.{Rose}
 use Rattle.plus_io.specs.Taken.{Took, TookPart}
 use Rattle.plus_tree.specs.declared.trees.Domain.{Domain}
@@ -10,8 +10,7 @@ use Rattle.plus_reply.specs.declared.status.Status.{Status}
 use Rattle.plus_reply.specs.declared.status.Status.TheVariants as s
 use Rattle.plus_report.specs.Refusals.{early_text}
 use Rattle.plus_validator.specs.Validates.{Accepts, Refuses, BreaksOff, RefusesPair, RefusesPairInPart}
-use Rattle.plus_parser.specs.SpellsDomain.{SpellsWithin}
-use Rattle.plus_parser.specs.SpellsProblem.{SpellsProblemWithin}
+use Rattle.plus_grammar.specs.Texts.{IsDomainText, IsProblemText}
 use Rattle.plus_printer.specs.Canon.{domain_text, problem_text}
 use Rattle.plus_run.specs.Command.{Command, Check, ShowDomain, ShowProblem, Numeric, Trial, Translate, Lift, Plan}
 use Rattle.plus_pair.specs.Pair.{depth_limit, PairRefused, DomainRefused, ProblemRefused}
@@ -41,9 +40,9 @@ RunsValid None bytes old new = ⊥
 RunsValid (Some (Check d p l n)) bytes old new =
     IfSome (bytes d) (λ ds. IfSome (bytes p) (λ ps. IfSome (bytes l) (λ ls. IsValidRun n ds ps ls old new)))
 RunsValid (Some (ShowDomain file)) bytes old new =
-    IfSome (bytes file) (λ text. IsShown (SpellsWithin depth_limit) domain_text text old new)
+    IfSome (bytes file) (λ text. IsShown (IsDomainText depth_limit) domain_text text old new)
 RunsValid (Some (ShowProblem file)) bytes old new =
-    IfSome (bytes file) (λ text. IsShown (SpellsProblemWithin depth_limit) problem_text text old new)
+    IfSome (bytes file) (λ text. IsShown (IsProblemText depth_limit) problem_text text old new)
 RunsValid (Some (Numeric d p l)) bytes old new =
     IfSome (bytes d) (λ ds. IfSome (bytes p) (λ ps. IfSome (bytes l) (λ ls. RunsNumeric ds ps ls old new)))
 RunsValid (Some (Trial n)) bytes old new = Replied (IsTrial n) old new s.Valid
@@ -108,9 +107,9 @@ RunsBroken None bytes old new = TookPart old new usage_line
 RunsBroken (Some (Check d p l n)) bytes old new =
     IfSome (bytes d) (λ ds. IfSome (bytes p) (λ ps. IsBrokenRun n ds ps (bytes l) old new))
 RunsBroken (Some (ShowDomain file)) bytes old new =
-    IfSome (bytes file) (λ text. IsShownInPart (SpellsWithin depth_limit) domain_text DomainRefused text old new)
+    IfSome (bytes file) (λ text. IsShownInPart (IsDomainText depth_limit) domain_text DomainRefused text old new)
 RunsBroken (Some (ShowProblem file)) bytes old new =
-    IfSome (bytes file) (λ text. IsShownInPart (SpellsProblemWithin depth_limit) problem_text ProblemRefused text old new)
+    IfSome (bytes file) (λ text. IsShownInPart (IsProblemText depth_limit) problem_text ProblemRefused text old new)
 RunsBroken (Some (Numeric d p l)) bytes old new =
     IfSome (bytes d) (λ ds. IfSome (bytes p) (λ ps. IfSome (bytes l) (λ ls. BreaksNumeric ds ps ls old new)))
 RunsBroken (Some (Trial n)) bytes old new = RepliedInPart (IsTrial n) old new

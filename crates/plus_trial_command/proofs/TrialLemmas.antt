@@ -5,7 +5,7 @@ use Rattle.std.specs.declared.alloc.AllocError.{AllocError}
 use Rattle.plus_tree.specs.declared.trees.Domain.{Domain}
 use Rattle.plus_tree.specs.declared.trees.Problem.{Problem}
 use Rattle.plus_types.specs.declared.typed.Typed.{Typed}
-use Rattle.plus_types.specs.Faults.{type_faults, is_well_typed}
+use Rattle.plus_types.specs.Faults.{is_well_typed}
 use Rattle.plus_report.specs.declared.verdicts.Verdict.{Verdict}
 use Rattle.plus_report.specs.declared.verdicts.Verdict.TheVariants as verdicts
 use Rattle.plus_report.specs.declared.refusals.Early.{Early}
@@ -20,7 +20,7 @@ use Rattle.plus_pair.specs.declared.pair.Refusal.{Refusal}
 use Rattle.plus_pair.specs.declared.pair.Refusal.TheVariants as refusals
 use Rattle.plus_pair.specs.Pair.{SpellsPair}
 use Rattle.plus_pair.specs.Reads.{NotPair}
-use Rattle.plus_pair.proofs.SpelledLemmas.{none_at_all}
+use Rattle.plus_pair.proofs.SpelledLemmas.{well_spelled}
 use Rattle.plus_reply.specs.declared.status.Status.{Status}
 use Rattle.plus_reply.specs.declared.reply.Reply.{Reply}
 use Rattle.plus_reply.specs.declared.reply.Fault.{Fault}
@@ -90,7 +90,7 @@ pub told_trial :
     → IsTrue (is_well_typed d p) → JudgesText d p default_happenings (farm_plan n) j → status ≡ status_of (outcome_of j.verdict)
     → line ≡ summary_text (summary_of n j) → IsTrial n status line
 told_trial n d p j status line sp t h e k =
-    is_judged d p j (record { spelled = sp; well_typed = none_at_all (type_faults d p) t }) h e k
+    is_judged d p j (well_spelled farm_domain (farm_problem n) d p sp t) h e k
 
 -- ---- the texts are no pair
 

@@ -1,5 +1,5 @@
 use Rattle.std.proofs.Common.{◌∙◌, subst}
-use Rattle.plus_parser.specs.SpellsDomain.{SpellsWithin}
+use Rattle.plus_grammar.specs.Texts.{IsDomainText}
 use Rattle.plus_printer.specs.Canon.{domain_text}
 use Rattle.plus_reply.specs.declared.status.Status.TheVariants as s
 use Rattle.plus_pair.specs.Pair.{depth_limit, DomainRefused}
@@ -17,8 +17,8 @@ returns-in-Ok-domain_text-clause-answers g c =
     let bytes = g.S.Shelf.bytes c.args.shelf.now c.args.name.now in
     let text = subst (λ t. Writes t s.Valid old new before now c.tell.result) (c.deref.ensures.value ∙ c.in-Ok-domain_text.ensures) c.tell.ensures.writes in
     text_answer _ _ _ _ _ _ _ _ _ _ text
-    (shown (SpellsWithin depth_limit) domain_text bytes c.in-Ok.domain old new before now c.tell.result c.in-Ok.ensures.read text)
-    (shown_in_part (SpellsWithin depth_limit) domain_text DomainRefused bytes c.in-Ok.domain old new before now c.tell.result c.in-Ok.ensures.read text)
+    (shown (IsDomainText depth_limit) domain_text bytes c.in-Ok.domain old new before now c.tell.result c.in-Ok.ensures.read text)
+    (shown_in_part (IsDomainText depth_limit) domain_text DomainRefused bytes c.in-Ok.domain old new before now c.tell.result c.in-Ok.ensures.read text)
 
 pub returns-in-Err-Early-clause-answers : goal.returns-in-Err-Early-clause-answers
 returns-in-Err-Early-clause-answers g c =
@@ -27,4 +27,4 @@ returns-in-Err-Early-clause-answers g c =
     let bytes = g.S.Shelf.bytes c.args.shelf.now c.args.name.now in
     line_answer _ _ _ _ _ _ _ _ _ c.in-Err-Early.early line
     (not_shown DomainRefused bytes c.in-Err-Early.early _ _ _ _ _ cause line)
-    (not_shown_in_part (SpellsWithin depth_limit) domain_text DomainRefused bytes c.in-Err-Early.early _ _ _ _ _ cause line)
+    (not_shown_in_part (IsDomainText depth_limit) domain_text DomainRefused bytes c.in-Err-Early.early _ _ _ _ _ cause line)
