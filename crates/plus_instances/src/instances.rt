@@ -48,8 +48,8 @@ struct Kept {
 pub struct Instances<'a> {
     pub numbering: &'a Numbering<'a>,
     large: Vec<Kept>,
-    // the places of the large ones, by the texts of their calls
-    places: IndexMap<Vec<u8>, usize>,
+    // the places of the large ones, by the hashes of their calls: of several with one hash, that of the last
+    places: IndexMap<u64, usize>,
     // how many conditions and effects the large ones have
     size: u32,
     small: Vec<Kept>,
@@ -89,17 +89,6 @@ fn size_of(action: &Action<Frac64>) -> u32 {
     size
 }
 
-// The text of a call: its names, with spaces between them.
-fn spelled(alloc: Global, call: &Call) -> Result<Vec<u8>, AllocError> {
-    let mut text = Vec::new(alloc);
-    text.extend_from_slice(call.name.bytes())?;
-    for arg in call.args.as_slice() {
-        text.push(b' ')?;
-        text.extend_from_slice(arg.bytes())?;
-    }
-    Ok(text)
-}
-
 // The hash FNV-1a of no byte, and its factor.
 const BASIS: u64 = 0xcbf29ce484222325;
 
@@ -117,12 +106,17 @@ fn mixed(hash: u64, name: &[u8]) -> u64 {
     (hash ^ BETWEEN).wrapping_mul(FACTOR)
 }
 
-// The slot of a call.
-fn slot_of(call: &Call) -> usize {
+// The hash of a call.
+fn hash_of(call: &Call) -> u64 {
     let mut hash = mixed(BASIS, call.name.bytes());
     'args: for arg in call.args.as_slice() {
         hash = mixed(hash, arg.bytes());
     }
+    hash
+}
+
+// The slot of a call with this hash.
+fn slot_of(hash: u64) -> usize {
     (hash % SLOTS as u64) as usize
 }
 
@@ -194,15 +188,15 @@ impl<'a> Instances<'a> {
         ensures refused { IfErr result (RefusesCall IsFrac64 self.old.numbering.now.typed.now.domain call.now.name
             (called_of self.old.numbering.now.typed.now.domain self.old.numbering.now.typed.now.problem call.now.name call.now.args)) }
     {
-        let slot = slot_of(call);
-        if let Some(place) = self.small_place(slot, call) {
+        let hash = hash_of(call);
+        if let Some(place) = self.small_place(slot_of(hash), call) {
             return Ok(Place::Small(place));
         }
-        if let Some(place) = self.large_place(alloc, call)? {
+        if let Some(place) = self.large_place(hash, call) {
             return Ok(Place::Large(place));
         }
         let action = instance::<Frac64>(alloc, self.numbering, call)?;
-        Ok(self.keep(alloc, slot, call, action)?)
+        Ok(self.keep(alloc, hash, call, action)?)
     }
 
     /// The instance at a place.
@@ -227,35 +221,25 @@ impl<'a> Instances<'a> {
         if kept.is_of(call) { Some(place) } else { None }
     }
 
-    // The place of the large instance of a call, where it is kept.
-    fn large_place(&self, alloc: Global, call: &Call) -> Result<Option<usize>, AllocError>
-        requires { AreMade self.now }
-        ensures { IfOk result (λ found. IfSome found (λ place.
-            HasMade self.now.numbering.now.typed.now self.now call.now.name call.now.args (Place.Large place))) }
-    {
-        if self.large.is_empty() {
-            return Ok(None);
-        }
-        let text = spelled(alloc, call)?;
-        Ok(self.found(&text, call))
-    }
-
-    // The place of the large instance of a call that is spelled so, where it is kept.
-    fn found(&self, text: &[u8], call: &Call) -> Option<usize>
+    // The place of the large instance of a call with this hash, where it is kept.
+    fn large_place(&self, hash: u64, call: &Call) -> Option<usize>
         requires { AreMade self.now }
         ensures { IfSome result (λ place.
             HasMade self.now.numbering.now.typed.now self.now call.now.name call.now.args (Place.Large place)) }
     {
-        let place = *self.places.get(text)?;
+        if self.large.is_empty() {
+            return None;
+        }
+        let place = *self.places.get(&hash)?;
         let kept = self.large.get(place)?;
         if kept.is_of(call) { Some(place) } else { None }
     }
 
-    // Keeps the instance of a call with this slot, and answers its place.
+    // Keeps the instance of a call with this hash, and answers its place.
     fn keep(
         &mut self,
         alloc: Global,
-        slot: usize,
+        hash: u64,
         call: &Call,
         action: Action<Frac64>,
     ) -> Result<Place, AllocError>
@@ -270,9 +254,9 @@ impl<'a> Instances<'a> {
             action,
         };
         if size < LARGE {
-            Ok(Place::Small(self.keep_small(alloc, slot, kept)?))
+            Ok(Place::Small(self.keep_small(alloc, slot_of(hash), kept)?))
         } else {
-            Ok(Place::Large(self.keep_large(alloc, kept, size)?))
+            Ok(Place::Large(self.keep_large(hash, kept, size)?))
         }
     }
 
@@ -341,17 +325,16 @@ impl<'a> Instances<'a> {
         self.size = 0;
     }
 
-    // Keeps a large instance of this size, and answers its place.
-    fn keep_large(&mut self, alloc: Global, kept: Kept, size: u32) -> Result<usize, AllocError>
+    // Keeps a large instance of this size, whose call has this hash, and answers its place.
+    fn keep_large(&mut self, hash: u64, kept: Kept, size: u32) -> Result<usize, AllocError>
         requires kept { AreMade self.old }
         requires made { IsKept self.old.numbering.now.typed.now kept }
         ensures kept { StayMade self.old self.new }
         ensures stands { IfOk result (λ place. slice_get self.new.large.items place ≡ Some kept) }
     {
         self.make_room(size);
-        let text = spelled(alloc, &kept.call)?;
         let place = self.large.len();
-        self.places.insert(text, place)?;
+        self.places.insert(hash, place)?;
         self.large.push(kept)?;
         self.size = self.size.saturating_add(size);
         Ok(place)
