@@ -10,6 +10,9 @@ use plus_state::Label;
 use plus_tree::{Head, TypedName};
 use std::alloc::{AllocError, Global};
 
+// No more bytes than this have most labels.
+const USUAL_LEN: usize = 64;
+
 // Makes a text that of a label: the name, and the names of these objects.
 fn spell(
     extents: &Extents<'_>,
@@ -41,7 +44,7 @@ pub fn label(
     ensures { IfOk result (λ l. l ≡ label_of name.now
         (object_names (context extents.now.typed.now) objects.now)) }
 {
-    let mut text = Vec::new(alloc);
+    let mut text = Vec::with_capacity(alloc, USUAL_LEN)?;
     spell(extents, name, objects, &mut text)?;
     Label::new(alloc, &text)
 }
