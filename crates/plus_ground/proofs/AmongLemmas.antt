@@ -45,7 +45,7 @@ rises (x ∷ xs) n zero (suc j) d r l h = (let b = least xs (suc x) j d r.1 (ome
 rises (x ∷ xs) n (suc i) zero d r l h = absurd (omega arith)
 rises (x ∷ xs) n (suc i) (suc j) d r l h = rises xs (suc x) i j d r.1 (omega arith) (omega arith)
 
-found : (xs : List ℕ) (i k d : ℕ) → i < length xs → get_or xs i d ≡ k → list_any (nat_eq k) xs ≡ true
+pub found : (xs : List ℕ) (i k d : ℕ) → i < length xs → get_or xs i d ≡ k → list_any (nat_eq k) xs ≡ true
 found [] i k d h e = absurd (omega arith)
 found (x ∷ xs) zero k d h e = grind (arith, nat_tests)
 found (x ∷ xs) (suc i) k d h e =

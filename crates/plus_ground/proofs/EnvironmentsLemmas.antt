@@ -1,15 +1,18 @@
 -- What variables stand for.
-use Rattle.std.proofs.Common.{◌≡◌, ℕ, ◌≤◌, ◌<◌, ◌+◌, Bool, true, false, cond, List, [], ◌∷◌, ◌++◌, ◌∙◌, ap, refl, sym, length, take, get_or, None, Some, Option, nat_lt, arith, add-one, append_assoc}
+use Rattle.std.proofs.Common.{◌≡◌, ℕ, ◌≤◌, ◌<◌, ◌+◌, Bool, true, false, cond, List, [], ◌∷◌, ◌++◌, ◌∙◌, ap, refl, sym, length, take, drop, get_or, None, Some, Option, nat_lt, arith, add-one, append_assoc, map, suc}
 use Rattle.std.proofs.Math.Seq.{take-suc}
-use Rattle.std.proofs.lemmas.List.{append-nil}
+use Rattle.std.proofs.lemmas.List.{append-nil, map-append, take_all}
 use Rattle.std.proofs.lemmas.Bool.Decides.{nat_tests}
 use Rattle.std.proofs.lemmas.Grind.{flat_map-append}
 use Rattle.std.specs.List.{flat_map}
+use Rattle.std.specs.Str.{bytes_eq}
 use Rattle.plus_types.specs.Faults.{Context}
+use Rattle.plus_tree.specs.declared.terms.TypedName.{TypedName}
 use Rattle.plus_tree.specs.declared.terms.Use.{Use}
+use Rattle.plus_numbering.specs.Objects.{members_of}
 use Rattle.plus_numbering.specs.Numbers.{number_of}
 use Rattle.plus_numbering.specs.Counts.{first_over, name_counts}
-use Rattle.plus_expansion.specs.Environments.{Environment, use_objects, atom_number, fluent_number}
+use Rattle.plus_expansion.specs.Environments.{Environment, environments, bound_object, use_objects, atom_number, fluent_number}
 
 not_first : {A : Type 0} (b : Bool) (x : A) (r : Option A) → cond b (Some x) r ≡ None → b ≡ false
 not_first true x r e = cc
@@ -34,6 +37,22 @@ more_given f start before after xs i x h m b a =
 pub none_given : {X A : Type 0} (f : X → List A) (start : List A) (xs : List X) → start ≡ start ++ flat_map f (take 0 xs)
 none_given f start xs = sym (append-nil start)
 
+-- the environments of the first variable's members, all of which were seen, are those of the list
+pub all_given :
+    (c : Context) (vars rest : List TypedName) (first : TypedName) (env : Environment) (name kind members : List ℕ) (i : ℕ) (start after : List Environment)
+    → 1 ≤ length vars → first ≡ get_or vars 0 first → name ≡ first.name.name → kind ≡ first.kind.name
+    → members ≡ members_of c kind → length members ≤ i
+    → after ≡ start ++ flat_map (λ o. environments c rest (env ++ (name, o) ∷ [])) (take i members)
+    → rest ≡ drop 1 vars
+    → after ≡ start ++ environments c vars env
+all_given c [] rest first env name kind members i start after h f n k m t s r = absurd (omega arith)
+all_given c (v ∷ vs) rest first env name kind members i start after h f n k m t s r =
+    let named : name ≡ v.name.name = n ∙ ap (λ (x : TypedName). x.name.name) f in
+    let all : take i members ≡ members_of c v.kind.name = take_all i members t ∙ m ∙ ap (members_of c) (k ∙ ap (λ (x : TypedName). x.kind.name) f) in
+    s ∙ ap (λ os. start ++ flat_map (λ o. environments c rest (env ++ (name, o) ∷ [])) os) all
+    ∙ ap (λ vs. start ++ flat_map (λ o. environments c vs (env ++ (name, o) ∷ [])) (members_of c v.kind.name)) r
+    ∙ ap (λ x. start ++ flat_map (λ o. environments c vs (env ++ (x, o) ∷ [])) (members_of c v.kind.name)) named
+
 pub ruleset giving = (more_given, none_given)
 
 -- the number of a name with the objects of a use is that of the use
@@ -46,3 +65,41 @@ pub fluent_named :
     (c : Context) (env : Environment) (u : Use) (n : ℕ) (name objects : List ℕ)
     → n ≡ number_of c c.functions name objects → name ≡ u.head.name → objects ≡ use_objects c env u → n ≡ fluent_number c env u
 fluent_named c env u n name objects e f g = e ∙ ap (λ os. number_of c c.functions name os) g ∙ ap (λ m. number_of c c.functions m (use_objects c env u)) f
+
+-- the last of the variables comes first
+last_first :
+    (none : ℕ) (bs : Environment) (b : List ℕ × ℕ) (name : List ℕ)
+    → bound_object none (bs ++ b ∷ []) name ≡ cond (bytes_eq name b.0) b.1 (bound_object none bs name)
+last_first none [] b name = refl
+last_first none (x ∷ xs) b name = last_first (cond (bytes_eq name x.0) x.1 none) xs b name
+
+-- what the last of the variables that are left makes of the object
+at_last :
+    {X : Type 0} (f : X → List ℕ × ℕ) (none : ℕ) (xs : List X) (i : ℕ) (d : X) (name : List ℕ)
+    → i < length xs
+    → bound_object none (map f (take (suc i) xs)) name
+    ≡ cond (bytes_eq name (f (get_or xs i d)).0) (f (get_or xs i d)).1 (bound_object none (map f (take i xs)) name)
+at_last f none xs i d name h =
+    ap (λ ys. bound_object none (map f ys) name) (take-suc xs i d h)
+    ∙ ap (λ bs. bound_object none bs name) (map-append f (take i xs) (get_or xs i d ∷ []))
+    ∙ last_first none (map f (take i xs)) (f (get_or xs i d)) name
+
+-- the last of the variables that are left has the name
+pub found_last :
+    {X : Type 0} (f : X → List ℕ × ℕ) (none : ℕ) (xs : List X) (left i : ℕ) (d : X) (name : List ℕ)
+    → left ≡ suc i → left ≤ length xs → bytes_eq name (f (get_or xs i d)).0 ≡ true
+    → bound_object none (map f xs) name ≡ bound_object none (map f (take left xs)) name
+    → (f (get_or xs i d)).1 ≡ bound_object none (map f xs) name
+found_last f none xs left i d name n h e s =
+    sym (s ∙ ap (λ (m : ℕ). bound_object none (map f (take m xs)) name) n ∙ at_last f none xs i d name (omega arith)
+    ∙ ap (λ b. cond b (f (get_or xs i d)).1 (bound_object none (map f (take i xs)) name)) e)
+
+-- the last of the variables that are left has another name
+pub passed_last :
+    {X : Type 0} (f : X → List ℕ × ℕ) (none : ℕ) (xs : List X) (left i : ℕ) (d : X) (name : List ℕ)
+    → left ≡ suc i → left ≤ length xs → bytes_eq name (f (get_or xs i d)).0 ≡ false
+    → bound_object none (map f xs) name ≡ bound_object none (map f (take left xs)) name
+    → bound_object none (map f xs) name ≡ bound_object none (map f (take i xs)) name
+passed_last f none xs left i d name n h e s =
+    s ∙ ap (λ (m : ℕ). bound_object none (map f (take m xs)) name) n ∙ at_last f none xs i d name (omega arith)
+    ∙ ap (λ b. cond b (f (get_or xs i d)).1 (bound_object none (map f (take i xs)) name)) e

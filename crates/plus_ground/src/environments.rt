@@ -10,6 +10,7 @@ use plus_state::{AtomId, FluentId};
 use plus_tree::{Term, TypedName, Use};
 use smallvec::SmallVec;
 use std::alloc::{AllocError, Global};
+use std::default::MadeWith;
 use std::marker::Model;
 
 /// A variable, by its name, and the object that it stands for, by its place.
@@ -19,11 +20,21 @@ struct Bound<'a> {
     object: u32,
 }
 
+// What an empty place of an environment holds.
+impl MadeWith<Global> for Bound<'_> {
+    fn made_with(_alloc: Global) -> Self {
+        Bound {
+            name: &[],
+            object: 0,
+        }
+    }
+}
+
 /// What the variables in force stand for, outer ones before inner ones. Contracts see it as the list
 /// of their names and objects.
 #[derive(Drop)]
 pub struct Environment<'a> {
-    bound: Vec<Bound<'a>>,
+    bound: SmallVec<Bound<'a>, 4>,
 }
 
 impl<'a> Model for Environment<'a> {
@@ -40,7 +51,7 @@ impl<'a> Environment<'a> {
         ensures { result ≡ [] }
     {
         Environment {
-            bound: Vec::new(alloc),
+            bound: SmallVec::new(alloc),
         }
     }
 
@@ -70,8 +81,7 @@ impl<'a> Environment<'a> {
     pub fn copy(&self, alloc: Global) -> Result<Environment<'a>, AllocError>
         ensures { IfOk result (λ e. e ≡ self.now) }
     {
-        let mut bound = Vec::new(alloc);
-        bound.extend_from_slice(&self.bound)?;
+        let bound = SmallVec::from_slice(alloc, self.bound.as_slice())?;
         Ok(Environment { bound })
     }
 
@@ -80,7 +90,7 @@ impl<'a> Environment<'a> {
         ensures { IfOk result (λ os. os.items ≡ map (λ b. b.1) self.now) }
     {
         let mut objects = SmallVec::new(alloc);
-        'bound: for bound in &self.bound {
+        'bound: for bound in self.bound.as_slice() {
             objects.push(bound.object)?;
         }
         Ok(objects)
@@ -91,13 +101,15 @@ impl<'a> Environment<'a> {
     pub fn object(&self, name: &[u8], none: u32) -> u32
         ensures { result ≡ bound_object none self.now name.now }
     {
-        let mut object = none;
-        'bound: for bound in &self.bound {
-            if name == bound.name {
-                object = bound.object;
+        let bounds = self.bound.as_slice();
+        let mut left = bounds.len();
+        'outward: while left > 0 {
+            left -= 1;
+            if name == bounds[left].name {
+                return bounds[left].object;
             }
         }
-        object
+        none
     }
 }
 

@@ -109,6 +109,12 @@ fn is_among(object: u32, members: &[u32]) -> bool
     requires { IsRising 0 members.now }
     ensures { result ≡ list_any (nat_eq object) members.now }
 {
+    let own = object as usize;
+    if own < members.len() {
+        if members[own] == object {
+            return true;
+        }
+    }
     match members.binary_search(&object) {
         Ok(_) => true,
         Err(_) => false,

@@ -23,9 +23,9 @@ const MOST_EVENTS: u32 = 10_000;
 /// in one instance of an action.
 pub const MOST_NODES: u32 = 1_000_000;
 
-// How many instances schemas have.
+/// How many instances schemas have.
 #[tactic(auto, using(crate::proofs::Holding::holding))]
-fn instances(numbering: &Numbering<'_>, schemas: &[Schema]) -> u32
+pub fn instances(numbering: &Numbering<'_>, schemas: &[Schema]) -> u32
     ensures { result ≡ held (instances (context numbering.now) schemas.now) }
 {
     let mut total = 0;
@@ -35,9 +35,9 @@ fn instances(numbering: &Numbering<'_>, schemas: &[Schema]) -> u32
     total
 }
 
-// The nodes of the instances of processes, or of events.
+/// The nodes of the instances of processes, or of actions or events.
 #[tactic(auto, using(crate::proofs::Holding::holding))]
-fn nodes(numbering: &Numbering<'_>, process: bool, schemas: &[Schema]) -> u32
+pub fn nodes(numbering: &Numbering<'_>, process: bool, schemas: &[Schema]) -> u32
     ensures { result ≡ held (schemas_size (context numbering.now) (schema_size (context numbering.now) process) schemas.now) }
 {
     let mut total = 0;
@@ -63,8 +63,8 @@ fn problem(numbering: &Numbering<'_>) -> u32
     sum(events, sum(processes, goal))
 }
 
-// Tests that there are not too many of a kind.
-fn few(kind: Count, most: u32, number: u32) -> Result<(), CountFault>
+/// Tests that there are not too many of a kind.
+pub fn few(kind: Count, most: u32, number: u32) -> Result<(), CountFault>
     ensures { MatchResult result (λ _. number ≤ most) (λ e. (e ≡ CountFault.TooMany kind most) × (most < number)) }
 {
     if number > most {

@@ -4,7 +4,7 @@
 pub mod counting;
 pub mod fitting;
 mod held;
-mod sizes;
+pub mod sizes;
 
 pub use counting::{MOST_NODES, is_small, within};
 pub use fitting::{Unfit, fit, schema_fits};
