@@ -1,3 +1,4 @@
-pub mod SplicedLemmas
+pub mod JoinedLemmas
+pub mod WovenLemmas
 pub mod FrameLemmas
 pub mod HalfLemmas

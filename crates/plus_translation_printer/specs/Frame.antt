@@ -1,10 +1,11 @@
 -- A translated domain without its old actions; and how deep those may be.
-use Rattle.std.specs.Prelude.{ℕ, Bool, ◌&&◌, List, [], ◌∷◌, ◌++◌}
+use Rattle.std.specs.Prelude.{◌≡◌, ℕ, Bool, ◌&&◌, List, [], ◌∷◌, ◌++◌}
 use Rattle.std.specs.List.{list_all}
 use Rattle.plus_fraction.specs.Fraction.{Fraction}
 use Rattle.plus_tree.specs.declared.trees.Schema.{Schema}
 use Rattle.plus_tree.specs.declared.trees.Domain.{Domain}
 use Rattle.plus_tree.specs.declared.trees.Problem.{Problem}
+use Rattle.plus_tree.specs.Expr.{Expr}
 use Rattle.plus_translation.specs.Renamed.{nowhere}
 use Rattle.plus_translation.specs.Translated.{Due, length_of_step, mark_heads}
 use Rattle.plus_translation.specs.Depth.{most_depth, cond_within, effect_within, domain_within}
@@ -24,6 +25,14 @@ frame_of q events due d p = record {
   events = [];
   span = nowhere;
 }
+
+-- the first action is a step beside these events
+pub record BeginsWithStep (frame : Domain) (events : List Schema) : Type 0 where
+  pub length : Expr
+  pub due : List Due
+  pub processes : List Schema
+  pub others : List Schema
+  pub is : frame.actions ≡ step_of length events due processes ∷ others
 
 -- What a translation takes over unchanged stands in an `and`, in an action of a domain or in the goal of a problem.
 abbrev pub own_room : ℕ

@@ -1,3 +1,3 @@
 pub mod Printed
-pub mod Spliced
+pub mod Woven
 pub mod Frame

@@ -1,6 +1,5 @@
 -- What is printed of a translation: the canonical text of one half.
-use Rattle.std.specs.Prelude.{◌≡◌, ℕ, List, true, false, Option, Some, None, Vec}
-use Rattle.std.specs.declared.alloc.Global.{Global}
+use Rattle.std.specs.Prelude.{◌≡◌, ℕ, List, true, false, Option, Some, None}
 use Rattle.plus_fraction.specs.Fraction.{Fraction}
 use Rattle.plus_tree.specs.declared.trees.Domain.{Domain}
 use Rattle.plus_tree.specs.declared.trees.Problem.{Problem}
@@ -23,6 +22,6 @@ pub record IsTextOfHalf (file : File) (q : Fraction) (d : Domain) (p : Problem) 
   pub text_is : text ≡ half_text file domain problem
 
 -- the text of one half of a translation, and none where a text of it is too deep
-abbrev pub IsPrinted : File → Domain → Problem → Option (Vec ℕ Global) → Type 0
-IsPrinted file d p (Some text) = (pair_within d p ≡ true) × (text.items ≡ half_text file d p)
+abbrev pub IsPrinted : File → Domain → Problem → Option (List ℕ) → Type 0
+IsPrinted file d p (Some text) = (pair_within d p ≡ true) × (text ≡ half_text file d p)
 IsPrinted file d p None = pair_within d p ≡ false

@@ -6,20 +6,24 @@ ghost use Rattle.plus_fraction.specs.Fraction.{whole, ◌<ℚ◌};
 ghost use Rattle.plus_number.specs.Frac.{fraction_of};
 ghost use Rattle.plus_tree.specs.Cond.{conds_of};
 ghost use Rattle.plus_tree.specs.Effect.{effects_of};
-ghost use Rattle.plus_printer.specs.Canon.{conds_text, effects_text, domain_text, problem_text};
-ghost use Rattle.plus_translation.specs.Translated.{none_hold, clears, due_by, domain_translated, problem_translated, translated_domain, translated_problem};
+ghost use Rattle.plus_printer.specs.Appended.{Prints};
+ghost use Rattle.plus_printer.specs.Canon.{conds_text, effects_text, happening_text, problem_text};
+ghost use Rattle.plus_translation.specs.Translated.{none_hold, clears, due_by, problem_translated, translated_domain, translated_problem};
 ghost use Rattle.plus_translate.specs.Dues.{due_of};
 ghost use Rattle.plus_translate.specs.Translates.{NoTranslation};
-ghost use Rattle.plus_translation_printer.specs.Spliced.{spliced_text};
-ghost use Rattle.plus_translation_printer.specs.Frame.{frame_of};
+ghost use Rattle.plus_translation_printer.specs.Woven.{opening_text, own_parts, woven};
+ghost use Rattle.plus_translation_printer.specs.Frame.{frame_of, BeginsWithStep};
 ghost use Rattle.plus_translation_printer.specs.Printed.{half_text, IsTextOfHalf, IsPrinted};
 
 use crate::frame::frame;
-use crate::old::spliced;
+use crate::own::old_texts;
 use crate::shared::Shared;
+use crate::text::HalfText;
 use crate::within::spliced_within;
 use plus_number::frac::Frac64;
 use plus_printer::print_problem;
+use plus_printer::sections::{declared, happening};
+use plus_printer::words::{domain_opening, put, put_word};
 use plus_renaming::renaming::events;
 use plus_translate::TransFault;
 use plus_translate::domain::problem_translated;
@@ -29,24 +33,50 @@ use plus_tree::{Domain, Problem, Schema};
 use plus_types::{File, Typed};
 use std::alloc::{AllocError, Global};
 
-// How many more times than in the old actions the shared texts are to fit.
-const SPARE: usize = 8;
+// How the text of a domain opens, up to its actions.
+#[tactic(auto, using(plus_printer::proofs::AppendedLemmas::appending), unfolding(crate::specs::Woven::opening_text))]
+fn put_opening(text: &mut Vec<u8>, frame: &Domain) -> Result<(), AllocError>
+    ensures { Prints text.old.items text.new.items (opening_text frame.now) result }
+{
+    domain_opening(text)?;
+    put(text, frame.name.name.bytes())?;
+    put_word(text, b")\n")?;
+    declared(text, frame)?;
+    Ok(())
+}
+
+fn opening(alloc: Global, frame: &Domain) -> Result<Vec<u8>, AllocError>
+    ensures { IfOk result (λ text. text.items ≡ opening_text frame.now) }
+{
+    let mut text = Vec::new(alloc);
+    put_opening(&mut text, frame)?;
+    Ok(text)
+}
+
+fn ending(alloc: Global, frame: &Domain) -> Result<Vec<u8>, AllocError>
+    ensures { IfOk result (λ text. text.items ≡ happening_text frame.now) }
+{
+    let mut text = Vec::new(alloc);
+    happening(&mut text, frame)?;
+    Ok(text)
+}
 
 // The text of a translated domain, by its renamed events, its old actions and its frame.
-fn domain_text(
+fn domain_half(
     alloc: Global,
     events: &[Schema],
     actions: &[Schema],
     frame: &Domain,
-) -> Result<Vec<u8>, AllocError>
-    ensures { IfOk result (λ text. text.items
-        ≡ spliced_text (conds_text (conds_of (none_hold events.now))) (effects_text (effects_of (clears 1 events.now))) actions.now frame.now) }
+) -> Result<HalfText, AllocError>
+    requires { BeginsWithStep frame.now events.now }
+    ensures { IfOk result (λ text. text
+        ≡ woven (opening_text frame.now) (conds_text (conds_of (none_hold events.now))) (effects_text (effects_of (clears 1 events.now))) (map own_parts actions.now) (happening_text frame.now)) }
 {
-    let shared = Shared::new(alloc, events)?;
-    let room = shared.room(actions.len().saturating_add(SPARE));
-    let mut text = Vec::with_capacity(alloc, room)?;
-    spliced(&mut text, &shared, actions, frame)?;
-    Ok(text)
+    let opening = opening(alloc, frame)?;
+    let shared = Shared::of_frame(alloc, events, frame)?;
+    let olds = old_texts(alloc, actions)?;
+    let ending = ending(alloc, frame)?;
+    Ok(HalfText::new(opening, shared, olds, ending))
 }
 
 // The text of a translated problem.
@@ -73,7 +103,7 @@ fn printed(
     dues: &[Due<'_>],
     domain: &Domain,
     problem: &Problem,
-) -> Result<Option<Vec<u8>>, AllocError>
+) -> Result<Option<HalfText>, AllocError>
     requires { map due_of dues.now ≡ flat_map (due_by (fraction_of interval)) problem.now.init }
     ensures { IfOk result (IsPrinted file (translated_domain (fraction_of interval) domain.now problem.now)
         (translated_problem (fraction_of interval) domain.now problem.now)) }
@@ -84,21 +114,27 @@ fn printed(
         return Ok(None);
     }
     match file {
-        File::Domain => Ok(Some(domain_text(alloc, &events, domain.actions.as_slice(), &frame)?)),
-        File::Problem => Ok(Some(problem_text(alloc, &events, dues, problem)?)),
+        File::Domain => {
+            let text = domain_half(alloc, &events, domain.actions.as_slice(), &frame)?;
+            Ok(Some(text))
+        }
+        File::Problem => {
+            let text = problem_text(alloc, &events, dues, problem)?;
+            Ok(Some(HalfText::whole(alloc, text)))
+        }
     }
 }
 
 /// The canonical text of one half of the translation of a well-typed pair in steps of this length.
-pub fn translated_text(
+pub fn translated_half(
     alloc: Global,
     file: File,
     typed: &Typed,
     interval: Frac64,
-) -> Result<Vec<u8>, TransFault>
+) -> Result<HalfText, TransFault>
     requires { whole (pos 0) <ℚ fraction_of interval }
     ensures { MatchResult result
-        (λ text. IsTextOfHalf file (fraction_of interval) typed.now.domain typed.now.problem text.items)
+        (λ text. IsTextOfHalf file (fraction_of interval) typed.now.domain typed.now.problem text)
         (NoTranslation (fraction_of interval) typed.now.domain typed.now.problem) }
 {
     let domain = typed.domain();
@@ -114,5 +150,26 @@ pub fn translated_text(
         Ok(Some(text)) => Ok(text),
         Ok(None) => Err(TransFault::TooDeep),
         Err(_) => Err(TransFault::Memory),
+    }
+}
+
+/// The same text in one piece.
+pub fn translated_text(
+    alloc: Global,
+    file: File,
+    typed: &Typed,
+    interval: Frac64,
+) -> Result<Vec<u8>, TransFault>
+    requires { whole (pos 0) <ℚ fraction_of interval }
+    ensures { MatchResult result
+        (λ text. IsTextOfHalf file (fraction_of interval) typed.now.domain typed.now.problem text.items)
+        (NoTranslation (fraction_of interval) typed.now.domain typed.now.problem) }
+{
+    match translated_half(alloc, file, typed, interval) {
+        Ok(half) => match half.joined(alloc) {
+            Ok(text) => Ok(text),
+            Err(_) => Err(TransFault::Memory),
+        },
+        Err(fault) => Err(fault),
     }
 }

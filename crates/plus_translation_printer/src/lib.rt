@@ -1,13 +1,16 @@
 //! The canonical text of one half of a translation.
 //!
 //! All old actions of a translation share a condition and effects, which grow with the events. Here they are
-//! printed once, and their text is appended for each action.
+//! printed once, held once, and written again for each action.
 #![tactic(auto)]
 
 mod frame;
 mod half;
-mod old;
+mod own;
+mod put;
 mod shared;
+mod text;
 mod within;
 
-pub use half::translated_text;
+pub use half::{translated_half, translated_text};
+pub use text::HalfText;

@@ -1,7 +1,7 @@
 use Rattle.plus_number.specs.Frac.{fraction_of}
 use Rattle.plus_translate.proofs.TranslateLemmas.{not_due}
 use Rattle.plus_translation_printer.proofs.HalfLemmas.{text_of_half, none_of_half}
-use Rattle.plus_translation_printer.proofs.half.translated_text.Goals as goal
+use Rattle.plus_translation_printer.proofs.half.translated_half.Goals as goal
 
 pub returns-in-Err : goal.returns-in-Err
 returns-in-Err c =
