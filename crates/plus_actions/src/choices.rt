@@ -4,7 +4,7 @@ ghost use Rattle.std.specs.Prelude.{◌≡◌, [], ◌∷◌, ◌++◌, IfOk, On
 ghost use Rattle.plus_numbering.specs.Numbered.{context};
 ghost use Rattle.plus_actions.specs.Actions.{choices_from};
 
-use crate::sizes;
+use plus_limits::sizes;
 use plus_numbering::Numbering;
 use plus_tree::TypedName;
 use smallvec::SmallVec;

@@ -5,8 +5,6 @@ mod actions;
 mod calls;
 mod choices;
 mod counting;
-mod held;
 mod literals;
-mod sizes;
 
 pub use actions::ground_actions;
