@@ -114,6 +114,10 @@ abbrev pub duration_with : Span → List Item → Kind → Read (Unit {0})
 duration_with s rest kinds.OpenSquare = number_of rest >>= λ n. close_square_of n.1 >>= λ c. end_of c.1
 duration_with s rest _ = Err (refusals.At s)
 
+-- a Number in square brackets, and then nothing
+abbrev pub brackets_of : List Item → Read (Unit {0})
+brackets_of items = next_of items >>= λ p. duration_with p.0.span p.1 p.0.kind
+
 -- a Number in square brackets, or none, and then nothing
 unfoldable pub duration_of : List Item → Read (Unit {0})
 duration_of [] = Ok (tt, [])
@@ -128,22 +132,42 @@ next_or_none [] = Ok (None, [])
 next_or_none (bad s ∷ rest) = Err (refusals.At s)
 next_or_none (tok p ∷ rest) = Ok (Some p, rest)
 
+-- an action behind its time and its opening parenthesis
+abbrev pub act_of : ℕ → Time → List Item → Result Line Refusal
+act_of n t items = call_of items >>= λ c. duration_of c.1 >>= λ e. Ok (lines.Act n t c.0)
+
 abbrev pub timed_with : ℕ → Time → Span → List Item → Kind → Result Line Refusal
-timed_with n t s rest kinds.Open = call_of rest >>= λ c. duration_of c.1 >>= λ e. Ok (lines.Act n t c.0)
+timed_with n t s rest kinds.Open = act_of n t rest
 timed_with n t s rest kinds.End = end_of rest >>= λ e. Ok (lines.End n t)
 timed_with n t s rest _ = Err (refusals.At s)
+
+-- the end of the plan behind its time
+abbrev pub last_with : ℕ → Time → Span → List Item → Kind → Result Line Refusal
+last_with n t s rest kinds.End = end_of rest >>= λ e. Ok (lines.End n t)
+last_with n t s rest _ = Err (refusals.At s)
+
+abbrev pub last_of : ℕ → Time → List Item → Result Line Refusal
+last_of n t items = next_of items >>= λ f. last_with n t f.0.span f.1 f.0.kind
+
+-- what stands behind a time
+abbrev pub entry_of : ℕ → Time → List Item → Result Line Refusal
+entry_of n t items = next_of items >>= λ f. timed_with n t f.0.span f.1 f.0.kind
 
 abbrev pub timed_from : ℕ → Option Piece → List Item → Result Line Refusal
 timed_from n None rest = Ok lines.Blank
 timed_from n (Some p) rest =
-    time_of p rest >>= λ t. next_of t.1 >>= λ f. timed_with n t.0 f.0.span f.1 f.0.kind
+    time_of p rest >>= λ t. entry_of n t.0 t.1
 
 -- a line with a time, of this number
 unfoldable pub timed_line : ℕ → List Item → Result Line Refusal
 timed_line n items = next_or_none items >>= λ p. timed_from n p.0 p.1
 
+-- an action without a time behind its opening parenthesis
+abbrev pub step_of : ℕ → List Item → Result Line Refusal
+step_of n items = call_of items >>= λ c. end_of c.1 >>= λ e. Ok (lines.Step n c.0)
+
 abbrev pub untimed_with : ℕ → Span → List Item → Kind → Result Line Refusal
-untimed_with n s rest kinds.Open = call_of rest >>= λ c. end_of c.1 >>= λ e. Ok (lines.Step n c.0)
+untimed_with n s rest kinds.Open = step_of n rest
 untimed_with n s rest _ = Err (refusals.At s)
 
 abbrev pub untimed_from : ℕ → Option Piece → List Item → Result Line Refusal

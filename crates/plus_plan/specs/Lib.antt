@@ -6,6 +6,7 @@ pub mod Grammar
 pub mod Spells
 pub mod Place
 pub mod Lines
+pub mod Ahead
 pub mod Answers
 pub mod Pending
 pub mod Pieces

@@ -4,8 +4,8 @@ ghost use Rattle.std.specs.Prelude.{◌≡◌, ◌≤◌, ◌^◌, MatchResult};
 ghost use Rattle.plus_plan.specs.Reading.{Gives, Fails};
 ghost use Rattle.plus_plan.specs.Grammar.{around, colon_of, divisor_of, quotient_of, time_of};
 ghost use Rattle.plus_plan.specs.Grammar.{args_of, call_of, name_of};
-ghost use Rattle.plus_plan.specs.Grammar.{close_square_of, duration_of, end_of, number_of};
-ghost use Rattle.plus_plan.specs.Grammar.{timed_line, untimed_line};
+ghost use Rattle.plus_plan.specs.Grammar.{brackets_of, close_square_of, duration_of, end_of, number_of};
+ghost use Rattle.plus_plan.specs.Grammar.{act_of, entry_of, last_of, step_of, timed_line, untimed_line};
 ghost use Rattle.plus_plan.specs.Seen.{seen, HasFewPlaces};
 
 use crate::forms::{Line, Time};
@@ -24,15 +24,13 @@ fn around(front: Span, back: Span) -> Span
 }
 
 // The colon behind a time.
-#[tactic(auto, unfolding(crate::specs::Grammar::colon_of))]
 fn colon(reader: &mut Reader<'_>) -> Result<(), Refusal>
     ensures gives { Gives (λ _. tt) reader.new result (colon_of reader.old) }
 {
-    let token = reader.next()?;
-    match token.kind {
-        Kind::Colon => Ok(()),
-        _ => Err(Refusal::At(token.span)),
+    if reader.colon() {
+        return Ok(());
     }
+    Err(reader.refusal())
 }
 
 // A number by which a time is divided: whole, without a sign, and not 0.
@@ -98,15 +96,13 @@ fn time(reader: &mut Reader<'_>, first: &Seen<'_>) -> Result<Time, Refusal>
     }
 }
 
-#[tactic(auto, unfolding(crate::specs::Grammar::name_of))]
 fn name(alloc: Global, reader: &mut Reader<'_>) -> Result<Name, Refusal>
     ensures gives { Gives (λ x. x) reader.new result (name_of reader.old) }
 {
-    let token = reader.next()?;
-    match token.kind {
-        Kind::Name => Ok(Name::of_word(alloc, token.word)?),
-        _ => Err(Refusal::At(token.span)),
+    if let Some(word) = reader.name() {
+        return Ok(Name::of_word(alloc, word)?);
     }
+    Err(reader.refusal())
 }
 
 // Names up to the closing parenthesis.
@@ -115,11 +111,12 @@ fn args(alloc: Global, reader: &mut Reader<'_>) -> Result<NameArgs, Refusal>
 {
     let mut args = NameArgs::new(alloc);
     'names: loop {
-        let token = reader.next()?;
-        match token.kind {
-            Kind::Name => args.push(Name::of_word(alloc, token.word)?)?,
-            Kind::Close => return Ok(args),
-            _ => return Err(Refusal::At(token.span)),
+        if let Some(word) = reader.name() {
+            args.push(Name::of_word(alloc, word)?)?;
+        } else if reader.close() {
+            return Ok(args);
+        } else {
+            return Err(reader.refusal());
         }
     }
 }
@@ -135,14 +132,13 @@ fn call(alloc: Global, reader: &mut Reader<'_>) -> Result<Call, Refusal>
 }
 
 // Nothing is left.
-#[tactic(auto, unfolding(crate::specs::Grammar::end_of))]
 fn end(reader: &mut Reader<'_>) -> Result<(), Refusal>
     ensures gives { Gives (λ _. tt) reader.new result (end_of reader.old) }
 {
-    match reader.next_or_none()? {
-        None => Ok(()),
-        Some(token) => Err(Refusal::At(token.span)),
+    if reader.is_done() {
+        return Ok(());
     }
+    Err(reader.refusal())
 }
 
 #[tactic(auto, unfolding(crate::specs::Grammar::number_of))]
@@ -167,14 +163,11 @@ fn close_square(reader: &mut Reader<'_>) -> Result<(), Refusal>
     }
 }
 
-// A Number in square brackets, or none, and then nothing.
-#[tactic(auto, unfolding(crate::specs::Grammar::duration_of))]
-fn duration(reader: &mut Reader<'_>) -> Result<(), Refusal>
-    ensures gives { Gives (λ _. tt) reader.new result (duration_of reader.old) }
+// A Number in square brackets, and then nothing.
+fn brackets(reader: &mut Reader<'_>) -> Result<(), Refusal>
+    ensures gives { Gives (λ _. tt) reader.new result (brackets_of reader.old) }
 {
-    let Some(token) = reader.next_or_none()? else {
-        return Ok(());
-    };
+    let token = reader.next()?;
     match token.kind {
         Kind::OpenSquare => {
             number(reader)?;
@@ -183,6 +176,52 @@ fn duration(reader: &mut Reader<'_>) -> Result<(), Refusal>
         }
         _ => Err(Refusal::At(token.span)),
     }
+}
+
+// A Number in square brackets, or none, and then nothing.
+fn duration(reader: &mut Reader<'_>) -> Result<(), Refusal>
+    ensures gives { Gives (λ _. tt) reader.new result (duration_of reader.old) }
+{
+    if reader.is_done() {
+        return Ok(());
+    }
+    brackets(reader)
+}
+
+// An action behind its time and its opening parenthesis.
+fn act(alloc: Global, reader: &mut Reader<'_>, line: u32, time: Time) -> Result<Line, Refusal>
+    ensures gives { MatchResult result
+        (λ l. act_of line time reader.old ≡ Ok l) (λ e. Fails e (act_of line time reader.old)) }
+{
+    let call = call(alloc, reader)?;
+    duration(reader)?;
+    Ok(Line::Act { line, time, call })
+}
+
+// The end of the plan behind its time.
+fn last(reader: &mut Reader<'_>, line: u32, time: Time) -> Result<Line, Refusal>
+    ensures gives { MatchResult result
+        (λ l. last_of line time reader.old ≡ Ok l) (λ e. Fails e (last_of line time reader.old)) }
+{
+    let token = reader.next()?;
+    match token.kind {
+        Kind::End => {
+            end(reader)?;
+            Ok(Line::End { line, time })
+        }
+        _ => Err(Refusal::At(token.span)),
+    }
+}
+
+// What stands behind a time: an action, or the end of the plan.
+fn entry(alloc: Global, reader: &mut Reader<'_>, line: u32, time: Time) -> Result<Line, Refusal>
+    ensures gives { MatchResult result
+        (λ l. entry_of line time reader.old ≡ Ok l) (λ e. Fails e (entry_of line time reader.old)) }
+{
+    if reader.open() {
+        return act(alloc, reader, line, time);
+    }
+    last(reader, line, time)
 }
 
 /// The line with a time that these tokens spell.
@@ -195,36 +234,29 @@ pub fn timed_line(alloc: Global, reader: &mut Reader<'_>, line: u32) -> Result<L
         return Ok(Line::Blank);
     };
     let time = time(reader, &first)?;
-    let token = reader.next()?;
-    match token.kind {
-        Kind::Open => {
-            let call = call(alloc, reader)?;
-            duration(reader)?;
-            Ok(Line::Act { line, time, call })
-        }
-        Kind::End => {
-            end(reader)?;
-            Ok(Line::End { line, time })
-        }
-        _ => Err(Refusal::At(token.span)),
-    }
+    entry(alloc, reader, line, time)
+}
+
+// An action without a time behind its opening parenthesis.
+fn step(alloc: Global, reader: &mut Reader<'_>, line: u32) -> Result<Line, Refusal>
+    ensures gives { MatchResult result
+        (λ l. step_of line reader.old ≡ Ok l) (λ e. Fails e (step_of line reader.old)) }
+{
+    let call = call(alloc, reader)?;
+    end(reader)?;
+    Ok(Line::Step { line, call })
 }
 
 /// The line without a time that these tokens spell.
-#[tactic(auto, unfolding(crate::specs::Grammar::untimed_line))]
 pub fn untimed_line(alloc: Global, reader: &mut Reader<'_>, line: u32) -> Result<Line, Refusal>
     ensures gives { MatchResult result
         (λ l. untimed_line line reader.old ≡ Ok l) (λ e. Fails e (untimed_line line reader.old)) }
 {
-    let Some(first) = reader.next_or_none()? else {
-        return Ok(Line::Blank);
-    };
-    match first.kind {
-        Kind::Open => {
-            let call = call(alloc, reader)?;
-            end(reader)?;
-            Ok(Line::Step { line, call })
-        }
-        _ => Err(Refusal::At(first.span)),
+    if reader.open() {
+        return step(alloc, reader, line);
     }
+    if reader.is_done() {
+        return Ok(Line::Blank);
+    }
+    Err(reader.refusal())
 }

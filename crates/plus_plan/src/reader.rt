@@ -1,13 +1,19 @@
 //! A line as the tokens that are still to come.
 
-ghost use Rattle.std.specs.Prelude.{◌≡◌, ◌∷◌, ◌<◌, ◌≤◌, length, IfOk, IfSome, OnOk, OnErr, MatchResult};
+ghost use Rattle.std.specs.Prelude.{◌≡◌, ◌∷◌, ◌<◌, ◌≤◌, false, true, length, IfErr, IfOk, IfSome, OnOk, OnErr, MatchOption, MatchResult};
+ghost use Rattle.plus_tokens.specs.Ahead.{is_close, is_colon, is_name, is_open, place_if};
+ghost use Rattle.plus_tokens.specs.First.{first_token};
+ghost use Rattle.plus_tree.specs.Lowered.{lowered};
+ghost use Rattle.plus_plan.specs.Ahead.{comes, is_done, refusal_ahead, without, word_ahead};
 ghost use Rattle.plus_plan.specs.Items.{items_at, items_of, piece_of, tok, byte_of, one_byte};
 ghost use Rattle.plus_plan.specs.Reading.{Gives, Fails, next_of};
 ghost use Rattle.plus_plan.specs.Grammar.{next_or_none};
 ghost use Rattle.plus_plan.specs.Seen.{seen, seen_or_none, HasFewPlaces, Stands};
 ghost use Rattle.plus_plan.specs.declared.reader.Refusal.TheVariants.{Memory};
 
-use plus_tokens::{Kind, LexFault, Token, next_token};
+use plus_tokens::{
+    Kind, LexFault, Token, close_ahead, colon_ahead, name_ahead, next_token, none_ahead, open_ahead,
+};
 use plus_tree::Span;
 use std::alloc::AllocError;
 use std::marker::Model;
@@ -93,6 +99,101 @@ impl<'a> Reader<'a> {
             Err(refusal) => Err(refusal),
         }
     }
+
+    /// The name that comes next, if one does. Else nothing is read.
+    pub fn name(&mut self) -> Option<&'a [u8]>
+        ensures word { MatchOption result
+            (comes is_name self.old ≡ false)
+            (λ w. (comes is_name self.old ≡ true) × (lowered w.now ≡ word_ahead self.old)) }
+        ensures leaves { self.new ≡ without is_name self.old }
+    {
+        let (word, end) = word_at(self.line, self.at)?;
+        self.at = end;
+        Some(word)
+    }
+
+    /// Reads an opening parenthesis, if one comes next, and answers whether it did.
+    pub fn open(&mut self) -> bool
+        ensures comes { result ≡ comes is_open self.old }
+        ensures leaves { self.new ≡ without is_open self.old }
+    {
+        let Some(end) = open_ahead(self.line, self.at) else {
+            return false;
+        };
+        self.at = end;
+        true
+    }
+
+    /// Reads a closing parenthesis, if one comes next, and answers whether it did.
+    pub fn close(&mut self) -> bool
+        ensures comes { result ≡ comes is_close self.old }
+        ensures leaves { self.new ≡ without is_close self.old }
+    {
+        let Some(end) = close_ahead(self.line, self.at) else {
+            return false;
+        };
+        self.at = end;
+        true
+    }
+
+    /// Reads a colon, if one comes next, and answers whether it did.
+    pub fn colon(&mut self) -> bool
+        ensures comes { result ≡ comes is_colon self.old }
+        ensures leaves { self.new ≡ without is_colon self.old }
+    {
+        let Some(end) = colon_ahead(self.line, self.at) else {
+            return false;
+        };
+        self.at = end;
+        true
+    }
+
+    /// Whether the line ends here.
+    pub fn is_done(&self) -> bool
+        ensures { result ≡ is_done self.now }
+    {
+        none_ahead(self.line, self.at)
+    }
+
+    /// Why no line goes on with what comes next.
+    pub fn refusal(&self) -> Refusal
+        ensures { result ≡ refusal_ahead self.now }
+    {
+        match token_at(self.line, self.at) {
+            Ok(token) => Refusal::At(Span {
+                start: token.start,
+                end: token.end,
+            }),
+            Err(refusal) => refusal,
+        }
+    }
+}
+
+// The name that comes next from an offset on, and where it ends, if one does.
+fn word_at(line: &[u8], at: usize) -> Option<(&[u8], usize)>
+    requires { at ≤ length line.now }
+    ensures word { MatchOption result
+        (comes is_name (items_at line.now at) ≡ false)
+        (λ x. (comes is_name (items_at line.now at) ≡ true) × (lowered x.0.now ≡ word_ahead (items_at line.now at))) }
+    ensures leaves { MatchOption result
+        (items_at line.now at ≡ without is_name (items_at line.now at))
+        (λ x. items_at line.now x.1 ≡ without is_name (items_at line.now at)) }
+    ensures inside { IfSome result (λ x. x.1 ≤ length line.now) }
+{
+    let Some((start, end)) = place_at(line, at) else {
+        return None;
+    };
+    Some((&line[start..end], end))
+}
+
+// Where the name that comes next from an offset on begins and ends, if one does.
+fn place_at(line: &[u8], at: usize) -> Option<(usize, usize)>
+    requires { at ≤ length line.now }
+    ensures is { result ≡ place_if is_name (first_token line.now at) }
+    ensures order { IfSome result (λ x. x.0 ≤ x.1) }
+    ensures inside { IfSome result (λ x. x.1 ≤ length line.now) }
+{
+    name_ahead(line, at)
 }
 
 // The byte at which no token can be read, as a place.
@@ -113,6 +214,7 @@ fn token_at(line: &[u8], at: usize) -> Result<Token, Refusal>
     ensures gives { MatchResult result
         (λ t. items_at line.now at ≡ tok (piece_of line.now t) ∷ items_at line.now t.end)
         (λ e. Fails e (next_of (items_at line.now at))) }
+    ensures refused { IfErr result (λ e. next_of (items_at line.now at) ≡ Err e) }
     ensures stands { IfOk result (λ t. Stands line.now at t) }
     ensures few { IfOk result (λ t. HasFewPlaces t.kind) }
     ensures shorter { IfOk result (λ t. length (items_at line.now t.end) < length (items_at line.now at)) }

@@ -24,3 +24,9 @@ returns-in-Ok-None-clause-gives c = ap next_of (at_none c.args.line.now c.args.a
 
 pub returns-in-Err-clause-gives : goal.returns-in-Err-clause-gives
 returns-in-Err-clause-gives c = rw c.place.ensures (ap next_of (at_fault c.args.line.now c.args.at c.in-Err.fault c.requires cc))
+
+pub returns-in-Ok-None-clause-refused : goal.returns-in-Ok-None-clause-refused
+returns-in-Ok-None-clause-refused c = ap next_of (at_none c.args.line.now c.args.at c.requires cc)
+
+pub returns-in-Err-clause-refused : goal.returns-in-Err-clause-refused
+returns-in-Err-clause-refused c = rw c.place.ensures (ap next_of (at_fault c.args.line.now c.args.at c.in-Err.fault c.requires cc))

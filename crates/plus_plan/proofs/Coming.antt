@@ -1,0 +1,404 @@
+-- What comes next, where it is of one kind: how the tokens of a line tell it, and what reading makes of it.
+use Rattle.std.proofs.Common.{◌≡◌, ℕ, ◌<◌, ◌≤◌, Bool, true, false, cond, List, [], ◌∷◌, ◌++◌, length, Option, Some, None, Result, Ok, Err, refl, sym, ap, ◌∙◌, arith, subst}
+use Rattle.std.specs.Prelude.{slice_range, IfSome, MatchResult}
+use Rattle.std.proofs.lemmas.Bool.{false≢true}
+use Rattle.plus_tokens.specs.declared.token.Kind.{Kind}
+use Rattle.plus_tokens.specs.declared.token.Kind.TheVariants as kinds
+use Rattle.plus_tokens.specs.declared.token.Token.{Token}
+use Rattle.plus_tokens.specs.declared.token.LexFault.{LexFault}
+use Rattle.plus_tokens.specs.Ahead.{is_name, is_open, is_close, is_colon, place_if, end_if, finds_none}
+use Rattle.plus_tokens.specs.First.{first_token}
+use Rattle.plus_tree.specs.Lowered.{lowered}
+use Rattle.plus_tree.specs.declared.names.Span.{Span}
+use Rattle.plus_plan.specs.declared.forms.Time.{Time}
+use Rattle.plus_plan.specs.declared.forms.Line.{Line}
+use Rattle.plus_plan.specs.declared.forms.Line.TheVariants as lines
+use Rattle.plus_plan.specs.declared.reader.Refusal.{Refusal}
+use Rattle.plus_plan.specs.declared.reader.Refusal.TheVariants as refusals
+use Rattle.plus_plan.specs.Ahead.{comes, without, word_ahead, is_done, refusal_ahead}
+use Rattle.plus_plan.specs.Items.{Piece, Item, tok, bad, piece_of, items_at}
+use Rattle.plus_plan.specs.Reading.{◌>>=◌, Read, Fails, Gives, next_of}
+use Rattle.plus_plan.specs.Grammar.{colon_of, as_colon, name_of, as_name, args_of, args_with, end_of, duration_of, duration_with, brackets_of, time_of, act_of, timed_with, last_with, last_of, entry_of, timed_from, timed_line, step_of, untimed_with, untimed_line, next_or_none}
+use Rattle.plus_plan.proofs.Names.{with_front, one_more, at_close}
+use Rattle.plus_plan.proofs.Stream.{stands, at_token, at_none, at_fault}
+
+yes : {A : Type 0} {b : Bool} (x y : A) → b ≡ true → cond b x y ≡ x
+yes x y e = ap (λ (t : Bool). cond t x y) e
+
+no : {A : Type 0} {b : Bool} (x y : A) → b ≡ false → cond b x y ≡ y
+no x y e = ap (λ (t : Bool). cond t x y) e
+
+-- ---- the tokens of a line
+
+-- a token of this kind was found, or none
+pub record IsFound (q : Kind → Bool) (line : List ℕ) (from : ℕ) (t : Token) : Type 0 where
+  pub first : first_token line from ≡ Ok (Some t)
+  pub is : q t.kind ≡ true
+
+found_comes : (q : Kind → Bool) (line : List ℕ) (from : ℕ) (t : Token) → from ≤ length line → IsFound q line from t → comes q (items_at line from) ≡ true
+found_comes q line from t le f = ap (comes q) (at_token line from t le f.first) ∙ f.is
+
+found_leaves : (q : Kind → Bool) (line : List ℕ) (from : ℕ) (t : Token) → from ≤ length line → IsFound q line from t → items_at line t.«end» ≡ without q (items_at line from)
+found_leaves q line from t le f = sym (ap (without q) (at_token line from t le f.first) ∙ yes _ _ f.is)
+
+found_word : (q : Kind → Bool) (line : List ℕ) (from : ℕ) (t : Token) → from ≤ length line → IsFound q line from t → lowered (slice_range line t.start t.«end») ≡ word_ahead (items_at line from)
+found_word q line from t le f = sym (ap word_ahead (at_token line from t le f.first))
+
+place_found : (q : Kind → Bool) (line : List ℕ) (from : ℕ) (x : ℕ × ℕ) → Some x ≡ place_if q (first_token line from) → (t : Token) × IsFound q line from t × (t.start ≡ x.0) × (t.«end» ≡ x.1)
+place_found q line from x e = told (first_token line from) refl e
+  where
+    told : (r : Result (Option Token) LexFault) → first_token line from ≡ r → Some x ≡ place_if q r → (t : Token) × IsFound q line from t × (t.start ≡ x.0) × (t.«end» ≡ x.1)
+    told (Ok None) is e = absurd cc
+    told (Err f) is e = absurd cc
+    told (Ok (Some t)) is e = chosen (q t.kind) refl e
+      where
+        chosen : (b : Bool) → q t.kind ≡ b → Some x ≡ cond b (Some (t.start, t.«end»)) None → (t : Token) × IsFound q line from t × (t.start ≡ x.0) × (t.«end» ≡ x.1)
+        chosen false k e = absurd cc
+        chosen true k e = let same : x ≡ (t.start, t.«end») = cc in (t, record { first = is; is = k }, sym (ap (λ (y : ℕ × ℕ). y.0) same), sym (ap (λ (y : ℕ × ℕ). y.1) same))
+
+end_found : (q : Kind → Bool) (line : List ℕ) (from : ℕ) (x : ℕ) → Some x ≡ end_if q (first_token line from) → (t : Token) × IsFound q line from t × (t.«end» ≡ x)
+end_found q line from x e = told (first_token line from) refl e
+  where
+    told : (r : Result (Option Token) LexFault) → first_token line from ≡ r → Some x ≡ end_if q r → (t : Token) × IsFound q line from t × (t.«end» ≡ x)
+    told (Ok None) is e = absurd cc
+    told (Err f) is e = absurd cc
+    told (Ok (Some t)) is e = chosen (q t.kind) refl e
+      where
+        chosen : (b : Bool) → q t.kind ≡ b → Some x ≡ cond b (Some t.«end») None → (t : Token) × IsFound q line from t × (t.«end» ≡ x)
+        chosen false k e = absurd cc
+        chosen true k e = let same : x ≡ t.«end» = cc in (t, record { first = is; is = k }, sym same)
+
+-- nothing of this kind was found
+pub record IsOther (q : Kind → Bool) (items : List Item) : Type 0 where
+  pub comes_not : comes q items ≡ false
+  pub stays : items ≡ without q items
+
+other_for : (q : Kind → Bool) (line : List ℕ) (from : ℕ) (r : Result (Option Token) LexFault) → from ≤ length line → first_token line from ≡ r → ((t : Token) → r ≡ Ok (Some t) → q t.kind ≡ false) → IsOther q (items_at line from)
+other_for q line from (Ok None) le is e = let a = at_none line from le is in record { comes_not = ap (comes q) a; stays = a ∙ sym (ap (without q) a) }
+other_for q line from (Err f) le is e = let a = at_fault line from f le is in record { comes_not = ap (comes q) a; stays = a ∙ sym (ap (without q) a) }
+other_for q line from (Ok (Some t)) le is e =
+    let a = at_token line from t le is in
+    let k = e t refl in
+    record { comes_not = ap (comes q) a ∙ k; stays = a ∙ sym (no _ _ k) ∙ sym (ap (without q) a) }
+
+place_other : (q : Kind → Bool) (line : List ℕ) (from : ℕ) → from ≤ length line → None ≡ place_if q (first_token line from) → IsOther q (items_at line from)
+place_other q line from le e =
+    other_for q line from (first_token line from) le refl (λ t is. chosen t (q t.kind) refl (e ∙ ap (place_if q) is))
+  where
+    chosen : (t : Token) (b : Bool) → q t.kind ≡ b → ◌≡◌ {A = Option (ℕ × ℕ)} None (cond b (Some (t.start, t.«end»)) None) → q t.kind ≡ false
+    chosen t false k e = k
+    chosen t true k e = absurd cc
+
+end_other : (q : Kind → Bool) (line : List ℕ) (from : ℕ) → from ≤ length line → None ≡ end_if q (first_token line from) → IsOther q (items_at line from)
+end_other q line from le e =
+    other_for q line from (first_token line from) le refl (λ t is. chosen t (q t.kind) refl (e ∙ ap (end_if q) is))
+  where
+    chosen : (t : Token) (b : Bool) → q t.kind ≡ b → None ≡ cond b (Some t.«end») None → q t.kind ≡ false
+    chosen t false k e = k
+    chosen t true k e = absurd cc
+
+-- the same of the tokens under another name: the offset goes behind the token, or nothing changes
+pub record IsTaken (q : Kind → Bool) (line : List ℕ) (last : ℕ) (items : List Item) : Type 0 where
+  pub comes_is : comes q items ≡ true
+  pub leaves : items_at line last ≡ without q items
+  pub inside : last ≤ length line
+
+taken : (q : Kind → Bool) (line : List ℕ) (from last : ℕ) (items : List Item) (t : Token) → from ≤ length line → items_at line from ≡ items → IsFound q line from t → t.«end» ≡ last → IsTaken q line last items
+taken q line from last items t le is f e =
+    let s = stands line from t f.first in
+    record {
+      comes_is = ap (comes q) (sym is) ∙ found_comes q line from t le f;
+      leaves = ap (items_at line) (sym e) ∙ found_leaves q line from t le f ∙ ap (without q) is;
+      inside = omega (arith, s.ends, e);
+    }
+
+pub end_taken : (q : Kind → Bool) (line : List ℕ) (from last : ℕ) (items : List Item) → from ≤ length line → items_at line from ≡ items → Some last ≡ end_if q (first_token line from) → IsTaken q line last items
+end_taken q line from last items le is e =
+    let f = end_found q line from last e in
+    taken q line from last items f.0 le is f.1 f.2
+
+moved : (q : Kind → Bool) (from items : List Item) → from ≡ items → IsOther q from → IsOther q items
+moved q from items is o = record { comes_not = ap (comes q) (sym is) ∙ o.comes_not; stays = sym is ∙ o.stays ∙ ap (without q) is }
+
+pub end_kept : (q : Kind → Bool) (line : List ℕ) (from : ℕ) (items : List Item) → from ≤ length line → items_at line from ≡ items → None ≡ end_if q (first_token line from) → IsOther q items
+end_kept q line from items le is e = moved q (items_at line from) items is (end_other q line from le e)
+
+pub place_kept : (q : Kind → Bool) (line : List ℕ) (from : ℕ) → from ≤ length line → None ≡ place_if q (first_token line from) → IsOther q (items_at line from)
+place_kept q line from le e = place_other q line from le e
+
+pub place_taken : (q : Kind → Bool) (line : List ℕ) (from : ℕ) (x : ℕ × ℕ) → from ≤ length line → Some x ≡ place_if q (first_token line from) → IsTaken q line x.1 (items_at line from)
+place_taken q line from x le e =
+    let f = place_found q line from x e in
+    taken q line from x.1 (items_at line from) f.0 le refl f.1 f.3
+
+pub place_word : (q : Kind → Bool) (line : List ℕ) (from : ℕ) (x : ℕ × ℕ) → from ≤ length line → Some x ≡ place_if q (first_token line from) → lowered (slice_range line x.0 x.1) ≡ word_ahead (items_at line from)
+place_word q line from x le e =
+    let f = place_found q line from x e in
+    ap (λ (i : ℕ). lowered (slice_range line i x.1)) (sym f.2) ∙ ap (λ (i : ℕ). lowered (slice_range line f.0.start i)) (sym f.3) ∙ found_word q line from f.0 le f.1
+
+pub place_order : (q : Kind → Bool) (line : List ℕ) (from : ℕ) (x : ℕ × ℕ) → Some x ≡ place_if q (first_token line from) → x.0 ≤ x.1
+place_order q line from x e =
+    let f = place_found q line from x e in
+    let s = stands line from f.0 f.1.first in
+    omega (arith, s.some, f.2, f.3)
+
+pub placed_order : (q : Kind → Bool) (line : List ℕ) (from : ℕ) (r : Option (ℕ × ℕ)) → r ≡ place_if q (first_token line from) → IfSome r (λ x. x.0 ≤ x.1)
+placed_order q line from None e = tt
+placed_order q line from (Some x) e = place_order q line from x e
+
+pub placed_inside : (q : Kind → Bool) (line : List ℕ) (from : ℕ) (r : Option (ℕ × ℕ)) → from ≤ length line → r ≡ place_if q (first_token line from) → IfSome r (λ x. x.1 ≤ length line)
+placed_inside q line from None le e = tt
+placed_inside q line from (Some x) le e = (place_taken q line from x le e).inside
+
+pub done_told : (line : List ℕ) (from : ℕ) → from ≤ length line → finds_none (first_token line from) ≡ is_done (items_at line from)
+done_told line from le = told (first_token line from) refl
+  where
+    told : (r : Result (Option Token) LexFault) → first_token line from ≡ r → finds_none r ≡ is_done (items_at line from)
+    told (Ok None) is = sym (ap is_done (at_none line from le is))
+    told (Ok (Some t)) is = sym (ap is_done (at_token line from t le is))
+    told (Err f) is = sym (ap is_done (at_fault line from f le is))
+
+pub refusal_token : (line : List ℕ) (from : ℕ) (t : Token) (rest : List Item) → items_at line from ≡ tok (piece_of line t) ∷ rest → refusals.At (record { start = t.start; «end» = t.«end» }) ≡ refusal_ahead (items_at line from)
+refusal_token line from t rest e = sym (ap refusal_ahead e)
+
+pub refusal_fault : (items : List Item) (e : Refusal) → next_of items ≡ Err e → e ≡ refusal_ahead items
+refusal_fault [] e h = cc
+refusal_fault (bad s ∷ rest) e h = cc
+refusal_fault (tok p ∷ rest) e h = absurd cc
+
+-- ---- what reading makes of it
+
+fails_so : {Y : Type 0} (e : Refusal) (read : Result Y Refusal) → read ≡ Err e → Fails e read
+fails_so (refusals.At s) read h = h
+fails_so refusals.AtEnd read h = h
+fails_so refusals.Memory read h = tt
+
+open_kind : (k : Kind) → is_open k ≡ true → k ≡ kinds.Open
+open_kind kinds.Open e = refl
+open_kind _ e = absurd cc
+
+close_kind : (k : Kind) → is_close k ≡ true → k ≡ kinds.Close
+close_kind kinds.Close e = refl
+close_kind _ e = absurd cc
+
+name_kind : (k : Kind) → is_name k ≡ true → k ≡ kinds.Name
+name_kind kinds.Name e = refl
+name_kind _ e = absurd cc
+
+colon_kind : (k : Kind) → is_colon k ≡ true → k ≡ kinds.Colon
+colon_kind kinds.Colon e = refl
+colon_kind _ e = absurd cc
+
+-- the token that comes, and those behind it
+comes_as : (q : Kind → Bool) (items : List Item) → comes q items ≡ true → (p : Piece) × (next_of items ≡ Ok (p, without q items)) × (q p.kind ≡ true) × (word_ahead items ≡ p.word)
+comes_as q [] e = absurd (false≢true e)
+comes_as q (bad s ∷ rest) e = absurd (false≢true e)
+comes_as q (tok p ∷ rest) e = (p, ap (λ (is : List Item). Ok (p, is)) (sym (yes _ _ e)), e, refl)
+
+pub without_shorter : (q : Kind → Bool) (items : List Item) → comes q items ≡ true → length (without q items) < length items
+without_shorter q [] e = absurd (false≢true e)
+without_shorter q (bad s ∷ rest) e = absurd (false≢true e)
+without_shorter q (tok p ∷ rest) e = let l = ap length (yes rest (tok p ∷ rest) e) in omega (arith, l)
+
+-- a colon
+colon_read : (items : List Item) → comes is_colon items ≡ true → colon_of items ≡ Ok (tt, without is_colon items)
+unfolding colon_of
+colon_read items e =
+    let c = comes_as is_colon items e in
+    ap (λ (r : Read Piece). r >>= λ p. as_colon p.0.span p.1 p.0.kind) c.1 ∙ ap (as_colon c.0.span (without is_colon items)) (colon_kind c.0.kind c.2)
+
+colon_no : (p : Piece) (rest : List Item) (k : Kind) → is_colon k ≡ false → as_colon p.span rest k ≡ Err (refusals.At p.span)
+colon_no p rest kinds.Colon e = absurd cc
+colon_no p rest _ e = refl
+
+colon_refused : (items : List Item) → comes is_colon items ≡ false → colon_of items ≡ Err (refusal_ahead items)
+unfolding colon_of
+colon_refused [] e = refl
+colon_refused (bad s ∷ rest) e = refl
+colon_refused (tok p ∷ rest) e = colon_no p rest p.kind e
+
+-- a name
+name_read : (items : List Item) → comes is_name items ≡ true → name_of items ≡ Ok (word_ahead items, without is_name items)
+unfolding name_of
+name_read items e =
+    let c = comes_as is_name items e in
+    ap (λ (r : Read Piece). r >>= λ p. as_name p.0 p.1 p.0.kind) c.1 ∙ ap (as_name c.0 (without is_name items)) (name_kind c.0.kind c.2) ∙ ap (λ (w : List ℕ). Ok (w, without is_name items)) (sym c.3)
+
+name_no : (p : Piece) (rest : List Item) (k : Kind) → is_name k ≡ false → as_name p rest k ≡ Err (refusals.At p.span)
+name_no p rest kinds.Name e = absurd cc
+name_no p rest _ e = refl
+
+name_refused : (items : List Item) → comes is_name items ≡ false → name_of items ≡ Err (refusal_ahead items)
+unfolding name_of
+name_refused [] e = refl
+name_refused (bad s ∷ rest) e = refl
+name_refused (tok p ∷ rest) e = name_no p rest p.kind e
+
+-- names up to a parenthesis
+pub args_name : (front : List (List ℕ)) (items : List Item) (total : Read (List (List ℕ))) → with_front front (args_of items) ≡ total → comes is_name items ≡ true → with_front (front ++ word_ahead items ∷ []) (args_of (without is_name items)) ≡ total
+args_name front items total h e =
+    let c = comes_as is_name items e in
+    ap (λ (w : List ℕ). with_front (front ++ w ∷ []) (args_of (without is_name items))) c.3
+    ∙ one_more front items (without is_name items) c.0 total h c.1 (name_kind c.0.kind c.2)
+
+args_close : (front : List (List ℕ)) (items : List Item) (total : Read (List (List ℕ))) → with_front front (args_of items) ≡ total → comes is_close items ≡ true → total ≡ Ok (front, without is_close items)
+args_close front items total h e =
+    let c = comes_as is_close items e in
+    at_close front items (without is_close items) c.0 total h c.1 (close_kind c.0.kind c.2)
+
+args_no : (p : Piece) (rest : List Item) (more : Read (List (List ℕ))) (k : Kind) → is_name k ≡ false → is_close k ≡ false → args_with p rest more k ≡ Err (refusals.At p.span)
+args_no p rest more kinds.Name name close = absurd cc
+args_no p rest more kinds.Close name close = absurd cc
+args_no p rest more _ name close = refl
+
+args_stop : (items : List Item) → comes is_name items ≡ false → comes is_close items ≡ false → args_of items ≡ Err (refusal_ahead items)
+unfolding args_of
+args_stop [] name close = refl
+args_stop (bad s ∷ rest) name close = refl
+args_stop (tok p ∷ rest) name close = args_no p rest (args_of rest) p.kind name close
+
+args_refused : (front : List (List ℕ)) (items : List Item) (total : Read (List (List ℕ))) → with_front front (args_of items) ≡ total → comes is_name items ≡ false → comes is_close items ≡ false → total ≡ Err (refusal_ahead items)
+args_refused front items total h name close = sym h ∙ ap (with_front front) (args_stop items name close)
+
+-- the end of the line
+end_read : (items : List Item) → is_done items ≡ true → end_of items ≡ Ok (tt, items)
+unfolding end_of
+end_read [] e = refl
+end_read (bad s ∷ rest) e = absurd cc
+end_read (tok p ∷ rest) e = absurd cc
+
+end_refused : (items : List Item) → is_done items ≡ false → end_of items ≡ Err (refusal_ahead items)
+unfolding end_of
+end_refused [] e = absurd cc
+end_refused (bad s ∷ rest) e = refl
+end_refused (tok p ∷ rest) e = refl
+
+duration_none : (items : List Item) → is_done items ≡ true → duration_of items ≡ Ok (tt, items)
+unfolding duration_of
+duration_none [] e = refl
+duration_none (bad s ∷ rest) e = absurd cc
+duration_none (tok p ∷ rest) e = absurd cc
+
+duration_next : (items : List Item) → is_done items ≡ false → duration_of items ≡ (next_of items >>= λ p. duration_with p.0.span p.1 p.0.kind)
+unfolding duration_of
+duration_next [] e = absurd cc
+duration_next (bad s ∷ rest) e = refl
+duration_next (tok p ∷ rest) e = refl
+
+-- ---- the line
+
+entry_act : (n : ℕ) (t : Time) (items : List Item) → comes is_open items ≡ true → entry_of n t items ≡ act_of n t (without is_open items)
+entry_act n t items e =
+    let c = comes_as is_open items e in
+    ap (λ (r : Read Piece). r >>= λ f. timed_with n t f.0.span f.1 f.0.kind) c.1 ∙ ap (timed_with n t c.0.span (without is_open items)) (open_kind c.0.kind c.2)
+
+last_not : (n : ℕ) (t : Time) (s : Span) (rest : List Item) (k : Kind) → is_open k ≡ false → timed_with n t s rest k ≡ last_with n t s rest k
+last_not n t s rest kinds.Open e = absurd cc
+last_not n t s rest kinds.End e = refl
+last_not n t s rest _ e = refl
+
+entry_last : (n : ℕ) (t : Time) (items : List Item) → comes is_open items ≡ false → entry_of n t items ≡ last_of n t items
+entry_last n t [] e = refl
+entry_last n t (bad s ∷ rest) e = refl
+entry_last n t (tok p ∷ rest) e = last_not n t p.span rest p.kind e
+
+untimed_step : (n : ℕ) (items : List Item) → comes is_open items ≡ true → untimed_line n items ≡ step_of n (without is_open items)
+unfolding untimed_line
+untimed_step n [] e = absurd (false≢true e)
+untimed_step n (bad s ∷ rest) e = absurd (false≢true e)
+untimed_step n (tok p ∷ rest) e = ap (untimed_with n p.span rest) (open_kind p.kind e) ∙ ap (step_of n) (sym (yes _ _ e))
+
+untimed_no : (n : ℕ) (s : Span) (rest : List Item) (k : Kind) → is_open k ≡ false → untimed_with n s rest k ≡ Err (refusals.At s)
+untimed_no n s rest kinds.Open e = absurd cc
+untimed_no n s rest _ e = refl
+
+untimed_blank : (n : ℕ) (items : List Item) → is_done items ≡ true → untimed_line n items ≡ Ok lines.Blank
+unfolding untimed_line
+untimed_blank n [] e = refl
+untimed_blank n (bad s ∷ rest) e = absurd cc
+untimed_blank n (tok p ∷ rest) e = absurd cc
+
+untimed_refused : (n : ℕ) (items : List Item) → comes is_open items ≡ false → is_done items ≡ false → untimed_line n items ≡ Err (refusal_ahead items)
+unfolding untimed_line
+untimed_refused n [] e done = absurd cc
+untimed_refused n (bad s ∷ rest) e done = refl
+untimed_refused n (tok p ∷ rest) e done = untimed_no n p.span rest p.kind e
+
+-- ---- the same, as the code tells it
+
+-- nothing was read
+kept : (q : Kind → Bool) (items : List Item) → comes q items ≡ false → without q items ≡ items
+kept q [] e = refl
+kept q (bad s ∷ rest) e = refl
+kept q (tok p ∷ rest) e = no _ _ e
+
+stays : (q : Kind → Bool) (items new : List Item) → comes q items ≡ false → new ≡ without q items → new ≡ items
+stays q items new e is = is ∙ kept q items e
+
+-- a refusal at what comes next
+pub stopped : {Y : Type 0} (items new : List Item) (r : Refusal) (read : Result Y Refusal) → new ≡ items → r ≡ refusal_ahead new → read ≡ Err (refusal_ahead items) → Fails r read
+stopped {Y} items new r read same is e =
+    let refused : Refusal → Result Y Refusal = λ f. Err f in
+    fails_so r read (e ∙ ap refused (ap refusal_ahead (sym same) ∙ sym is))
+
+gives_by : {X Y : Type 0} (view : X → Y) (rest : List Item) (r : Result X Refusal) (a b : Read Y) → a ≡ b → Gives view rest r b → Gives view rest r a
+gives_by view rest r a b e h = subst (Gives view rest r) (sym e) h
+
+pub line_by : (r : Result Line Refusal) (a b : Result Line Refusal) → a ≡ b → MatchResult r (λ l. b ≡ Ok l) (λ e. Fails e b) → MatchResult r (λ l. a ≡ Ok l) (λ e. Fails e a)
+line_by r a b e h = subst (λ (x : Result Line Refusal). MatchResult r (λ l. x ≡ Ok l) (λ e. Fails e x)) (sym e) h
+
+pub colon_told : (items new : List Item) → true ≡ comes is_colon items → new ≡ without is_colon items → colon_of items ≡ Ok (tt, new)
+colon_told items new e is = colon_read items (sym e) ∙ ap (λ (rest : List Item). Ok (tt, rest)) (sym is)
+
+pub colon_stopped : (items new : List Item) (r : Refusal) → false ≡ comes is_colon items → new ≡ without is_colon items → r ≡ refusal_ahead new → Fails r (colon_of items)
+colon_stopped items new r e is why = stopped items new r (colon_of items) (stays is_colon items new (sym e) is) why (colon_refused items (sym e))
+
+pub name_told : (items new : List Item) (w : List ℕ) → comes is_name items ≡ true → w ≡ word_ahead items → new ≡ without is_name items → name_of items ≡ Ok (w, new)
+name_told items new w e word is = name_read items e ∙ ap (λ (w : List ℕ). Ok (w, without is_name items)) (sym word) ∙ ap (λ (rest : List Item). Ok (w, rest)) (sym is)
+
+pub name_stopped : (items new : List Item) (r : Refusal) → comes is_name items ≡ false → new ≡ without is_name items → r ≡ refusal_ahead new → Fails r (name_of items)
+name_stopped items new r e is why = stopped items new r (name_of items) (stays is_name items new e is) why (name_refused items e)
+
+pub args_told : (front : List (List ℕ)) (items mid new : List Item) (total : Read (List (List ℕ))) → with_front front (args_of items) ≡ total → comes is_name items ≡ false → mid ≡ without is_name items → true ≡ comes is_close mid → new ≡ without is_close mid → total ≡ Ok (front, new)
+args_told front items mid new total h e is closes leaves =
+    let same = stays is_name items mid e is in
+    args_close front items total h (ap (comes is_close) (sym same) ∙ sym closes) ∙ ap (λ (rest : List Item). Ok (front, rest)) (ap (without is_close) (sym same) ∙ sym leaves)
+
+pub args_stopped : (front : List (List ℕ)) (items mid new : List Item) (r : Refusal) (total : Read (List (List ℕ))) → with_front front (args_of items) ≡ total → comes is_name items ≡ false → mid ≡ without is_name items → false ≡ comes is_close mid → new ≡ without is_close mid → r ≡ refusal_ahead new → Fails r total
+args_stopped front items mid new r total h e is closes leaves why =
+    let same = stays is_name items mid e is in
+    stopped items new r total (stays is_close mid new (sym closes) leaves ∙ same) why (args_refused front items total h e (ap (comes is_close) (sym same) ∙ sym closes))
+
+pub end_told : (items : List Item) → true ≡ is_done items → end_of items ≡ Ok (tt, items)
+end_told items e = end_read items (sym e)
+
+pub end_stopped : (items : List Item) (r : Refusal) → false ≡ is_done items → r ≡ refusal_ahead items → Fails r (end_of items)
+end_stopped items r e why = stopped items items r (end_of items) refl why (end_refused items (sym e))
+
+pub duration_told : (items : List Item) → true ≡ is_done items → duration_of items ≡ Ok (tt, items)
+duration_told items e = duration_none items (sym e)
+
+pub duration_behind : {X : Type 0} (view : X → Unit {0}) (items rest : List Item) (r : Result X Refusal) → false ≡ is_done items → Gives view rest r (brackets_of items) → Gives view rest r (duration_of items)
+duration_behind view items rest r e h = gives_by view rest r (duration_of items) (brackets_of items) (duration_next items (sym e)) h
+
+pub entry_told : (n : ℕ) (t : Time) (items new : List Item) → true ≡ comes is_open items → new ≡ without is_open items → entry_of n t items ≡ act_of n t new
+entry_told n t items new e is = entry_act n t items (sym e) ∙ ap (act_of n t) (sym is)
+
+pub entry_behind : (n : ℕ) (t : Time) (items new : List Item) → false ≡ comes is_open items → new ≡ without is_open items → entry_of n t items ≡ last_of n t new
+entry_behind n t items new e is = entry_last n t items (sym e) ∙ ap (last_of n t) (sym (stays is_open items new (sym e) is))
+
+pub step_told : (n : ℕ) (items new : List Item) → true ≡ comes is_open items → new ≡ without is_open items → untimed_line n items ≡ step_of n new
+step_told n items new e is = untimed_step n items (sym e) ∙ ap (step_of n) (sym is)
+
+pub blank_told : (n : ℕ) (items new : List Item) → false ≡ comes is_open items → new ≡ without is_open items → true ≡ is_done new → untimed_line n items ≡ Ok lines.Blank
+blank_told n items new e is done = untimed_blank n items (ap is_done (sym (stays is_open items new (sym e) is)) ∙ sym done)
+
+pub untimed_stopped : (n : ℕ) (items new : List Item) (r : Refusal) → false ≡ comes is_open items → new ≡ without is_open items → false ≡ is_done new → r ≡ refusal_ahead new → Fails r (untimed_line n items)
+untimed_stopped n items new r e is done why =
+    let same = stays is_open items new (sym e) is in
+    stopped items new r (untimed_line n items) same why (untimed_refused n items (sym e) (ap is_done (sym same) ∙ sym done))
+
+pub timed_entry : (n : ℕ) (items rest more : List Item) (p : Piece) (t : Time) → next_or_none items ≡ Ok (Some p, rest) → time_of p rest ≡ Ok (t, more) → timed_line n items ≡ entry_of n t more
+unfolding timed_line
+timed_entry n items rest more p t h k =
+    ap (λ (r : Read (Option Piece)). r >>= λ p. timed_from n p.0 p.1) h ∙ ap (λ (r : Read Time). r >>= λ t. entry_of n t.0 t.1) k
