@@ -1,19 +1,19 @@
 -- The rates of all fluents, told by those that are given.
 use Rattle.std.proofs.Common.{◌≡◌, ℕ, ◌<◌, ◌≤◌, ◌+◌, zero, suc, Bool, true, false, List, [], ◌∷◌, ◌++◌, length, set, replicate, refl, ap, ap₂, sym, subst, ◌∙◌, append_assoc, arith, pos, inl, inr}
 use Rattle.std.proofs.lemmas.Bool.Decides.{nat_tests}
-use Rattle.std.proofs.lemmas.List.{append-nil, map-append, length-set, length-replicate}
+use Rattle.std.proofs.lemmas.List.{append-nil, map-append}
 use Rattle.std.proofs.lemmas.Map.{lookup-none}
 use Rattle.std.proofs.lemmas.Map.Entries.{lookup_head, lookup_tail, none_below_head}
 use Rattle.std.proofs.lemmas.Map.Keys.{sorted_head, sorted_tail}
-use Rattle.std.specs.Prelude.{◌⊎◌, Option, Some, None, cond, not, option_map, unwrap_or, if◌then◌else◌}
+use Rattle.std.specs.Prelude.{◌⊎◌, Option, Some, None, not, option_map, unwrap_or, if◌then◌else◌}
 use Rattle.std.specs.declared.cmp.Ordering.{Ordering}
 use Rattle.std.specs.declared.cmp.Ordering.TheVariants.{Less, Equal, Greater}
-use Rattle.std.specs.Ordering.{nat_cmp, is_eq, match_ordering}
+use Rattle.std.specs.Ordering.{nat_cmp, is_eq}
 use Rattle.std.specs.Cmp.{nat_cmp_is, nat_cmp_total, ranked}
 use Rattle.std.specs.List.{AllByRecursion}
 use Rattle.std.specs.List.Sorted.{IsStrictlySortedBy}
 use Rattle.std.specs.Map.{lookup, keys_of}
-use Rattle.std.specs.BTreeMap.{is_at, insert_entry}
+use Rattle.std.specs.BTreeMap.{is_at}
 use Rattle.plus_fraction.specs.Fraction.{Fraction, whole}
 use Rattle.plus_model.specs.Firing.{numbers_of}
 use Rattle.plus_model.specs.Piece.{rate_of}
@@ -25,13 +25,13 @@ use Rattle.plus_state.specs.Changes.{AreIn}
 use Rattle.plus_crossing.specs.Rated.{given_rate, all_rates, moving_of, fluent_numbers}
 
 -- ---- numbers that are compared
-at_same : (k j : ℕ) → k ≡ j → is_at (nat_cmp k) j ≡ true
+pub at_same : (k j : ℕ) → k ≡ j → is_at (nat_cmp k) j ≡ true
 at_same k j e = ap is_eq (sym (nat_cmp_is k j Equal e))
 
-not_at : (k j : ℕ) → j < k → is_at (nat_cmp k) j ≡ false
+pub not_at : (k j : ℕ) → j < k → is_at (nat_cmp k) j ≡ false
 not_at k j h = ap is_eq (sym (nat_cmp_is k j Greater h))
 
-apart_at : (k j : ℕ) → (j ≡ k → ⊥) → is_at (nat_cmp k) j ≡ false
+pub apart_at : (k j : ℕ) → (j ≡ k → ⊥) → is_at (nat_cmp k) j ≡ false
 apart_at k j h = grind (arith, nat_tests, h)
 
 le_cases : (k j : ℕ) → k ≤ j → (k ≡ j) ⊎ (k < j)
@@ -39,16 +39,6 @@ le_cases zero zero h = inl refl
 le_cases zero (suc j) h = inr (omega arith)
 le_cases (suc k) zero h = absurd (omega arith)
 le_cases (suc k) (suc j) h = elim (le_cases k j (omega arith)) [ inl e ↦ inl (ap suc e) | inr l ↦ inr (omega arith) ]
-
--- ---- one entry more
-in_case : {Q : Type 0} (o : Ordering) (n k : ℕ) (q : Q) (e : ℕ × Q) (es more : List (ℕ × Q)) → k < n → e.0 < n → AreIn n es → AreIn n more → AreIn n (match_ordering o ((k, q) ∷ e ∷ es) ((e.0, q) ∷ es) (e ∷ more))
-in_case Less n k q e es more h d a b = (h, (d, a))
-in_case Equal n k q e es more h d a b = (d, a)
-in_case Greater n k q e es more h d a b = (d, b)
-
-pub in_insert : {Q : Type 0} (n k : ℕ) (q : Q) (es : List (ℕ × Q)) → k < n → AreIn n es → AreIn n (insert_entry nat_cmp es k q)
-in_insert n k q [] h a = (h, tt)
-in_insert n k q (e ∷ es) h a = in_case (nat_cmp k e.0) n k q e es (insert_entry nat_cmp es k q) h a.0 a.1 (in_insert n k q es h a.1)
 
 -- ---- entries below a number
 pub in_more : {Q : Type 0} (n m : ℕ) (es : List (ℕ × Q)) → n ≤ m → AreIn n es → AreIn m es
@@ -76,7 +66,7 @@ module _ {Q : Type 0} (v : Q → Fraction) where
       let e : suc k + i ≡ k + suc i = omega arith in
       rate_there es (suc k) n i (omega arith) ∙ ap (given_rate v es) e
 
-  same_rates : (es fs : List (ℕ × Q)) (k n : ℕ) → ((i : ℕ) → k ≤ i → given_rate v es i ≡ given_rate v fs i) → all_rates v es k n ≡ all_rates v fs k n
+  pub same_rates : (es fs : List (ℕ × Q)) (k n : ℕ) → ((i : ℕ) → k ≤ i → given_rate v es i ≡ given_rate v fs i) → all_rates v es k n ≡ all_rates v fs k n
   unfolding all_rates
   same_rates es fs k zero h = refl
   same_rates es fs k (suc n) h = ap₂ (λ (r : Fraction) (rs : List Fraction). r ∷ rs) (h k (omega arith)) (same_rates es fs (suc k) n (λ i o. h i (omega arith)))
@@ -97,15 +87,6 @@ module _ {Q : Type 0} (v : Q → Fraction) where
       ap₂ (λ (q : Fraction) (rs : List Fraction). q ∷ rs) (apart k (λ d. omega arith))
       (set_rates es fs (suc k) n i r (ap (given_rate v fs) e ∙ here) (λ j ne. apart j (λ d. ne (d ∙ sym e))))
 
-  -- one number has this value, and the others have theirs
-  rates_with : (es fs : List (ℕ × Q)) (n k : ℕ) (q : Q) → ((j : ℕ) → lookup (is_at (nat_cmp j)) fs ≡ cond (is_at (nat_cmp k) j) (Some q) (lookup (is_at (nat_cmp j)) es)) → all_rates v fs 0 n ≡ set (all_rates v es 0 n) k (v q)
-  rates_with es fs n k q u =
-      let o : Option Q → Fraction = λ (x : Option Q). unwrap_or (option_map v x) (whole (pos 0)) in
-      let z : 0 + k ≡ k = omega arith in
-      set_rates es fs 0 n k (v q)
-      (ap (given_rate v fs) z ∙ ap o (u k) ∙ ap (λ (b : Bool). o (cond b (Some q) (lookup (is_at (nat_cmp k)) es))) (at_same k k refl))
-      (λ j ne. ap o (u j) ∙ ap (λ (b : Bool). o (cond b (Some q) (lookup (is_at (nat_cmp j)) es))) (apart_at k j (λ d. ne (d ∙ sym z))))
-
   -- the same of the rates that contracts see
   pub given_below : (es : List (ℕ × Q)) (n k : ℕ) (rates : List Fraction) → all_rates v es 0 n ≡ rates → k < length rates → k < n
   given_below es n k rates e h = let l : length rates ≡ n = ap length (sym e) ∙ length-all_rates es 0 n in omega arith
@@ -116,8 +97,13 @@ module _ {Q : Type 0} (v : Q → Fraction) where
       ap (λ (x : Option Q). unwrap_or (option_map v x) (whole (pos 0))) d ∙ ap (given_rate v es) (sym z)
       ∙ sym (rate_there es 0 n k (given_below es n k rates e h)) ∙ ap (λ (rs : List Fraction). rate_of rs k) e
 
-  pub given_set : (es fs : List (ℕ × Q)) (n k : ℕ) (q : Q) (rates : List Fraction) → all_rates v es 0 n ≡ rates → ((j : ℕ) → lookup (is_at (nat_cmp j)) fs ≡ cond (is_at (nat_cmp k) j) (Some q) (lookup (is_at (nat_cmp j)) es)) → all_rates v fs 0 n ≡ set rates k (v q)
-  given_set es fs n k q rates e u = rates_with es fs n k q u ∙ ap (λ (rs : List Fraction). set rs k (v q)) e
+  -- number k has this value, and the others have theirs
+  pub given_put : (es fs : List (ℕ × Q)) (n k : ℕ) (q : Q) (rates : List Fraction) → all_rates v es 0 n ≡ rates → lookup (is_at (nat_cmp k)) fs ≡ Some q → ((j : ℕ) → (j ≡ k → ⊥) → lookup (is_at (nat_cmp j)) fs ≡ lookup (is_at (nat_cmp j)) es) → all_rates v fs 0 n ≡ set rates k (v q)
+  given_put es fs n k q rates e here apart =
+      let o : Option Q → Fraction = λ (x : Option Q). unwrap_or (option_map v x) (whole (pos 0)) in
+      let z : 0 + k ≡ k = omega arith in
+      set_rates es fs 0 n k (v q) (ap (given_rate v fs) z ∙ ap o here) (λ j ne. ap o (apart j (λ d. ne (d ∙ sym z))))
+      ∙ ap (λ (rs : List Fraction). set rs k (v q)) e
 
   -- ---- those that move
   abbrev pub moving_keys : List (ℕ × Q) → List ℕ
@@ -222,59 +208,3 @@ module _ {Q : Type 0} (v : Q → Fraction) where
 
   pub noted_end : (found : List FluentId) (left : List (ℕ × Q)) (all : List ℕ) → left ≡ [] → fluent_numbers found ++ moving_keys left ≡ all → fluent_numbers found ≡ all
   noted_end found left all s h = sym (append-nil (fluent_numbers found)) ∙ ap (λ (es : List (ℕ × Q)). fluent_numbers found ++ moving_keys es) (sym s) ∙ h
-
--- ---- rates that are given again, one after the other
-
-set_commute : (rs : List Fraction) (i j : ℕ) (x y : Fraction) → (i ≡ j → ⊥) → set (set rs i x) j y ≡ set (set rs j y) i x
-set_commute [] i j x y h = refl
-set_commute (r ∷ rs) zero zero x y h = absurd (h refl)
-set_commute (r ∷ rs) zero (suc j) x y h = refl
-set_commute (r ∷ rs) (suc i) zero x y h = refl
-set_commute (r ∷ rs) (suc i) (suc j) x y h = ap (λ (qs : List Fraction). r ∷ qs) (set_commute rs i j x y (λ e. h (ap suc e)))
-
-module _ {Q : Type 0} (v : Q → Fraction) where
-  abbrev pub put_all : List Fraction → List (ℕ × Q) → List Fraction
-  put_all rs [] = rs
-  put_all rs (e ∷ es) = put_all (set rs e.0 (v e.1)) es
-
-  put_behind : (rs : List Fraction) (k : ℕ) (r : Fraction) (es : List (ℕ × Q)) → AllByRecursion (λ y. nat_cmp k y ≡ Less) (keys_of es) → put_all (set rs k r) es ≡ set (put_all rs es) k r
-  put_behind rs k r [] h = refl
-  put_behind rs k r (e ∷ es) h =
-      let l : k < e.0 = ranked k e.0 Less (sym h.0) in
-      ap (λ (qs : List Fraction). put_all qs es) (set_commute rs k e.0 r (v e.1) (λ d. omega (arith, d, l))) ∙ put_behind (set rs e.0 (v e.1)) k r es h.1
-
-  rates_cons : (e : ℕ × Q) (es : List (ℕ × Q)) (n : ℕ) → all_rates v (e ∷ es) 0 n ≡ set (all_rates v es 0 n) e.0 (v e.1)
-  rates_cons e es n =
-      let z : 0 + e.0 ≡ e.0 = omega arith in
-      set_rates v es (e ∷ es) 0 n e.0 (v e.1) (given_here v e es (0 + e.0) z)
-      (λ j ne. ap (λ (x : Option Q). unwrap_or (option_map v x) (whole (pos 0))) (lookup_tail (is_at (nat_cmp j)) e es (apart_at j e.0 (λ d. ne (sym d ∙ sym z)))))
-
-  pub given_again : (es : List (ℕ × Q)) (n : ℕ) → IsStrictlySortedBy nat_cmp (keys_of es) → put_all (replicate n (whole (pos 0))) es ≡ all_rates v es 0 n
-  given_again [] n s = sym (zero_rates v 0 n)
-  given_again (e ∷ es) n s =
-      put_behind (replicate n (whole (pos 0))) e.0 (v e.1) es (sorted_head nat_cmp e.0 (keys_of es) s)
-      ∙ ap (λ (rs : List Fraction). set rs e.0 (v e.1)) (given_again es n (sorted_tail nat_cmp e.0 (keys_of es) s)) ∙ sym (rates_cons e es n)
-
-  -- what is left of the entries, and the rates so far
-  pub record Copying (rates : List Fraction) (left : List (ℕ × Q)) (all : List Fraction) : Type 0 where
-    pub so_far : put_all rates left ≡ all
-    pub inside : AreIn (length rates) left
-
-  pub copying_start : (es left : List (ℕ × Q)) (n : ℕ) (zeros rates : List Fraction) → all_rates v es 0 n ≡ rates → IsStrictlySortedBy nat_cmp (keys_of es) → AreIn n es → zeros ≡ replicate n (whole (pos 0)) → left ≡ es → Copying zeros left rates
-  copying_start es left n zeros rates e s a z l = record {
-    so_far = ap₂ put_all z l ∙ given_again es n s ∙ e;
-    inside = subst (λ (m : ℕ). AreIn m left) (sym (ap length z ∙ length-replicate n (whole (pos 0)))) (subst (AreIn n) (sym l) a);
-  }
-
-  module _ (rates all : List Fraction) (left more : List (ℕ × Q)) (k : ℕ) (q : Q) (s : left ≡ (k, q) ∷ more) (h : Copying rates left all) where
-    pub copying_inside : k < length rates
-    copying_inside = (subst (AreIn (length rates)) s h.inside).0
-
-    pub copying_next : (new : List Fraction) → new ≡ set rates k (v q) → Copying new more all
-    copying_next new n = record {
-      so_far = ap (λ (rs : List Fraction). put_all rs more) n ∙ ap (put_all rates) (sym s) ∙ h.so_far;
-      inside = subst (λ (m : ℕ). AreIn m more) (sym (ap length n ∙ length-set rates k (v q))) (subst (AreIn (length rates)) s h.inside).1;
-    }
-
-  pub copying_end : (rates all : List Fraction) (left : List (ℕ × Q)) → left ≡ [] → Copying rates left all → rates ≡ all
-  copying_end rates all left e h = ap (put_all rates) (sym e) ∙ h.so_far

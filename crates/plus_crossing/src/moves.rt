@@ -141,9 +141,9 @@ pub fn moved_changes<Q: Exact>(
     let Ok(mut fluents) = Vec::with_capacity(alloc, given.len()) else {
         return Err(MoveStop::Memory);
     };
-    'each: for (number, rate) in given {
-        let fluent = FluentId(*number);
-        match note(&mut fluents, fluent, state.fluent(fluent), *rate, delay) {
+    'each: for entry in given {
+        let fluent = FluentId(entry.0);
+        match note(&mut fluents, fluent, state.fluent(fluent), entry.1, delay) {
             Err(stop) => return Err(stop),
             Ok(()) => {}
         }

@@ -1,28 +1,28 @@
 //! Net rates: how much each fluent gains in a unit of time.
-ghost use Rattle.std.specs.Prelude.{◌≡◌, ◌<◌, ◌≤◌, ℕ, replicate, length, slice_set, pos, IfOk, OnOk, OnErr};
+ghost use Rattle.std.specs.Prelude.{◌≡◌, ◌<◌, ◌≤◌, ℕ, replicate, length, slice_set, true, pos, IfOk, OnOk, OnErr};
 ghost use Rattle.plus_fraction.specs.Fraction.{whole};
 ghost use Rattle.plus_model.specs.Piece.{rate_of};
-ghost use Rattle.plus_state.specs.Changes.{AreIn};
-ghost use Rattle.plus_crossing.specs.Rated.{all_rates, fluent_numbers, moving_of};
+ghost use Rattle.plus_state.specs.Changes.{AreIn, Rises};
+ghost use Rattle.plus_crossing.specs.Rated.{all_rates, fluent_numbers, moving_of, IsFoundAt, IsAt};
 
 use plus_number::consts::zero;
 use plus_number::exact::Exact;
 use plus_state::evaluation::is_zero;
 use plus_state::term::FluentId;
 use std::alloc::{AllocError, Global};
-use std::collections::BTreeMap;
 use std::marker::Model;
 
 /// The net rate of each fluent, 0 where none was given. Contracts see the list of the fractions, by the
-/// numbers of the fluents. Only the rates that were given are kept, in an ordered map by fluents: in
-/// whatever order n rates come, this takes a multiple of n log n steps, and other fluents cost nothing.
+/// numbers of the fluents. Only the rates that were given are kept, in a list by rising fluents: other
+/// fluents cost nothing. A rate takes the time of a search; a fluent that has no place yet also that of
+/// moving those behind it, so places for fluents in any order are made at once (`make_places`).
 #[derive(Drop)]
 pub struct Rates<Q: Exact> {
     // How many there are: the length of the list that contracts see.
     fluents: usize,
-    // Above all fluents whose rates were given: a look at another one costs nothing.
+    // Above all fluents that have a place: a look at another one costs nothing.
     below: usize,
-    given: BTreeMap<u32, Q>,
+    given: Vec<(u32, Q)>,
 }
 
 impl<Q: Exact> Model for Rates<Q> {
@@ -30,16 +30,16 @@ impl<Q: Exact> Model for Rates<Q> {
     ghost use Rattle.std.specs.Coded.{coded_list};
     ghost use Rattle.plus_fraction.specs.Fraction.{Fraction};
     ghost use Rattle.plus_fraction.specs.FractionCode.{coded_fraction};
-    ghost use Rattle.plus_state.specs.Changes.{AreIn};
+    ghost use Rattle.plus_state.specs.Changes.{AreIn, Rises};
     ghost use Rattle.plus_crossing.specs.Rated.{all_rates};
 
     ghost Value = { List Fraction };
 
     ghost coded = { coded_list coded_fraction };
 
-    ghost view = { λ r. all_rates Q.value r.given.entries 0 r.fluents };
+    ghost view = { λ r. all_rates Q.value r.given.items 0 r.fluents };
 
-    ghost invariant = { λ r. AreIn r.below r.given.entries × (r.below ≤ r.fluents) };
+    ghost invariant = { λ r. AreIn r.below r.given.items × (r.below ≤ r.fluents) × Rises r.given.items };
 }
 
 fn greater(x: usize, y: usize) -> usize
@@ -50,6 +50,55 @@ fn greater(x: usize, y: usize) -> usize
     if x < y { y } else { x }
 }
 
+// Whether this fluent stands at this place.
+fn stands_at<Q: Exact>(given: &[(u32, Q)], place: usize, fluent: u32) -> bool
+    ensures { result ≡ true → IsAt place fluent given.now }
+{
+    place < given.len() && given[place].0 == fluent
+}
+
+// The place of this fluent, if none is left out from the first one up to it.
+fn place_from_first<Q: Exact>(given: &[(u32, Q)], fluent: u32) -> usize {
+    match given {
+        [] => 0,
+        [first, ..] => fluent.saturating_sub(first.0) as usize,
+    }
+}
+
+// The place of this fluent, if none is left out from it up to the last one, which is below this number.
+fn place_from_last<Q: Exact>(given: &[(u32, Q)], fluent: u32, below: usize) -> usize {
+    given
+        .len()
+        .saturating_sub(below.saturating_sub(fluent as usize))
+}
+
+// Where this fluent stands, or else where it would be put in.
+fn search<Q: Exact>(given: &[(u32, Q)], fluent: u32) -> Result<usize, usize>
+    requires { Rises given.now }
+    ensures { IsFoundAt fluent given.now result }
+{
+    match given.binary_search_by_key(&fluent, |entry| entry.0) {
+        Ok(place) => Ok(place),
+        Err(place) => Err(place),
+    }
+}
+
+// The same. Most fluents stand in a row, so two places are tried first.
+fn place_of<Q: Exact>(given: &[(u32, Q)], fluent: u32, below: usize) -> Result<usize, usize>
+    requires { Rises given.now }
+    ensures { IsFoundAt fluent given.now result }
+{
+    let late = place_from_last(given, fluent, below);
+    if stands_at(given, late, fluent) {
+        return Ok(late);
+    }
+    let early = place_from_first(given, fluent);
+    if stands_at(given, early, fluent) {
+        return Ok(early);
+    }
+    search(given, fluent)
+}
+
 impl<Q: Exact> Rates<Q> {
     /// All rates are 0, for so many fluents.
     pub fn zero(alloc: Global, fluents: usize) -> Rates<Q>
@@ -58,7 +107,7 @@ impl<Q: Exact> Rates<Q> {
         Rates {
             fluents,
             below: 0,
-            given: BTreeMap::new(alloc),
+            given: Vec::new(alloc),
         }
     }
 
@@ -66,11 +115,11 @@ impl<Q: Exact> Rates<Q> {
     pub fn copy(&self, alloc: Global) -> Result<Rates<Q>, AllocError>
         ensures { IfOk result (λ r. r ≡ self.now) }
     {
-        let mut rates = Rates::zero(alloc, self.fluents);
-        'each: for (fluent, rate) in &self.given {
-            rates.set(FluentId(*fluent), *rate)?;
-        }
-        Ok(rates)
+        Ok(Rates {
+            fluents: self.fluents,
+            below: self.below,
+            given: Vec::from_slice(alloc, &self.given)?,
+        })
     }
 
     /// The rate of a fluent.
@@ -81,9 +130,9 @@ impl<Q: Exact> Rates<Q> {
         if self.below <= fluent.0 as usize {
             return zero();
         }
-        match self.given.get(&fluent.0) {
-            Some(rate) => *rate,
-            None => zero(),
+        match place_of(&self.given, fluent.0, self.below) {
+            Ok(place) => self.given[place].1,
+            Err(_) => zero(),
         }
     }
 
@@ -93,15 +142,44 @@ impl<Q: Exact> Rates<Q> {
         ensures ok { OnOk result (self.new ≡ slice_set self.old fluent.0 (Q.value rate)) }
         ensures err { OnErr result (self.new ≡ self.old) }
     {
-        self.given.insert(fluent.0, rate)?;
-        self.below = greater(self.below, fluent.0 as usize + 1);
+        match place_of(&self.given, fluent.0, self.below) {
+            Ok(place) => {
+                self.given[place] = (fluent.0, rate);
+            }
+            Err(place) => {
+                self.given.insert(place, (fluent.0, rate))?;
+                self.below = greater(self.below, fluent.0 as usize + 1);
+            }
+        }
+        Ok(())
+    }
+
+    /// Makes places for these fluents, in whatever order they come, where no fluent has one yet.
+    pub fn make_places(&mut self, alloc: Global, mut numbers: Vec<u32>) -> Result<(), AllocError>
+        ensures { self.new ≡ self.old }
+    {
+        if self.below != 0 {
+            return Ok(());
+        }
+        numbers.sort()?;
+        let mut given = Vec::with_capacity(alloc, numbers.len())?;
+        let mut below = 0;
+        'each: for number in &numbers {
+            if below <= *number as usize && (*number as usize) < self.fluents {
+                given.push((*number, zero()))?;
+                below = *number as usize + 1;
+            }
+        }
+        self.given = given;
+        self.below = below;
         Ok(())
     }
 
     // The rates that were given, by the numbers of the fluents.
-    pub fn given(&self) -> &BTreeMap<u32, Q>
-        ensures rates { all_rates Q.value result.now.entries 0 (length self.now) ≡ self.now }
-        ensures inside { AreIn (length self.now) result.now.entries }
+    pub fn given(&self) -> &[(u32, Q)]
+        ensures rates { all_rates Q.value result.now 0 (length self.now) ≡ self.now }
+        ensures inside { AreIn (length self.now) result.now }
+        ensures rising { Rises result.now }
     {
         &self.given
     }
@@ -110,10 +188,10 @@ impl<Q: Exact> Rates<Q> {
     pub fn moving(&self, alloc: Global) -> Result<Vec<FluentId>, AllocError>
         ensures { IfOk result (λ fluents. fluent_numbers fluents.items ≡ moving_of self.now) }
     {
-        let mut fluents = Vec::new(alloc);
-        'each: for (fluent, rate) in &self.given {
-            if !is_zero(*rate) {
-                fluents.push(FluentId(*fluent))?;
+        let mut fluents = Vec::with_capacity(alloc, self.given.len())?;
+        'each: for entry in &self.given {
+            if !is_zero(entry.1) {
+                fluents.push(FluentId(entry.0))?;
             }
         }
         Ok(fluents)

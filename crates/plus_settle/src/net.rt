@@ -1,5 +1,6 @@
 //! Net rates.
-ghost use Rattle.std.specs.Prelude.{◌≡◌, ◌<◌, [], ◌∷◌, length, map, All, IfOk, MatchResult};
+ghost use Rattle.std.specs.Prelude.{◌≡◌, ◌<◌, [], ◌∷◌, length, map, replicate, pos, All, IfOk, MatchResult};
+ghost use Rattle.plus_fraction.specs.Fraction.{whole};
 ghost use Rattle.plus_model.specs.Value.{value as value_of, fluent_of};
 ghost use Rattle.plus_model.specs.Running.{rated, add_rates, rates as rates_of};
 ghost use Rattle.plus_state.specs.View.{rate_of, problem_of, overflow_of};
@@ -17,7 +18,7 @@ use plus_state::evaluation::value;
 use plus_state::problem::Ground;
 use plus_state::states::State;
 use plus_state::term::{Overflow, ProcessId, Rate, Sign};
-use std::alloc::Global;
+use std::alloc::{AllocError, Global};
 
 // The sum with this amount more, or less.
 #[tactic(auto, using(crate::proofs::RatesLemmas::summing))]
@@ -86,6 +87,34 @@ fn add_all<Q: Exact>(
     Ok(())
 }
 
+// Appends the fluents of these rates.
+fn note_rated<Q: Exact>(into: &mut Vec<u32>, list: &[Rate<Q>]) -> Result<(), AllocError> {
+    'each: for rate in list {
+        into.push(rate.fluent.0)?;
+    }
+    Ok(())
+}
+
+// All rates are 0, and the fluents that have a rate under these processes have their places.
+fn with_places<Q: Exact>(
+    alloc: Global,
+    ground: &Ground<Q>,
+    members: &[ProcessId],
+    fluents: usize,
+) -> Result<Rates<Q>, AllocError>
+    ensures { IfOk result (λ rates. rates ≡ replicate fluents (whole (pos 0))) }
+{
+    let mut numbers = Vec::with_capacity(alloc, members.len())?;
+    'each: for member in members {
+        if let Some(process) = ground.processes.get(member.0 as usize) {
+            note_rated(&mut numbers, &process.rates)?;
+        }
+    }
+    let mut rates = Rates::zero(alloc, fluents);
+    rates.make_places(alloc, numbers)?;
+    Ok(rates)
+}
+
 /// The net rate of each fluent under these processes, which stand in ground order: the sum of their
 /// rates on it, all read in this state. The refusal is the first step that stops: members in order, of
 /// each its rates in order, of each the amount, then a missing value, then the sum; or want of memory.
@@ -100,7 +129,7 @@ pub fn net_rates<Q: Exact>(
     ensures size { IfOk result (λ rs. length rs ≡ length (state.now.fluents)) }
     ensures told { NetRates Q.value Q.fits (problem_of Q.value ground.now) state.now (process_numbers members.now) result }
 {
-    let mut rates = Rates::zero(alloc, state.fluents() as usize);
+    let mut rates = with_places(alloc, ground, members, state.fluents() as usize)?;
     'each: for member in members {
         let own = &ground.processes[member.0 as usize].rates;
         match add_all(&mut rates, own, state) {

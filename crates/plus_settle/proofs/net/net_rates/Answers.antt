@@ -6,7 +6,7 @@ use Rattle.plus_settle.proofs.net.net_rates.Goals as goal
 
 pub each-init : goal.each-init
 each-init g c =
-    summing_start _ (problem_of g.Q.Exact.value c.args.ground.now) _ _ _ _ c.zero-rates.ensures c.fluents.ensures (below_all g.Q.Exact.value c.args.ground.now _ c.requires.members.inside)
+    summing_start _ (problem_of g.Q.Exact.value c.args.ground.now) _ _ _ _ c.in_ok-rates.ensures c.fluents.ensures (below_all g.Q.Exact.value c.args.ground.now _ c.requires.members.inside)
 
 pub index-requires : goal.index-requires
 index-requires g c =

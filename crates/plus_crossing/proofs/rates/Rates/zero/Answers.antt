@@ -4,4 +4,4 @@ use Rattle.plus_crossing.proofs.Rated.{zero_rates}
 use Rattle.plus_crossing.proofs.rates.Rates.zero.Goals as goal
 
 pub returns : goal.returns
-returns g c = ap (λ es. all_rates g.Q.Exact.value es 0 c.args.fluents) c.new.ensures.empty ∙ zero_rates g.Q.Exact.value 0 c.args.fluents
+returns g c = ap (λ es. all_rates g.Q.Exact.value es 0 c.args.fluents) c.new.ensures.items ∙ zero_rates g.Q.Exact.value 0 c.args.fluents
