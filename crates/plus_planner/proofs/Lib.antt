@@ -12,6 +12,7 @@ pub mod Walks
 pub mod PlaceLemmas
 pub mod TakenLemmas
 pub mod DecidingLemmas
+pub mod ForkLemmas
 pub mod TriedLemmas
 pub mod WorldLemmas
 pub mod ListingLemmas

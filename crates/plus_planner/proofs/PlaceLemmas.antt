@@ -10,6 +10,7 @@ use Rattle.plus_stretch.specs.Tests.{AllPass, IsLimit}
 use Rattle.plus_timeline.specs.Asked.{act_tests}
 use Rattle.plus_timeline.specs.Timeline.{TimelineView}
 use Rattle.plus_timeline.specs.Act.{DoesAct}
+use Rattle.plus_timeline.specs.Finish.{IsPaused}
 use Rattle.plus_planner.specs.declared.places.Taken.{Taken}
 use Rattle.plus_planner.specs.Grid.{Task, ticks, after_decision, tick_after, timed, AllTimes, IsAlive}
 use Rattle.plus_planner.specs.Laws.{AllWaits, EndsWithAction}
@@ -230,6 +231,10 @@ module _ {Q : Type 0} (fits : Fraction → Type 0) (task : Task) where
                 (subst (λ (u : Fraction). u ≤ℚ (now_in start taken).now.time +ℚ task.interval) (sym i.stands.time) later);
             room = subst (λ o. HasRoom o base.entries base.most) (sym i.stands.moment) tt;
           }
+
+      -- nothing is due there
+      pub wait_paused : IsPaused (base_in (length task.actions) start taken)
+      wait_paused = base_stands.stands.paused
 
       -- what becomes of a wait
       pub wait_walks : {E : Type 0} (start' : TimelineView) (taken' : List (Taken Q)) (r : Result Fate E) → d < suc (length task.actions) → OnOk r (start' ≡ start) → IfOk r (WaitEnds fits task.problem ((now_in start taken).now.time +ℚ task.interval) d (base_in (length task.actions) start taken) taken taken') → IfOk r (Walks fits task start start' taken taken' d)

@@ -3,6 +3,7 @@ ghost use Rattle.std.specs.Prelude.{◌≡◌, ◌<◌, suc, map, length, IfOk, 
 ghost use Rattle.plus_fraction.specs.Fraction.{◌+ℚ◌};
 ghost use Rattle.plus_state.specs.View.{problem_of, action_of};
 ghost use Rattle.plus_state.specs.Fits.{ActionFits};
+ghost use Rattle.plus_timeline.specs.Finish.{IsPaused};
 ghost use Rattle.plus_planner.specs.Standing.{CanReach};
 ghost use Rattle.plus_planner.specs.Places.{now_in, base_in, task_from, StandsBehind, ActFails, Goes, ActEnds, WaitEnds, CanTry, Walks};
 
@@ -79,7 +80,7 @@ fn act<Q: Exact>(
     perform(alloc, ground, action, place, decision)
 }
 
-// Does an action on a copy of the present timeline, and carries that on to the present time.
+// Does an action on a fork of the present timeline, and carries that on to the present time.
 fn perform<Q: Exact>(
     alloc: Global,
     ground: &Ground<Q>,
@@ -94,7 +95,7 @@ fn perform<Q: Exact>(
     ensures start { OnOk result (place.new.start ≡ place.old.start) }
     ensures tried { OnOk result (place.new.tried ≡ place.old.tried) }
 {
-    let mut timeline = place.now().copy(alloc)?;
+    let mut timeline = place.now().fork(alloc)?;
     let time = timeline.time();
     match timeline.act(ground, action, 1) {
         Ok(()) => go(alloc, ground, &mut place.taken, timeline, time, decision),
@@ -111,9 +112,10 @@ fn wait<Q: Exact>(
     place: &mut Place<Q>,
     decision: u32,
 ) -> Result<Fate, AllocError>
-    requires { CanReach (problem_of Q.value ground.now)
+    requires reach { CanReach (problem_of Q.value ground.now)
         ((now_in place.old.start place.old.taken.items).now.time +ℚ Q.value interval)
         (base_in decision place.old.start place.old.taken.items) }
+    requires paused { IsPaused (base_in decision place.old.start place.old.taken.items) }
     ensures ends { IfOk result (WaitEnds Q.fits (problem_of Q.value ground.now)
         ((now_in place.old.start place.old.taken.items).now.time +ℚ Q.value interval) decision
         (base_in decision place.old.start place.old.taken.items) place.old.taken.items place.new.taken.items) }
@@ -123,7 +125,7 @@ fn wait<Q: Exact>(
     match place.now().time().add(interval) {
         Err(_) => Ok(Fate::Beyond),
         Ok(time) => {
-            let timeline = place.base(decision).copy(alloc)?;
+            let timeline = place.base(decision).fork(alloc)?;
             go(alloc, ground, &mut place.taken, timeline, time, decision)
         }
     }

@@ -5,6 +5,7 @@ pub mod Rounds
 pub mod Closings
 pub mod Stretches
 pub mod Follows
+pub mod Forking
 pub mod Serving
 pub mod Rows
 pub mod Entries

@@ -14,5 +14,6 @@ pub mod Told
 pub mod Advance
 pub mod Act
 pub mod Finish
+pub mod Forked
 pub mod Laws
 pub mod Closing

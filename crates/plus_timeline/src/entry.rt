@@ -235,6 +235,23 @@ impl<Q: Exact> EntryStates<Q> {
         self.trail.changes()
     }
 
+    /// The state now alone, as if nothing had led to it.
+    pub fn fork(&self, alloc: Global) -> Result<EntryStates<Q>, AllocError>
+        ensures { IfOk result (λ e. e ≡ record {
+          state = self.now.state;
+          before = self.now.state;
+          arrival = self.now.state;
+        }) }
+    {
+        let state = self.trail.state();
+        Ok(EntryStates {
+            trail: Trail::new(alloc, state.copy(alloc)?)?,
+            arrival: state.copy(alloc)?,
+            past: Changes::none(alloc),
+            ahead: None,
+        })
+    }
+
     /// Equal states, which go on in the same way.
     pub fn copy(&self, alloc: Global) -> Result<EntryStates<Q>, AllocError>
         ensures { IfOk result (λ e. e ≡ self.now) }

@@ -21,6 +21,7 @@ ghost use Rattle.plus_timeline.specs.Stops.{IsGoing};
 ghost use Rattle.plus_timeline.specs.Act.{ActTold};
 ghost use Rattle.plus_timeline.specs.Finish.{IsPaused, FinishTold, TakesNoMemory};
 ghost use Rattle.plus_timeline.specs.Advance.{IsAhead, EntersAt, AdvanceTold};
+ghost use Rattle.plus_timeline.specs.Forked.{forked};
 ghost use Rattle.plus_timeline.specs.Closing.{CanClose, IsReachedBy};
 
 use crate::effect::action_changes;
@@ -314,6 +315,37 @@ impl<Q: Exact> Timeline<Q> {
             fired: Vec::from_slice(alloc, &self.fired)?,
             events: Vec::from_slice(alloc, &self.events)?,
             running: self.running.copy(alloc)?,
+            literal: self.literal,
+            lines: self.lines,
+            entries: self.entries,
+            most: self.most,
+            answer: self.answer,
+            acted: self.acted,
+            ended: self.ended,
+        })
+    }
+
+    /// A timeline that goes on in the same way after a `There`. It forgets the states that led to the
+    /// present one, the last round and the last running set, and so costs less than a copy.
+    pub fn fork(&self, alloc: Global) -> Result<Timeline<Q>, AllocError>
+        requires { self.now.answer ≡ Some Next.There }
+        ensures moment { self.now.now.running ≡ None }
+        ensures forked { IfOk result (λ t. t ≡ forked self.now) }
+    {
+        let states = self.states.fork(alloc)?;
+        let cascade = self.cascade.copy(alloc)?;
+        let fired = Vec::from_slice(alloc, &self.fired)?;
+        Ok(Timeline {
+            alloc,
+            time: self.time,
+            states,
+            cascade,
+            fired,
+            events: Vec::new(alloc),
+            running: Running {
+                members: Vec::new(alloc),
+                rates: Rates::zero(alloc, 0),
+            },
             literal: self.literal,
             lines: self.lines,
             entries: self.entries,

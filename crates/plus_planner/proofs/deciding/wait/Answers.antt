@@ -1,18 +1,42 @@
-use Rattle.std.proofs.Common.{ap, ◌∙◌}
+use Rattle.std.proofs.Common.{ap, sym, subst, ◌≡◌, ◌∙◌}
+use Rattle.std.specs.Prelude.{Some, None}
 use Rattle.plus_fraction.specs.Fraction.{Fraction, ◌+ℚ◌}
 use Rattle.plus_state.specs.View.{problem_of}
+use Rattle.plus_timeline.specs.Timeline.{TimelineView}
+use Rattle.plus_timeline.specs.Forked.{forked}
+use Rattle.plus_timeline.specs.declared.next.Next.TheVariants.{There}
+use Rattle.plus_planner.specs.Standing.{CanReach}
 use Rattle.plus_planner.specs.Places.{now_in, base_in}
 use Rattle.plus_planner.proofs.DecidingLemmas.{wait_told}
+use Rattle.plus_planner.proofs.ForkLemmas.{reach_forked, waits_forked}
 use Rattle.plus_planner.proofs.deciding.wait.Goals as goal
 
-pub returns-in_ok-timeline-in-Ok-clause-ends : goal.returns-in_ok-timeline-in-Ok-clause-ends
-returns-in_ok-timeline-in-Ok-clause-ends g c =
+pub fork-requires : goal.fork-requires
+fork-requires g c = subst (λ (t : TimelineView). t.answer ≡ Some There) (sym c.base.ensures) c.requires.paused.there
+
+pub go-requires : goal.go-requires
+go-requires g c =
+    let P = problem_of g.Q.Exact.value c.args.ground.now in
     let start = c.args.place.now.start in
     let taken = c.args.place.now.taken.items in
     let q = g.Q.Exact.value c.args.interval in
-    wait_told g.Q.Exact.fits (problem_of g.Q.Exact.value c.args.ground.now) (g.Q.Exact.value c.in-Ok.time) ((now_in start taken).now.time +ℚ q) c.args.decision
-    (base_in c.args.decision start taken) c.in_ok-timeline-in-Ok.timeline taken c.go.new.taken.items c.go.result
+    let base = base_in c.args.decision start taken in
+    let moment : base.now.running ≡ None = subst (λ (t : TimelineView). t.now.running ≡ None) c.base.ensures c.in_ok-timeline-in-Ok.ensures.moment in
+    subst (CanReach P (g.Q.Exact.value c.in-Ok.time)) (sym (c.in_ok-timeline-in-Ok.ensures.forked ∙ ap forked c.base.ensures))
+    (subst (λ u. CanReach P u (forked base)) (sym (c.in-Ok.ensures ∙ ap (λ (x : Fraction). x +ℚ q) (c.time.ensures ∙ ap (λ v. v.now.time) c.now.ensures)))
+    (reach_forked P ((now_in start taken).now.time +ℚ q) base moment c.requires.reach))
+
+pub returns-in_ok-timeline-in-Ok-clause-ends : goal.returns-in_ok-timeline-in-Ok-clause-ends
+returns-in_ok-timeline-in-Ok-clause-ends g c =
+    let P = problem_of g.Q.Exact.value c.args.ground.now in
+    let start = c.args.place.now.start in
+    let taken = c.args.place.now.taken.items in
+    let q = g.Q.Exact.value c.args.interval in
+    let base = base_in c.args.decision start taken in
+    waits_forked g.Q.Exact.fits P ((now_in start taken).now.time +ℚ q) c.args.decision base taken c.go.new.taken.items c.go.result
+    (wait_told g.Q.Exact.fits P (g.Q.Exact.value c.in-Ok.time) ((now_in start taken).now.time +ℚ q) c.args.decision
+    (forked base) c.in_ok-timeline-in-Ok.timeline taken c.go.new.taken.items c.go.result
     (c.in-Ok.ensures ∙ ap (λ (x : Fraction). x +ℚ q) (c.time.ensures ∙ ap (λ v. v.now.time) c.now.ensures))
     (g.met.Q.Exact.value_fits c.in-Ok.time)
-    (c.in_ok-timeline-in-Ok.ensures ∙ c.base.ensures)
-    c.go.ensures
+    (c.in_ok-timeline-in-Ok.ensures.forked ∙ ap forked c.base.ensures)
+    c.go.ensures)
