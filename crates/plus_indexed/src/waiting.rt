@@ -30,13 +30,14 @@ impl Model for Waiting {
     ghost view = { λ w. w.numbers.items };
 }
 
-// In order, each once.
-fn sort_once(numbers: &mut Vec<u32>)
-    ensures rises { IsRising 0 numbers.new.items }
-    ensures same { (k : ℕ) → is_in numbers.new.items k ≡ true ↔ is_in numbers.old.items k ≡ true }
+// In order, each once. The numbers are a few lists that rise, one behind the other, and this sort merges such.
+fn sort_once(numbers: &mut Vec<u32>) -> Result<(), AllocError>
+    ensures rises { IfOk result (λ _. IsRising 0 numbers.new.items) }
+    ensures same { IfOk result (λ _. (k : ℕ) → is_in numbers.new.items k ≡ true ↔ is_in numbers.old.items k ≡ true) }
 {
-    numbers.sort_unstable();
+    numbers.sort()?;
     numbers.dedup();
+    Ok(())
 }
 
 // These numbers, and behind them the readers of all that is changed.
@@ -57,15 +58,15 @@ fn and_readers<Q: Exact>(
 }
 
 // These numbers: where they have become twice as many, in order and each once.
-fn thinned(mut numbers: Vec<u32>, different: usize) -> Waiting
-    ensures { (k : ℕ) → is_in result k ≡ true ↔ is_in numbers.items k ≡ true }
+fn thinned(mut numbers: Vec<u32>, different: usize) -> Result<Waiting, AllocError>
+    ensures { IfOk result (λ w. (k : ℕ) → is_in w k ≡ true ↔ is_in numbers.items k ≡ true) }
 {
     if numbers.len() / 2 <= different {
-        return Waiting { numbers, different };
+        return Ok(Waiting { numbers, different });
     }
-    sort_once(&mut numbers);
+    sort_once(&mut numbers)?;
     let different = numbers.len();
-    Waiting { numbers, different }
+    Ok(Waiting { numbers, different })
 }
 
 impl Waiting {
@@ -91,7 +92,8 @@ impl Waiting {
     {
         let Waiting { numbers, different } = self;
         let numbers = and_readers(readers, changes, numbers)?;
-        Ok(thinned(numbers, different))
+        let waiting = thinned(numbers, different)?;
+        Ok(waiting)
     }
 
     /// They in ground order, each once.
@@ -100,7 +102,7 @@ impl Waiting {
         ensures same { IfOk result (λ l. (k : ℕ) → is_in (process_numbers l.items) k ≡ true ↔ is_in self.now k ≡ true) }
     {
         let mut numbers = Vec::from_slice(alloc, &self.numbers)?;
-        sort_once(&mut numbers);
+        sort_once(&mut numbers)?;
         let processes = members_of(alloc, &numbers)?;
         Ok(processes)
     }

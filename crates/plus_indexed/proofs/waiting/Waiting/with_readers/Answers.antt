@@ -6,4 +6,4 @@ use Rattle.plus_indexed.proofs.waiting.Waiting.with_readers.Goals as goal
 pub returns : goal.returns
 returns g c =
     adds_as c.args.readers.now c.args.changes.now c.args.self c.in_ok-numbers.numbers.items _
-    (subst (λ (xs : List ℕ). AddsReaders c.args.readers.now c.args.changes.now xs c.in_ok-numbers.numbers.items) c.self.view_is c.in_ok-numbers.ensures) c.thinned.ensures
+    (subst (λ (xs : List ℕ). AddsReaders c.args.readers.now c.args.changes.now xs c.in_ok-numbers.numbers.items) c.self.view_is c.in_ok-numbers.ensures) c.in_ok-waiting.ensures
