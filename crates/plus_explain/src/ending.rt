@@ -53,6 +53,9 @@ impl<O: Sink + Drop> Ending<O> {
         ensures { self.new.sink ≡ self.old.sink }
     {
         let piece = &piece[piece.len().saturating_sub(KEPT)..];
+        if piece.len() == KEPT {
+            self.last.clear();
+        }
         if self.last.len() > 2 * KEPT {
             let front = self.last.len() - KEPT;
             self.last = Vec::from_slice(self.alloc, &self.last[front..])?;
