@@ -15,6 +15,8 @@ use Rattle.plus_reply.specs.Reply.{Replied, RepliedInPart}
 use Rattle.plus_reply.proofs.ReplyLemmas.{two_taken, two_taken_as, two_in_part, three_taken, three_taken_as, three_in_part}
 use Rattle.plus_trial_command.specs.Trial.{IsTrial}
 use Rattle.plus_translate_command.specs.Translate.{Translates}
+use Rattle.plus_translate_command.specs.declared.translate.HalfReply.{HalfReply}
+use Rattle.plus_translate_command.specs.HalfReply as halves
 use Rattle.plus_lift_command.specs.Lift.{Lifts}
 use Rattle.plus_plan_command.specs.Plan.{Plans}
 use Rattle.plus_run.specs.Command.{Command, Trial, Translate, Lift, Plan}
@@ -48,6 +50,18 @@ module _ (command : Command) (bytes : List ℕ → Option (List ℕ)) (old new :
   reply_answer (Err faults.NoMemory) H h p e g v f k =
       subst (λ n. IsAnswer (Some command) bytes old n a b c d r) (sym g.1) (subst (IsAnswer (Some command) bytes old old a b c d) (sym g.0) (memory_answer command bytes old a b c d))
 
+  -- the same of a reply that is held in parts
+  pub half_answer :
+      (reply : Result HalfReply Fault) (H : HalfReply → Type 0) → IfOk reply H → IfOk reply (λ x. IsPlain x.status) → IfErr reply (HasCause a b)
+      → halves.Gives reply old new c d r → ((x : HalfReply) → H x → x.status ≡ s.Valid → Took old new x.text → RunsValid (Some command) bytes old new)
+      → ((x : HalfReply) → H x → Took old new x.text → RunsRefused (Some command) bytes old new x.status)
+      → ((x : HalfReply) → H x → TookPart old new x.text → RunsBroken (Some command) bytes old new) → IsAnswer (Some command) bytes old new a b c d r
+  half_answer (Ok x) H h p e g v f k = text_answer x.status x.text p g (v x h) (f x h) (k x h)
+  half_answer (Err faults.ReadFault) H h p e g v f k =
+      subst (λ n. IsAnswer (Some command) bytes old n a b c d r) (sym g.1) (subst (IsAnswer (Some command) bytes old old a b c d) (sym g.0) (file_answer command bytes old a b c d e))
+  half_answer (Err faults.NoMemory) H h p e g v f k =
+      subst (λ n. IsAnswer (Some command) bytes old n a b c d r) (sym g.1) (subst (IsAnswer (Some command) bytes old old a b c d) (sym g.0) (memory_answer command bytes old a b c d))
+
 -- ---- command by command
 
 no_faults : (a b : ℕ) (reply : Result Reply Fault) → IfErr reply (λ f. f ≡ faults.NoMemory) → IfErr reply (HasCause a b)
@@ -64,17 +78,6 @@ module _ (bytes : List ℕ → Option (List ℕ)) (old new : Option (List ℕ)) 
       (λ x k v t. subst (Replied (IsTrial n) old new) v (record { written = x.text.items; reply = k; took = t }))
       (λ x k t. record { written = x.text.items; reply = k; took = t })
       (λ x k t. record { status = x.status; written = x.text.items; reply = k; part = t })
-
-  pub translate_answer :
-      (file : File) (q : Fraction) (dn pn : List ℕ) → IfOk reply (λ x. IfSome (bytes dn) (λ ds. IfSome (bytes pn) (λ ps. Translates file q ds ps x.status x.text.items)))
-      → IfOk reply (λ x. IsPlain x.status) → IfErr reply (HasCause a b) → Gives reply old new c d r
-      → IsAnswer (Some (Translate file q dn pn)) bytes old new a b c d r
-  translate_answer file q dn pn h p e g =
-      reply_answer (Translate file q dn pn) bytes old new a b c d r reply
-      (λ x. IfSome (bytes dn) (λ ds. IfSome (bytes pn) (λ ps. Translates file q ds ps x.status x.text.items))) h p e g
-      (λ x k v t. two_taken_as (bytes dn) (bytes pn) (Translates file q) old new x.status s.Valid x.text.items k v t)
-      (λ x k t. two_taken (bytes dn) (bytes pn) (Translates file q) old new x.status x.text.items k t)
-      (λ x k t. two_in_part (bytes dn) (bytes pn) (Translates file q) old new x.status x.text.items k t)
 
   pub lift_answer :
       (q : Fraction) (dn pn ln : List ℕ)
@@ -98,3 +101,15 @@ module _ (bytes : List ℕ → Option (List ℕ)) (old new : Option (List ℕ)) 
       (λ x f v t. two_taken_as (bytes dn) (bytes pn) (Plans q k n) old new x.status s.Valid x.text.items f v t)
       (λ x f t. two_taken (bytes dn) (bytes pn) (Plans q k n) old new x.status x.text.items f t)
       (λ x f t. two_in_part (bytes dn) (bytes pn) (Plans q k n) old new x.status x.text.items f t)
+
+pub translate_answer :
+    (bytes : List ℕ → Option (List ℕ)) (old new : Option (List ℕ)) (a b c d : ℕ) (r : Status) (reply : Result HalfReply Fault) (file : File) (q : Fraction) (dn pn : List ℕ)
+    → IfOk reply (λ x. IfSome (bytes dn) (λ ds. IfSome (bytes pn) (λ ps. Translates file q ds ps x.status x.text)))
+    → IfOk reply (λ x. IsPlain x.status) → IfErr reply (HasCause a b) → halves.Gives reply old new c d r
+    → IsAnswer (Some (Translate file q dn pn)) bytes old new a b c d r
+translate_answer bytes old new a b c d r reply file q dn pn h p e g =
+    half_answer (Translate file q dn pn) bytes old new a b c d r reply
+    (λ x. IfSome (bytes dn) (λ ds. IfSome (bytes pn) (λ ps. Translates file q ds ps x.status x.text))) h p e g
+    (λ x k v t. two_taken_as (bytes dn) (bytes pn) (Translates file q) old new x.status s.Valid x.text k v t)
+    (λ x k t. two_taken (bytes dn) (bytes pn) (Translates file q) old new x.status x.text k t)
+    (λ x k t. two_in_part (bytes dn) (bytes pn) (Translates file q) old new x.status x.text k t)

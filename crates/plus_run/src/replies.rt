@@ -51,7 +51,7 @@ pub fn translate<S: Shelf, O: Sink>(
         words.problem,
         shelf,
     );
-    give(out, &reply)
+    plus_translate_command::give(out, &reply)
 }
 
 /// `lift`: writes the timed plan that an untimed plan of the translation stands for, and the verdict on it.

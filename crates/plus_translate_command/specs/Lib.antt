@@ -1,2 +1,3 @@
 pub mod Translate
 pub mod Laws
+pub mod HalfReply

@@ -4,4 +4,4 @@
 pub mod laws;
 pub mod translate;
 
-pub use translate::{answer, translated};
+pub use translate::{answer, give, translated};

@@ -1,22 +1,23 @@
 //! The command `translate`.
 
-ghost use Rattle.std.specs.Prelude.{◌≡◌, ◌+◌, [], ◌∷◌, IfOk, IfErr, IfSome, MatchResult};
+ghost use Rattle.std.specs.Prelude.{◌≡◌, ◌≤◌, ◌+◌, [], ◌∷◌, IfOk, IfErr, IfSome, MatchResult};
 ghost use Rattle.plus_io.specs.Files.{KeepsFiles};
 ghost use Rattle.plus_io.specs.Picks.{ReadsInOrder};
 ghost use Rattle.plus_number.specs.Frac.{fraction_of};
 ghost use Rattle.plus_pair.specs.Pair.{text_limit};
 ghost use Rattle.plus_reply.specs.Reply.{IsPlain, HasCause};
 ghost use Rattle.plus_translate.specs.Translates.{IsTranslation};
+ghost use Rattle.plus_translate_command.specs.HalfReply.{TellsRefusal, Gives};
 ghost use Rattle.plus_translate_command.specs.Translate.{trans_refusal, IsUntranslated, TranslatesPair, Translates};
 
 use plus_interval::Interval;
-use plus_io::Shelf;
+use plus_io::{Shelf, Sink};
 use plus_pair::pair::{Refusal, bad_text, pair, release, text_for};
-use plus_reply::reply::{Fault, Reply, refused};
+use plus_reply::reply::{Fault, refused};
 use plus_reply::status::Status;
 use plus_report::{Early, Text, Word};
 use plus_translate::{TransFault, translate};
-use plus_translation_printer::translated_text;
+use plus_translation_printer::{HalfText, translated_half};
 use plus_tree::{Domain, Problem};
 use plus_types::{File, Typed};
 use std::alloc::Global;
@@ -50,19 +51,54 @@ pub fn translated(
     }
 }
 
+/// A half, or a line in its place, and its status.
+#[derive(Drop)]
+pub struct HalfReply {
+    pub status: Status,
+    pub text: HalfText,
+}
+
+// Tells a refusal.
+fn half_refused(alloc: Global, refusal: Refusal) -> Result<HalfReply, Fault>
+    ensures { TellsRefusal refusal result }
+{
+    match refused(alloc, refusal) {
+        Ok(reply) => Ok(HalfReply {
+            status: reply.status,
+            text: HalfText::whole(alloc, reply.text),
+        }),
+        Err(fault) => Err(fault),
+    }
+}
+
+/// Writes a reply part by part, and answers its status.
+pub fn give<O: Sink>(out: &mut O, reply: &Result<HalfReply, Fault>) -> Status
+    ensures gives { Gives reply.now (O.taken out.old) (O.taken out.new) (O.faults out.old) (O.faults out.new) result }
+    ensures no_fall { O.faults out.old ≤ O.faults out.new }
+{
+    match reply {
+        Ok(reply) => match reply.text.write(out) {
+            Ok(()) => reply.status,
+            Err(_) => Status::WriteFault,
+        },
+        Err(Fault::ReadFault) => Status::ReadFault,
+        Err(Fault::NoMemory) => Status::NoMemory,
+    }
+}
+
 // What is replied on a well-typed pair.
 #[tactic(none)]
-fn of_pair(alloc: Global, file: File, interval: Interval, typed: &Typed) -> Result<Reply, Fault>
+fn of_pair(alloc: Global, file: File, interval: Interval, typed: &Typed) -> Result<HalfReply, Fault>
     ensures replies { IfOk result (λ r. TranslatesPair file (fraction_of interval.value)
-        typed.now.domain typed.now.problem r.status r.text.items) }
+        typed.now.domain typed.now.problem r.status r.text) }
     ensures memory { IfErr result (λ fault. fault ≡ Fault.NoMemory) }
 {
-    match translated_text(alloc, file, typed, interval.value) {
-        Ok(text) => Ok(Reply {
+    match translated_half(alloc, file, typed, interval.value) {
+        Ok(text) => Ok(HalfReply {
             status: Status::Valid,
             text,
         }),
-        Err(fault) => refused(alloc, refuse_translation(fault)),
+        Err(fault) => half_refused(alloc, refuse_translation(fault)),
     }
 }
 
@@ -75,10 +111,10 @@ pub fn answer<S: Shelf>(
     domain: &str,
     problem: &str,
     shelf: &mut S,
-) -> Result<Reply, Fault>
+) -> Result<HalfReply, Fault>
     ensures replies { IfOk result (λ r. IfSome (S.bytes shelf.old domain.now) (λ ds.
         IfSome (S.bytes shelf.old problem.now) (λ ps.
-        Translates file (fraction_of interval.value) ds ps r.status r.text.items))) }
+        Translates file (fraction_of interval.value) ds ps r.status r.text))) }
     ensures plain { IfOk result (λ r. IsPlain r.status) }
     ensures fault { IfErr result (HasCause (S.faults shelf.old) (S.faults shelf.new)) }
     ensures reads { ReadsInOrder S.bytes S.picked S.rest S.picks (text_limit + 1)
@@ -91,6 +127,6 @@ pub fn answer<S: Shelf>(
             release(typed);
             reply
         }
-        Err(refusal) => refused(alloc, refusal),
+        Err(refusal) => half_refused(alloc, refusal),
     }
 }

@@ -152,24 +152,3 @@ pub fn translated_half(
         Err(_) => Err(TransFault::Memory),
     }
 }
-
-/// The same text in one piece.
-pub fn translated_text(
-    alloc: Global,
-    file: File,
-    typed: &Typed,
-    interval: Frac64,
-) -> Result<Vec<u8>, TransFault>
-    requires { whole (pos 0) <ℚ fraction_of interval }
-    ensures { MatchResult result
-        (λ text. IsTextOfHalf file (fraction_of interval) typed.now.domain typed.now.problem text.items)
-        (NoTranslation (fraction_of interval) typed.now.domain typed.now.problem) }
-{
-    match translated_half(alloc, file, typed, interval) {
-        Ok(half) => match half.joined(alloc) {
-            Ok(text) => Ok(text),
-            Err(_) => Err(TransFault::Memory),
-        },
-        Err(fault) => Err(fault),
-    }
-}

@@ -12,5 +12,5 @@ mod shared;
 mod text;
 mod within;
 
-pub use half::{translated_half, translated_text};
+pub use half::translated_half;
 pub use text::HalfText;

@@ -42,27 +42,6 @@ fn put_olds<O: Sink>(
     Ok(())
 }
 
-fn join_old(text: &mut Vec<u8>, shared: &Shared, old: &OldText) -> Result<(), AllocError>
-    ensures { OnOk result (text.new.items ≡ text.old.items
-        ++ woven_old shared.now.none.items shared.now.clears.items (parts_of old.now)) }
-{
-    text.extend_from_slice(&old.condition)?;
-    text.extend_from_slice(&shared.none)?;
-    text.extend_from_slice(&old.effect)?;
-    text.extend_from_slice(&shared.clears)?;
-    text.extend_from_slice(b"))\n")
-}
-
-fn join_olds(text: &mut Vec<u8>, shared: &Shared, olds: &[OldText]) -> Result<(), AllocError>
-    ensures { OnOk result (text.new.items ≡ text.old.items
-        ++ flat_map (woven_old shared.now.none.items shared.now.clears.items) (map parts_of olds.now)) }
-{
-    'each: for old in olds {
-        join_old(text, shared, old)?;
-    }
-    Ok(())
-}
-
 /// The text of one half of a translation: what all old actions share is held once.
 #[derive(Debug, Drop)]
 pub struct HalfText {
@@ -99,28 +78,6 @@ impl HalfText {
         ensures { result ≡ text.items }
     {
         HalfText::new(text, Shared::none(alloc), Vec::new(alloc), Vec::new(alloc))
-    }
-
-    // About how long the text is.
-    fn room(&self) -> usize {
-        let both = self
-            .shared
-            .none
-            .len()
-            .saturating_add(self.shared.clears.len());
-        let own = self.opening.len().saturating_add(self.ending.len());
-        both.saturating_mul(self.olds.len()).saturating_add(own)
-    }
-
-    /// The text in one piece.
-    pub fn joined(&self, alloc: Global) -> Result<Vec<u8>, AllocError>
-        ensures { IfOk result (λ text. text.items ≡ self.now) }
-    {
-        let mut text = Vec::with_capacity(alloc, self.room())?;
-        text.extend_from_slice(&self.opening)?;
-        join_olds(&mut text, &self.shared, &self.olds)?;
-        text.extend_from_slice(&self.ending)?;
-        Ok(text)
     }
 
     /// Writes the text. It asks for no memory.

@@ -1,6 +1,6 @@
 use Rattle.plus_number.specs.Frac.{fraction_of}
-use Rattle.plus_reply.proofs.ReplyLemmas.{refusal_plain, refusal_cause, pair_cause}
-use Rattle.plus_translate_command.proofs.TranslateLemmas.{pair_told, pair_plain, memory_cause, refusal_told}
+use Rattle.plus_reply.proofs.ReplyLemmas.{pair_cause}
+use Rattle.plus_translate_command.proofs.TranslateLemmas.{pair_told, pair_plain, memory_cause, refusal_told, refusal_plain, refusal_cause}
 use Rattle.plus_translate_command.proofs.translate.answer.Goals as goal
 
 pub returns-in-Ok-clause-replies : goal.returns-in-Ok-clause-replies
@@ -23,14 +23,14 @@ returns-in-Ok-clause-keeps g c = c.in-Ok.ensures.keeps
 
 pub returns-in-Err-clause-replies : goal.returns-in-Err-clause-replies
 returns-in-Err-clause-replies g c =
-    refusal_told c.args.file (fraction_of c.args.interval.value) _ _ _ _ c.in-Err.refusal c.refused.result c.in-Err.ensures.not_read c.refused.ensures
+    refusal_told c.args.file (fraction_of c.args.interval.value) _ _ _ _ c.in-Err.refusal c.half_refused.result c.in-Err.ensures.not_read c.half_refused.ensures
 
 pub returns-in-Err-clause-plain : goal.returns-in-Err-clause-plain
-returns-in-Err-clause-plain g c = refusal_plain c.in-Err.refusal c.refused.result c.refused.ensures
+returns-in-Err-clause-plain g c = refusal_plain c.in-Err.refusal c.half_refused.result c.half_refused.ensures
 
 pub returns-in-Err-clause-fault : goal.returns-in-Err-clause-fault
 returns-in-Err-clause-fault g c =
-    refusal_cause c.in-Err.refusal _ _ c.refused.result (pair_cause _ _ _ _ c.in-Err.refusal c.in-Err.ensures.not_read) c.refused.ensures
+    refusal_cause c.in-Err.refusal _ _ c.half_refused.result (pair_cause _ _ _ _ c.in-Err.refusal c.in-Err.ensures.not_read) c.half_refused.ensures
 
 pub returns-in-Err-clause-reads : goal.returns-in-Err-clause-reads
 returns-in-Err-clause-reads g c = c.in-Err.ensures.reads

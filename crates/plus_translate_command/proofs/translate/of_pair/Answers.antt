@@ -1,6 +1,6 @@
 use Rattle.std.proofs.Common.{refl}
 use Rattle.plus_number.specs.Frac.{fraction_of}
-use Rattle.plus_translate_command.specs.Translate.{IsUntranslated, half}
+use Rattle.plus_translate_command.specs.Translate.{half}
 use Rattle.plus_translate_command.proofs.TranslateLemmas.{untranslated_told, untranslated_fault}
 use Rattle.plus_translate_command.proofs.translate.of_pair.Goals as goal
 
@@ -11,14 +11,14 @@ returns-in-Ok-clause-replies c =
 pub returns-in-Err-clause-replies : goal.returns-in-Err-clause-replies
 returns-in-Err-clause-replies c =
     untranslated_told c.args.file (fraction_of c.args.interval.value) c.args.typed.now.domain c.args.typed.now.problem
-    c.refuse_translation.result c.refused.result
-    (record { fault = c.in-Err.fault; cause = c.in-Err.ensures; refusal_is = c.refuse_translation.ensures }) c.refused.ensures
+    c.refuse_translation.result c.half_refused.result
+    (record { fault = c.in-Err.fault; cause = c.in-Err.ensures; refusal_is = c.refuse_translation.ensures }) c.half_refused.ensures
 
 pub returns-in-Err-clause-memory : goal.returns-in-Err-clause-memory
 returns-in-Err-clause-memory c =
     untranslated_fault c.args.file (fraction_of c.args.interval.value) c.args.typed.now.domain c.args.typed.now.problem
-    c.refuse_translation.result c.refused.result
-    (record { fault = c.in-Err.fault; cause = c.in-Err.ensures; refusal_is = c.refuse_translation.ensures }) c.refused.ensures
+    c.refuse_translation.result c.half_refused.result
+    (record { fault = c.in-Err.fault; cause = c.in-Err.ensures; refusal_is = c.refuse_translation.ensures }) c.half_refused.ensures
 
-pub translated_text-requires : goal.translated_text-requires
-translated_text-requires c = c.args.interval.above
+pub translated_half-requires : goal.translated_half-requires
+translated_half-requires c = c.args.interval.above
