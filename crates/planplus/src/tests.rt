@@ -266,22 +266,21 @@ fn canonical_text(rt: HostRuntime) -> Result<(), Fail> {
 #[test]
 fn faults(rt: HostRuntime) -> Result<(), Fail> {
     let alloc = rt.alloc();
-    for (name, call) in [("d", 0), ("p", 0), ("l", 0), ("l", 1)] {
+    for (name, call, output) in [
+        ("d", 0, ""),
+        ("p", 0, ""),
+        ("l", 0, ""),
+        ("l", 1, "at 0\n"),
+    ] {
         let mut shelf = shelf_of(alloc, DOOR, D1, OPENED)?;
         shelf.fail(name, call)?;
-        expect_run(
-            &rt,
-            alloc,
-            shelf,
-            MemSink::new(alloc, 64),
-            Status::ReadFault,
-            "",
-        )?;
+        let out = MemSink::new(alloc, 64);
+        expect_run(&rt, alloc, shelf, out, Status::ReadFault, output)?;
     }
     let mut out = MemSink::new(alloc, 8);
     out.fail(2)?;
     let shelf = shelf_of(alloc, DOOR, D1, OPENED)?;
-    expect_run(&rt, alloc, shelf, out, Status::WriteFault, "at 0\n  r")?;
+    expect_run(&rt, alloc, shelf, out, Status::WriteFault, "at 0\n")?;
 
     let mut out = MemSink::new(alloc, 64);
     let words = Vec::new(alloc);

@@ -1,13 +1,14 @@
 -- An answer of a command, put together from what was written.
 use Rattle.std.proofs.Common.{◌≡◌, ◌⊎◌, ℕ, List, Option, Some, None, subst, sym, ◌∙◌, refl, inl, inr}
+use Rattle.std.specs.Prelude.{IfSome}
 use Rattle.plus_io.specs.Faults.{Rose}
 use Rattle.plus_report.specs.declared.refusals.Early.{Early}
 use Rattle.plus_report.specs.declared.refusals.Early.TheVariants as es
 use Rattle.plus_report.specs.Refusals.{early_text}
 use Rattle.plus_reply.specs.declared.status.Status.{Status}
 use Rattle.plus_reply.specs.declared.status.Status.TheVariants as s
-use Rattle.plus_run.specs.Command.{Command}
-use Rattle.plus_run.specs.Headline.{RunsValid, RunsRefused, RunsBroken, OnRefusal, usage_line, IsAnswer}
+use Rattle.plus_run.specs.Command.{Command, Check, ShowDomain, ShowProblem, Numeric, Trial, Translate, Lift, Plan}
+use Rattle.plus_run.specs.Headline.{RunsValid, RunsRefused, RunsBroken, RunsStopped, IsStoppedRun, nothing, OnRefusal, usage_line, IsAnswer}
 use Rattle.plus_reply.specs.Statuses.{early_status, Writes}
 
 -- a line tells of a bad text or of a limit
@@ -93,6 +94,22 @@ module _ (command : Command) (bytes : List ℕ → Option (List ℕ)) (old new :
   ]
   line_answer e (inr w) h k = by_fault w.0 w.1 (k w.0)
 
+-- nothing was written
+in_pair_told : (domain problem : Option (List ℕ)) (Q : List ℕ → List ℕ → Type 0) → ((ds ps : List ℕ) → Q ds ps) → IfSome domain (λ ds. IfSome problem (λ ps. Q ds ps))
+in_pair_told None problem Q f = tt
+in_pair_told (Some ds) None Q f = tt
+in_pair_told (Some ds) (Some ps) Q f = f ds ps
+
+stopped_at_once : (command : Command) (bytes : List ℕ → Option (List ℕ)) (old : Option (List ℕ)) → RunsStopped (Some command) bytes old old
+stopped_at_once (Check d p l n) bytes old = in_pair_told (bytes d) (bytes p) (λ ds ps. IsStoppedRun n ds ps (bytes l) old old) (λ ds ps. nothing refl)
+stopped_at_once (ShowDomain file) bytes old = refl
+stopped_at_once (ShowProblem file) bytes old = refl
+stopped_at_once (Numeric d p l) bytes old = refl
+stopped_at_once (Trial n) bytes old = refl
+stopped_at_once (Translate file q d p) bytes old = refl
+stopped_at_once (Lift q d p l) bytes old = refl
+stopped_at_once (Plan q k n d p) bytes old = refl
+
 -- a file failed
 pub file_answer : (command : Command) (bytes : List ℕ → Option (List ℕ)) (old : Option (List ℕ)) (a b c d : ℕ) → Rose a b → IsAnswer (Some command) bytes old old a b c d s.ReadFault
 file_answer command bytes old a b c d f = record {
@@ -100,7 +117,7 @@ file_answer command bytes old a b c d f = record {
   refused = tt;
   usage = λ v. cc v;
   no_command = λ n. cc n;
-  read_fault = λ v. (f, refl);
+  read_fault = λ v. (f, stopped_at_once command bytes old);
   write_fault = λ v. cc v;
   no_memory = λ v. cc v;
 }
@@ -114,7 +131,7 @@ memory_answer command bytes old a b c d = record {
   no_command = λ n. cc n;
   read_fault = λ v. cc v;
   write_fault = λ v. cc v;
-  no_memory = λ v. refl;
+  no_memory = λ v. stopped_at_once command bytes old;
 }
 
 -- the words are no command

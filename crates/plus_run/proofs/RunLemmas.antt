@@ -10,14 +10,17 @@ use Rattle.plus_report.specs.declared.refusals.Early.TheVariants as es
 use Rattle.plus_report.specs.Refusals.{early_text}
 use Rattle.plus_validator.specs.declared.judge.Outcome.{Outcome}
 use Rattle.plus_validator.specs.declared.judge.Outcome.TheVariants as outcomes
+use Rattle.plus_io.specs.Files.{IsPrefix}
+use Rattle.plus_io.proofs.Pieces.{Takes-prefix}
 use Rattle.plus_validator.specs.Validates.{Accepts, IsRefusal, Refuses, BreaksOff, RefusesPair, RefusesPairInPart}
+use Rattle.plus_validator.specs.Leaving.{TookSoFar, LeavesReport, BreaksOffSoFar, StopsReading, unpicked, reading, StopsWriting, on_way, at_end}
 use Rattle.plus_reply.specs.declared.status.Status.{Status}
 use Rattle.plus_reply.specs.declared.status.Status.TheVariants as s
 use Rattle.plus_run.specs.Command.{Command}
 use Rattle.plus_pair.specs.Pair.{PairRefused}
 use Rattle.plus_pair.specs.Reads.{ReadsPair}
 use Rattle.plus_pair.proofs.SpelledLemmas.{on_pair, told}
-use Rattle.plus_run.specs.Headline.{SpellsWellTyped, IsValidRun, IsRefusedRun, for_pair, for_ground, for_plan, IsBrokenRun, in_pair, in_ground, in_plan, OnRefusal, status_of, exit_number, IsAnswer, EndsWith}
+use Rattle.plus_run.specs.Headline.{SpellsWellTyped, IsValidRun, IsRefusedRun, for_pair, for_ground, for_plan, IsBrokenRun, in_pair, in_ground, in_report, in_plan, IsStoppedRun, nothing, so_far, OnRefusal, status_of, exit_number, IsAnswer, EndsWith}
 use Rattle.plus_reply.specs.Statuses.{early_status, Writes}
 
 -- ---- a status comes of the outcome alone
@@ -131,19 +134,43 @@ plan_refused n domain problem plan later d p old new o r q rd w h e =
 -- a sink that failed
 broken_run :
     (n : ℕ) (ds ps : List ℕ) (plan later : Option (List ℕ)) (d : Domain) (p : Problem) (old new : Option (List ℕ)) → later ≡ plan
-    → SpellsWellTyped ds ps d p → RefusesPairInPart d p old new ⊎ IfSome later (λ text. BreaksOff d p n text old new)
+    → SpellsWellTyped ds ps d p → RefusesPairInPart d p old new ⊎ StopsWriting d p n later old new
     → IsBrokenRun n ds ps plan old new
 broken_run n ds ps plan later d p old new q t (inl g) = in_ground d p t g
-broken_run n ds ps plan later d p old new q t (inr h) = in_plan d p t (subst (λ b. IfSome b (λ text. BreaksOff d p n text old new)) q h)
+broken_run n ds ps plan later d p old new q t (inr (on_way h)) = in_report d p t (subst (λ b. IfSome b (λ text. BreaksOffSoFar d p n text old new)) q h)
+broken_run n ds ps plan later d p old new q t (inr (at_end h)) = in_plan d p t (subst (λ b. IfSome b (λ text. BreaksOff d p n text old new)) q h)
 
 pub plan_broken :
     (n : ℕ) (domain problem plan later : Option (List ℕ)) (d : Domain) (p : Problem) (old new : Option (List ℕ)) (before now : ℕ) (o : Outcome) (r : Status)
     → later ≡ plan → ReadsPair domain problem d p → IsTrue (is_well_typed d p)
-    → (o ≡ outcomes.WriteFault → Rose before now × (RefusesPairInPart d p old new ⊎ IfSome later (λ text. BreaksOff d p n text old new)))
+    → (o ≡ outcomes.WriteFault → Rose before now × (RefusesPairInPart d p old new ⊎ StopsWriting d p n later old new))
     → r ≡ status_of o → r ≡ s.WriteFault → IfSome domain (λ ds. IfSome problem (λ ps. IsBrokenRun n ds ps plan old new))
 plan_broken n domain problem plan later d p old new before now o r q rd w h e v =
     on_pair domain problem d p (λ ds ps. IsBrokenRun n ds ps plan old new) rd w (λ ds ps t.
     broken_run n ds ps plan later d p old new q t ((h (only_broken o (sym e ∙ v))).1))
+
+-- a file that failed, or want of memory
+stopped_run :
+    (n : ℕ) (ds ps : List ℕ) (plan later : Option (List ℕ)) (d : Domain) (p : Problem) (old new : Option (List ℕ)) → later ≡ plan
+    → SpellsWellTyped ds ps d p → LeavesReport d p n later old new → IsStoppedRun n ds ps plan old new
+stopped_run n ds ps plan later d p old new q t (inl e) = nothing e
+stopped_run n ds ps plan later d p old new q t (inr h) = so_far d p t (subst (λ b. IfSome b (λ text. TookSoFar d p n text old new)) q h)
+
+pub plan_stopped :
+    (n : ℕ) (domain problem plan later : Option (List ℕ)) (d : Domain) (p : Problem) (old new : Option (List ℕ))
+    → later ≡ plan → ReadsPair domain problem d p → IsTrue (is_well_typed d p) → LeavesReport d p n later old new
+    → IfSome domain (λ ds. IfSome problem (λ ps. IsStoppedRun n ds ps plan old new))
+plan_stopped n domain problem plan later d p old new q rd w h =
+    on_pair domain problem d p (λ ds ps. IsStoppedRun n ds ps plan old new) rd w (λ ds ps t. stopped_run n ds ps plan later d p old new q t h)
+
+-- what is out where the shelf failed is the report for a beginning of the text
+pub reading_leaves :
+    (n : ℕ) (bytes picked rest : Option (List ℕ)) (d : Domain) (p : Problem) (old new : Option (List ℕ))
+    → StopsReading d p n bytes picked rest old new → LeavesReport d p n bytes old new
+reading_leaves n bytes picked rest d p old new (unpicked u e) = inl e
+reading_leaves n bytes picked rest d p old new (reading read report takes told took) =
+    inr (on_plan bytes (IsPrefix read) (λ text. TookSoFar d p n text old new) (Takes-prefix bytes rest read takes)
+    (λ text b. record { read = read; begins = b; report = report; told = told; took = took }))
 
 -- ---- no pair
 

@@ -10,6 +10,7 @@ use Rattle.plus_reply.specs.declared.status.Status.{Status}
 use Rattle.plus_reply.specs.declared.status.Status.TheVariants as s
 use Rattle.plus_report.specs.Refusals.{early_text}
 use Rattle.plus_validator.specs.Validates.{Accepts, Refuses, BreaksOff, RefusesPair, RefusesPairInPart}
+use Rattle.plus_validator.specs.Leaving.{TookSoFar, BreaksOffSoFar}
 use Rattle.plus_grammar.specs.Texts.{IsDomainText, IsProblemText}
 use Rattle.plus_printer.specs.Canon.{domain_text, problem_text}
 use Rattle.plus_run.specs.Command.{Command, Check, ShowDomain, ShowProblem, Numeric, Trial, Translate, Lift, Plan}
@@ -74,9 +75,19 @@ pub data IsBrokenRun (happenings : ℕ) (domain problem : List ℕ) (plan : Opti
   in_ground :
       (d : Domain) (p : Problem) → SpellsWellTyped domain problem d p → RefusesPairInPart d p old new
       → IsBrokenRun happenings domain problem plan old new
+  in_report :
+      (d : Domain) (p : Problem) → SpellsWellTyped domain problem d p
+      → IfSome plan (λ text. BreaksOffSoFar d p happenings text old new) → IsBrokenRun happenings domain problem plan old new
   in_plan :
       (d : Domain) (p : Problem) → SpellsWellTyped domain problem d p
       → IfSome plan (λ text. BreaksOff d p happenings text old new) → IsBrokenRun happenings domain problem plan old new
+
+-- A file failed, or memory was wanting: the sink took nothing, or the report for a beginning of the plan text, and no verdict line.
+pub data IsStoppedRun (happenings : ℕ) (domain problem : List ℕ) (plan : Option (List ℕ)) (old new : Option (List ℕ)) : Type 0 where
+  nothing : new ≡ old → IsStoppedRun happenings domain problem plan old new
+  so_far :
+      (d : Domain) (p : Problem) → SpellsWellTyped domain problem d p
+      → IfSome plan (λ text. TookSoFar d p happenings text old new) → IsStoppedRun happenings domain problem plan old new
 
 -- what is said where a command is refused: its plan is not valid, a limit stands, or a text is none
 abbrev pub OnRefusal : Status → Type 0 → Type 0
@@ -120,15 +131,21 @@ RunsBroken (Some (Lift q d p l)) bytes old new =
 RunsBroken (Some (Plan q k n d p)) bytes old new =
     IfSome (bytes d) (λ ds. IfSome (bytes p) (λ ps. RepliedInPart (Plans q k n ds ps) old new))
 
+-- what is written where a file failed or memory was wanting: of a check a part of the report, and else nothing
+abbrev pub RunsStopped : Option Command → (List ℕ → Option (List ℕ)) → Option (List ℕ) → Option (List ℕ) → Type 0
+RunsStopped (Some (Check d p l n)) bytes old new =
+    IfSome (bytes d) (λ ds. IfSome (bytes p) (λ ps. IsStoppedRun n ds ps (bytes l) old new))
+RunsStopped _ bytes old new = new ≡ old
+
 -- What the status of the top call shows: of the files and the output, and of the counts of faults before and now.
 pub record IsAnswer (command : Option Command) (bytes : List ℕ → Option (List ℕ)) (old new : Option (List ℕ)) (read_before read_now write_before write_now : ℕ) (status : Status) : Type 0 where
   pub valid : status ≡ s.Valid → RunsValid command bytes old new
   pub refused : OnRefusal status (RunsRefused command bytes old new status)
   pub usage : status ≡ s.Usage → command ≡ None
   pub no_command : command ≡ None → Writes usage_line s.Usage old new write_before write_now status
-  pub read_fault : status ≡ s.ReadFault → Rose read_before read_now × (new ≡ old)
+  pub read_fault : status ≡ s.ReadFault → Rose read_before read_now × RunsStopped command bytes old new
   pub write_fault : status ≡ s.WriteFault → Rose write_before write_now × RunsBroken command bytes old new
-  pub no_memory : status ≡ s.NoMemory → new ≡ old
+  pub no_memory : status ≡ s.NoMemory → RunsStopped command bytes old new
 
 -- a process ends with this number, which is that of a status that shows so much
 abbrev pub EndsWith : ℕ → (Status → Type 0) → Type 0

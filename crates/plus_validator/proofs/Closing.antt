@@ -19,11 +19,10 @@ use Rattle.plus_timeline.specs.Advance.{IsAhead}
 use Rattle.plus_timeline.specs.declared.next.Next.TheVariants.{Entry}
 use Rattle.plus_report.specs.Report.{report_of, report_from}
 use Rattle.plus_report.specs.Text.{entry_text, literals_text}
-use Rattle.plus_validator.specs.Account.{Account, account_in}
+use Rattle.plus_validator.specs.Account.{Account, Progress}
 use Rattle.plus_validator.specs.Standing.{CanGoOn, CanReach, IsReached, HasRoom, next_text, account_next, EndsBy, AllActed}
 use Rattle.plus_validator.specs.Running.{IsOnWay, Reaches}
 use Rattle.plus_validator.specs.Playing.{Closes, Begins, closed}
-use Rattle.plus_validator.specs.declared.run.Run.{Run}
 use Rattle.plus_validator.proofs.Clear.{clear_first}
 use Rattle.plus_validator.proofs.Steps.{literals_shown, account_by, asked_is}
 use Rattle.plus_validator.proofs.Lines.{close_played, close_target, close_worked}
@@ -56,7 +55,7 @@ first_report N P L most time e =
     ∙ ap (λ x. entry_text N (whole (pos 0)) P.initial P.initial ++ x) (literals_shown N P (whole (pos 0)) P.initial (literals P (whole (pos 0)) P.initial))
     ∙ sym (append-nil _)
 
-pub begins : (N : Labels) (P : Problem) (most : ℕ) (time : Frac64) (run : Run) → 1 ≤ most → run.timeline.line ≡ begun P most → Knows IsFrac64 P run.timeline → run.ended ≡ false → fraction_of time ≡ run.timeline.line.now.time → account_in run ≡ account_next fraction_of N P run.timeline.line (Entry time) nothing → Begins N P most run
+pub begins : (N : Labels) (P : Problem) (most : ℕ) (time : Frac64) (run : Progress) → 1 ≤ most → run.timeline.line ≡ begun P most → Knows IsFrac64 P run.timeline → run.ended ≡ false → fraction_of time ≡ run.timeline.line.now.time → run.account ≡ account_next fraction_of N P run.timeline.line (Entry time) nothing → Begins N P most run
 begins N P most time run some e k n t r =
     let now : fraction_of time ≡ whole (pos 0) = t ∙ ap (λ v. v.now.time) e in
     record {
@@ -89,20 +88,20 @@ begins N P most time run some e k n t r =
     }
 
 -- the text is at its end, and the goal holds
-pub closes : (N : Labels) (P : Problem) (old mid new : Run) (now : Fraction) → now ≡ old.timeline.line.now.time → CanGoOn P old.timeline → Reaches N P now old mid → AllPass IsFrac64 (goal_tests P mid.timeline.line.now.state) → holds P.goal mid.timeline.line.now.state ≡ true → account_in new ≡ account_in mid → Closes N P old new
+pub closes : (N : Labels) (P : Problem) (old mid new : Progress) (now : Fraction) → now ≡ old.timeline.line.now.time → CanGoOn P old.timeline → Reaches N P now old mid → AllPass IsFrac64 (goal_tests P mid.timeline.line.now.state) → holds P.goal mid.timeline.line.now.state ≡ true → new.account ≡ mid.account → Closes N P old new
 closes N P old mid new now e c r a g w = record {
   ends = λ L instance h ready.
       let on_way : IsOnWay N P (closed L) instance now old.timeline.line.now.acted h old = record {
-        played = close_played N P L instance old.ended h old.timeline.line (account_in old) ready;
-        target_is = close_target N P L instance old.ended h old.timeline.line (account_in old) ready ∙ sym e;
+        played = close_played N P L instance old.ended h old.timeline.line old.account ready;
+        target_is = close_target N P L instance old.ended h old.timeline.line old.account ready ∙ sym e;
         acted_is = refl;
       } in
       let there = r.reached (closed L) instance old.timeline.line.now.acted h (inr refl) on_way in
-      let there_now : IsReached N P (closed L) instance old.timeline.line.now.acted old.timeline.line.now.time there.0 mid.timeline.line (account_in mid) =
-      subst (λ x. IsReached N P (closed L) instance old.timeline.line.now.acted x there.0 mid.timeline.line (account_in mid)) e there.1 in
-      let worked : IsWorked P (closed L) mid.timeline.line.now = close_worked N P L instance old.ended h there.0 old.timeline.line mid.timeline.line (account_in old) (account_in mid) ready there_now in
+      let there_now : IsReached N P (closed L) instance old.timeline.line.now.acted old.timeline.line.now.time there.0 mid.timeline.line mid.account =
+      subst (λ x. IsReached N P (closed L) instance old.timeline.line.now.acted x there.0 mid.timeline.line mid.account) e there.1 in
+      let worked : IsWorked P (closed L) mid.timeline.line.now = close_worked N P L instance old.ended h there.0 old.timeline.line mid.timeline.line old.account mid.account ready there_now in
       let passed : NoneFails P (closed L) mid.timeline.line.most instance there.0 =
-      subst (AllPass IsFrac64) (asked_is N P (closed L) instance there.0 mid.timeline.line (account_in mid) there.1.played)
+      subst (AllPass IsFrac64) (asked_is N P (closed L) instance there.0 mid.timeline.line mid.account there.1.played)
       (goal_passes P (closed L) mid.timeline.line.most instance mid.timeline.line.entries mid.timeline.line.now refl worked.acted there.1.present there.1.over there.1.passed a) in
       let within = r.can.within in
       let most = r.most in

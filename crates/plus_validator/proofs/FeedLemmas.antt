@@ -21,11 +21,9 @@ use Rattle.plus_plan.proofs.Cuttings.{given_fed, given_closed, given_line, given
 use Rattle.plus_report.specs.declared.verdicts.Verdict.TheVariants.{Other}
 use Rattle.plus_report.specs.declared.refusals.Early.TheVariants.{LineTooLong, TooLong}
 use Rattle.plus_report.specs.declared.refusals.Text.TheVariants as texts
-use Rattle.plus_validator.specs.declared.feed.Feed.{Feed}
 use Rattle.plus_validator.specs.declared.halt.Halt.{Halt}
 use Rattle.plus_validator.specs.declared.halt.Halt.TheVariants.{Refused, Memory}
-use Rattle.plus_validator.specs.declared.run.Run.{Run}
-use Rattle.plus_validator.specs.Account.{account_in}
+use Rattle.plus_validator.specs.Account.{Progress}
 use Rattle.plus_validator.specs.Halts.{line_halt}
 use Rattle.plus_validator.specs.Limits.{text_limit}
 use Rattle.plus_validator.specs.Plans.{Pair}
@@ -33,7 +31,7 @@ use Rattle.plus_validator.specs.Playing.{ReadiedFor, PlaysLine, Closes}
 use Rattle.plus_validator.specs.Refused.{cut_verdict, WholeLines}
 use Rattle.plus_validator.specs.Stopped.{StopsInText, HaltsInLine, HaltsAtEnd}
 use Rattle.plus_validator.specs.Validates.{IsRead}
-use Rattle.plus_validator.specs.Feeding.{HasPlayed, IsFed, IsReadOf, StopsOn, HaltsWith, HaltsOn, Feeds, HaltsFeeding, EndsFeeding, HaltsEnding}
+use Rattle.plus_validator.specs.Feeding.{Course, HasPlayed, IsFed, IsReadOf, StopsOn, HaltsWith, HaltsOn, Feeds, HaltsFeeding, EndsFeeding, HaltsEnding}
 use Rattle.plus_validator.proofs.Played.{played_more, plays_all}
 use Rattle.plus_validator.proofs.TextStops.{bad_stops, next_stops, halts_after_all, cut_stops}
 use Rattle.plus_validator.proofs.Cutting.{HasCut, no_lf_from, cut_of, cut_at, cut_over, cut_long, cut_here, reads_on}
@@ -42,7 +40,7 @@ use Rattle.std.proofs.lemmas.List.{take_at}
 -- ---- what stands behind the lines that were given
 
 -- whatever the halt is, the run halts on these bytes
-stops_on : (d : Pair) (N : Labels) (P : Problem) (most : ℕ) (bytes text : List ℕ) (goes_on : Bool) (whole piece : List ℕ) (new : Run) (halt : Halt) → IsRead bytes text goes_on → WholeLines goes_on text whole piece → StopsInText d N P most goes_on whole piece (account_in new) halt → StopsOn d N P most bytes (account_in new) halt
+stops_on : (d : Pair) (N : Labels) (P : Problem) (most : ℕ) (bytes text : List ℕ) (goes_on : Bool) (whole piece : List ℕ) (new : Progress) (halt : Halt) → IsRead bytes text goes_on → WholeLines goes_on text whole piece → StopsInText d N P most goes_on whole piece new.account halt → StopsOn d N P most bytes new.account halt
 stops_on d N P most bytes text goes_on whole piece new Memory r c s = tt
 stops_on d N P most bytes text goes_on whole piece new (Refused v) r c s = record { text = text; goes_on = goes_on; read = r; whole = whole; piece = piece; cut = c; stopped = s }
 
@@ -153,9 +151,9 @@ long_verdict n size h = grind (arith, common_steps)
 short_verdict : (n size : ℕ) → size ≤ line_limit → cut_verdict n size ≡ TooLong texts.Plan
 short_verdict n size h = grind (arith, common_steps)
 
-module _ (d : Pair) (N : Labels) (P : Problem) (text : List ℕ) (first : Run) (feed : Feed) (h : IsFed d N P text first feed) (w : length text ≤ text_limit) where
-  abbrev Halts : List ℕ → Run → Halt → Type 0
-  Halts bytes new halt = (g : List Part) → ReadiedFor d N P [] g first → StopsOn d N P first.timeline.line.most bytes (account_in new) halt
+module _ (d : Pair) (N : Labels) (P : Problem) (text : List ℕ) (first : Progress) (feed : Course) (h : IsFed d N P text first feed) (w : length text ≤ text_limit) where
+  abbrev Halts : List ℕ → Progress → Halt → Type 0
+  Halts bytes new halt = (g : List Part) → ReadiedFor d N P [] g first → StopsOn d N P first.timeline.line.most bytes new.account halt
 
   halts_begins : (bytes : List ℕ) (fault : PlanFault) → Begins bytes h.lines (Err fault) → Halts bytes feed.run (line_halt fault)
   halts_begins bytes fault b g ready =
@@ -243,7 +241,7 @@ module _ (d : Pair) (N : Labels) (P : Problem) (text : List ℕ) (first : Run) (
       ]
 
   -- the run halts in the line that is given
-  line_halts_on : (line : Line) (new : Run) (halt : Halt) → IsNext feed.reader line → HaltsInLine d N P line feed.run new halt → HaltsOn d N P text feed.reader.closed first new halt
+  line_halts_on : (line : Line) (new : Progress) (halt : Halt) → IsNext feed.reader line → HaltsInLine d N P line feed.run new halt → HaltsOn d N P text feed.reader.closed first new halt
   line_halts_on line new halt n s = record {
     halts = λ bytes b. record { stops = λ g ready. by_begins bytes (begins bytes b) g ready };
   }
@@ -282,7 +280,7 @@ module _ (d : Pair) (N : Labels) (P : Problem) (text : List ℕ) (first : Run) (
 
 module _ (d : Pair) (N : Labels) (P : Problem) where
   -- another state of the reader
-  fed_by : (text : List ℕ) (lines : List Line) (first : Run) (old new : Feed) → HasGiven Timed text lines new.reader → new.reader.fault ≡ None → new.run ≡ old.run → HasPlayed d N P lines first old.run → IsFed d N P text first new
+  fed_by : (text : List ℕ) (lines : List Line) (first : Progress) (old new : Course) → HasGiven Timed text lines new.reader → new.reader.fault ≡ None → new.run ≡ old.run → HasPlayed d N P lines first old.run → IsFed d N P text first new
   fed_by text lines first old new g f same h = record {
     lines = lines;
     given = g;
@@ -291,7 +289,7 @@ module _ (d : Pair) (N : Labels) (P : Problem) where
   }
 
   -- no line is due
-  pub fed_none : (old new : Feed) → new.reader ≡ old.reader → new.run ≡ old.run → Feeds d N P [] old new
+  pub fed_none : (old new : Course) → new.reader ≡ old.reader → new.run ≡ old.run → Feeds d N P [] old new
   fed_none old new r same = record {
     fed = λ text first h w.
         fed_by (text ++ []) h.lines first old new
@@ -303,7 +301,7 @@ module _ (d : Pair) (N : Labels) (P : Problem) where
   short text w = subst (λ (t : List ℕ). length t ≤ text_limit) (append-nil text) w
 
   -- one is played
-  pub fed_line : (old new : Feed) (line : Line) → IsNext old.reader line → new.reader ≡ without_line old.reader → PlaysLine d N P line old.run new.run → Feeds d N P [] old new
+  pub fed_line : (old new : Course) (line : Line) → IsNext old.reader line → new.reader ≡ without_line old.reader → PlaysLine d N P line old.run new.run → Feeds d N P [] old new
   fed_line old new line n r p = record {
     fed = λ text first h w.
         let few : length text < 4294967294 = (let k = short text w in omega arith) in
@@ -317,19 +315,19 @@ module _ (d : Pair) (N : Labels) (P : Problem) where
   }
 
   -- one halts the run
-  pub halts_line : (old : Feed) (line : Line) (new : Run) (halt : Halt) → IsNext old.reader line → HaltsInLine d N P line old.run new halt → HaltsFeeding d N P [] old new halt
+  pub halts_line : (old : Course) (line : Line) (new : Progress) (halt : Halt) → IsNext old.reader line → HaltsInLine d N P line old.run new halt → HaltsFeeding d N P [] old new halt
   halts_line old line new halt n s = record {
     halts = λ text first h w.
         subst (λ t. HaltsOn d N P t old.reader.closed first new halt) (sym (append-nil text)) (line_halts_on d N P text first old h (short text w) line new halt n s);
   }
 
   -- one is none
-  none_halts : (text : List ℕ) (first : Run) (old : Feed) (h : IsFed d N P text first old) → length text ≤ text_limit → (fault : PlanFault) → IsRefusedNext old.reader fault → HaltsOn d N P text old.reader.closed first old.run (line_halt fault)
+  none_halts : (text : List ℕ) (first : Progress) (old : Course) (h : IsFed d N P text first old) → length text ≤ text_limit → (fault : PlanFault) → IsRefusedNext old.reader fault → HaltsOn d N P text old.reader.closed first old.run (line_halt fault)
   none_halts text first old h w (faults.NotLine n start last) r = refused_halts d N P text first old h w (faults.NotLine n start last) tt r
   none_halts text first old h w (faults.LineTooLong n) r = refused_halts d N P text first old h w (faults.LineTooLong n) tt r
   none_halts text first old h w faults.Memory r = record { halts = λ bytes b. record { stops = λ g ready. tt } }
 
-  pub halts_fault : (old : Feed) (fault : PlanFault) → (old.reader.fault ≡ None → IsRefusedNext old.reader fault) → HaltsFeeding d N P [] old old.run (line_halt fault)
+  pub halts_fault : (old : Course) (fault : PlanFault) → (old.reader.fault ≡ None → IsRefusedNext old.reader fault) → HaltsFeeding d N P [] old old.run (line_halt fault)
   halts_fault old fault r = record {
     halts = λ text first h w.
         subst (λ t. HaltsOn d N P t old.reader.closed first old.run (line_halt fault)) (sym (append-nil text)) (none_halts text first old h (short text w) fault (r h.no_fault));
@@ -338,7 +336,7 @@ module _ (d : Pair) (N : Labels) (P : Problem) where
   -- ---- pieces
 
   -- a piece is taken
-  pub fed_taken : (old new : Feed) (piece : List ℕ) → old.reader.closed ≡ false → new.reader ≡ fed old.reader piece → new.run ≡ old.run → Feeds d N P piece old new
+  pub fed_taken : (old new : Course) (piece : List ℕ) → old.reader.closed ≡ false → new.reader ≡ fed old.reader piece → new.run ≡ old.run → Feeds d N P piece old new
   fed_taken old new piece o r same = record {
     fed = λ text first h w.
         fed_by (text ++ piece) h.lines first old new
@@ -350,14 +348,14 @@ module _ (d : Pair) (N : Labels) (P : Problem) where
   shorter text a b w = omega (arith, length-append text (a ++ b), length-append a b, length-append text a)
 
   -- one piece and then another
-  pub feeds_then : (a b : List ℕ) (x y z : Feed) → Feeds d N P a x y → Feeds d N P b y z → Feeds d N P (a ++ b) x z
+  pub feeds_then : (a b : List ℕ) (x y z : Course) → Feeds d N P a x y → Feeds d N P b y z → Feeds d N P (a ++ b) x z
   feeds_then a b x y z f g = record {
     fed = λ text first h w.
         subst (λ t. IsFed d N P t first z) (append_assoc text a b)
         (g.fed (text ++ a) first (f.fed text first h (shorter text a b w)) (subst (λ (t : List ℕ). length t ≤ text_limit) (sym (append_assoc text a b)) w));
   }
 
-  pub halts_then : (a b : List ℕ) (x y : Feed) (new : Run) (halt : Halt) → Feeds d N P a x y → y.reader.closed ≡ x.reader.closed → HaltsFeeding d N P b y new halt → HaltsFeeding d N P (a ++ b) x new halt
+  pub halts_then : (a b : List ℕ) (x y : Course) (new : Progress) (halt : Halt) → Feeds d N P a x y → y.reader.closed ≡ x.reader.closed → HaltsFeeding d N P b y new halt → HaltsFeeding d N P (a ++ b) x new halt
   halts_then a b x y new halt f c g = record {
     halts = λ text first h w.
         subst (λ t. HaltsOn d N P t x.reader.closed first new halt) (append_assoc text a b)
@@ -366,7 +364,7 @@ module _ (d : Pair) (N : Labels) (P : Problem) where
   }
 
   -- a run that halts in a front of a piece halts in the piece
-  pub halts_sooner : (front behind : List ℕ) (old : Feed) (new : Run) (halt : Halt) → old.reader.closed ≡ false → HaltsFeeding d N P front old new halt → HaltsFeeding d N P (front ++ behind) old new halt
+  pub halts_sooner : (front behind : List ℕ) (old : Course) (new : Progress) (halt : Halt) → old.reader.closed ≡ false → HaltsFeeding d N P front old new halt → HaltsFeeding d N P (front ++ behind) old new halt
   halts_sooner front behind old new halt o g = record {
     halts = λ text first h w. record {
       halts = λ bytes b.
@@ -380,16 +378,16 @@ module _ (d : Pair) (N : Labels) (P : Problem) where
   }
 
   -- one more piece of a piece
-  module _ (first now : Feed) (a part : List ℕ) (reader : Pending) (f : Feeds d N P a first now) (o : now.reader.closed ≡ false) (r : reader ≡ fed now.reader part) where
-    abbrev mid : Feed
+  module _ (first now : Course) (a part : List ℕ) (reader : Pending) (f : Feeds d N P a first now) (o : now.reader.closed ≡ false) (r : reader ≡ fed now.reader part) where
+    abbrev mid : Course
     mid = record now { reader = reader }
 
-    pub taken_fed : (whole : List ℕ) (new : Feed) → whole ≡ a ++ part → Feeds d N P [] mid new → Feeds d N P whole first new
+    pub taken_fed : (whole : List ℕ) (new : Course) → whole ≡ a ++ part → Feeds d N P [] mid new → Feeds d N P whole first new
     taken_fed whole new e g =
         subst (λ (w : List ℕ). Feeds d N P w first new) (ap (λ z. a ++ z) (append-nil part) ∙ sym e)
         (feeds_then a (part ++ []) first now new f (feeds_then part [] now mid new (fed_taken now mid part o r refl) g))
 
-    pub taken_halts : (whole behind : List ℕ) (new : Run) (halt : Halt) → whole ≡ (a ++ part) ++ behind → first.reader.closed ≡ false → HaltsFeeding d N P [] mid new halt → HaltsFeeding d N P whole first new halt
+    pub taken_halts : (whole behind : List ℕ) (new : Progress) (halt : Halt) → whole ≡ (a ++ part) ++ behind → first.reader.closed ≡ false → HaltsFeeding d N P [] mid new halt → HaltsFeeding d N P whole first new halt
     taken_halts whole behind new halt e fo g =
         subst (λ (w : List ℕ). HaltsFeeding d N P w first new halt) (sym e)
         (halts_sooner (a ++ part) behind first new halt fo
@@ -399,7 +397,7 @@ module _ (d : Pair) (N : Labels) (P : Problem) where
 
   -- ---- the end of the text
 
-  pub fed_closed : (old new : Feed) → old.reader.closed ≡ false → new.reader ≡ at_end old.reader → new.run ≡ old.run → Feeds d N P [] old new
+  pub fed_closed : (old new : Course) → old.reader.closed ≡ false → new.reader ≡ at_end old.reader → new.run ≡ old.run → Feeds d N P [] old new
   fed_closed old new o r same = record {
     fed = λ text first h w.
         fed_by (text ++ []) h.lines first old new
@@ -407,25 +405,25 @@ module _ (d : Pair) (N : Labels) (P : Problem) where
         (ap (λ (x : Pending). x.fault) r ∙ h.no_fault) same h.played;
   }
 
-  module _ (old mid new : Feed) (f : Feeds d N P [] old mid) (g : Feeds d N P [] mid new) (closed : new.reader.closed ≡ true) (idle : IsIdle new.reader) where
-    fed_at_end : (text : List ℕ) (first : Run) → IsFed d N P text first old → length text ≤ text_limit → IsFed d N P text first new
+  module _ (old mid new : Course) (f : Feeds d N P [] old mid) (g : Feeds d N P [] mid new) (closed : new.reader.closed ≡ true) (idle : IsIdle new.reader) where
+    fed_at_end : (text : List ℕ) (first : Progress) → IsFed d N P text first old → length text ≤ text_limit → IsFed d N P text first new
     fed_at_end text first h w =
         let e : (text ++ []) ++ [] ≡ text = append-nil (text ++ []) ∙ append-nil text in
         let w' : length (text ++ []) ≤ text_limit = subst (λ (t : List ℕ). length t ≤ text_limit) (sym (append-nil text)) w in
         subst (λ (t : List ℕ). IsFed d N P t first new) e
         (g.fed (text ++ []) first (f.fed text first h w') (subst (λ (t : List ℕ). length t ≤ text_limit) (sym e) w))
 
-    all_said : (text : List ℕ) (first : Run) (h : IsFed d N P text first new) → plan_lines Timed text ≡ map Ok h.lines
+    all_said : (text : List ℕ) (first : Progress) (h : IsFed d N P text first new) → plan_lines Timed text ≡ map Ok h.lines
     all_said text first h = given_all Timed text h.lines new.reader h.given closed idle
 
-    pub ends_so : (last : Run) → Closes N P new.run last → EndsFeeding d N P old last
+    pub ends_so : (last : Progress) → Closes N P new.run last → EndsFeeding d N P old last
     ends_so last c = record {
       ends = λ text first h w.
           let k = fed_at_end text first h w in
           record { within = w; plays = plays_all d N P text k.lines first new.run last k.played (all_said text first k) c };
     }
 
-    pub ends_halts : (last : Run) (halt : Halt) → HaltsAtEnd N P new.run last halt → HaltsEnding d N P old last halt
+    pub ends_halts : (last : Progress) (halt : Halt) → HaltsAtEnd N P new.run last halt → HaltsEnding d N P old last halt
     ends_halts last halt c = record {
       halts = λ text first h w.
           let k = fed_at_end text first h w in
@@ -436,7 +434,7 @@ module _ (d : Pair) (N : Labels) (P : Problem) where
           };
     }
 
-  pub line_at_end : (old : Feed) (reader : Pending) (new : Run) (halt : Halt) → Feeds d N P [] old (record old { reader = reader }) → HaltsFeeding d N P [] (record old { reader = reader }) new halt → HaltsEnding d N P old new halt
+  pub line_at_end : (old : Course) (reader : Pending) (new : Progress) (halt : Halt) → Feeds d N P [] old (record old { reader = reader }) → HaltsFeeding d N P [] (record old { reader = reader }) new halt → HaltsEnding d N P old new halt
   line_at_end old reader new halt f g = record {
     halts = λ text first h w.
         let w' : length (text ++ []) ≤ text_limit = subst (λ (t : List ℕ). length t ≤ text_limit) (sym (append-nil text)) w in

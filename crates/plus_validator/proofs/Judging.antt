@@ -1,5 +1,5 @@
 -- What the verdict on a text says.
-use Rattle.std.proofs.Common.{◌≡◌, ℕ, ◌≤◌, Bool, false, List, [], ◌++◌, Option, Some, None, refl, ap, sym, subst, ◌∙◌}
+use Rattle.std.proofs.Common.{◌≡◌, ℕ, ◌≤◌, Bool, false, List, [], ◌++◌, Option, Some, None, refl, ap, sym, subst, ◌∙◌, append_assoc}
 use Rattle.std.specs.Prelude.{◌≢◌, length, IfErr, IfSome, Result, Ok, Err}
 use Rattle.plus_model.specs.Terms.{Problem}
 use Rattle.plus_number.specs.declared.frac.Frac64.{Frac64}
@@ -12,11 +12,11 @@ use Rattle.plus_expansion.specs.Expansion.{expanded, labels_meant}
 use Rattle.plus_report.specs.declared.verdicts.Verdict.{Verdict}
 use Rattle.plus_report.specs.declared.verdicts.Verdict.TheVariants.{Valid, Invalid, Beyond, Other}
 use Rattle.plus_report.specs.Verdicts.{verdict_text, VerdictFits}
-use Rattle.plus_validator.specs.Account.{Account, account_in}
+use Rattle.plus_validator.specs.Account.{Account, Progress, progress}
+use Rattle.plus_validator.specs.declared.run.Run.{Run}
 use Rattle.plus_validator.specs.declared.halt.Halt.{Halt}
 use Rattle.plus_validator.specs.declared.halt.Halt.TheVariants.{Refused, Memory}
 use Rattle.plus_validator.specs.declared.judgement.Judgement.{Judgement}
-use Rattle.plus_validator.specs.declared.run.Run.{Run}
 use Rattle.plus_validator.specs.Halts.{HaltFits}
 use Rattle.plus_report.specs.declared.refusals.Early.{Early}
 use Rattle.plus_report.specs.declared.refusals.Early.TheVariants as early
@@ -103,14 +103,21 @@ valid_or_not (Invalid b) = is_not (λ h. cc h)
 valid_or_not (Beyond l) = is_not (λ h. cc h)
 valid_or_not (Other e) = is_not (λ h. early_never e h)
 
-module _ (d : Domain) (p : tree.Problem) (N : Labels) (P : Problem) (most : ℕ) (bytes : List ℕ) (old new : Run) (z : IsGroundable IsFrac64 d p) where
+module _ (d : Domain) (p : tree.Problem) (N : Labels) (P : Problem) (most : ℕ) (bytes : List ℕ) (old : Progress) (sent : List ℕ) (run : Run) (z : IsGroundable IsFrac64 d p) where
+  abbrev new : Progress
+  new = progress sent run
+
+  -- what is sent and what is summed up are the report and the verdict's line
+  written_is : (played : Result (Unit {0}) Halt) (j : Judgement) → SumsUp N P run played j → sent ++ j.bytes.items ≡ new.account.report ++ verdict_text fraction_of N P j.judged.verdict
+  written_is played j u = ap (λ t. sent ++ t) u.bytes ∙ sym (append_assoc sent run.report.bytes.items (verdict_text fraction_of N P j.judged.verdict))
+
   -- accepted, with what is counted
   abbrev Counted : List ℕ → Type 0
-  Counted written = (length bytes ≤ 1048576) × (a : IsAccepted d p most bytes written) × (new.entries ≡ entries_of a.history) × (new.firings ≡ firings_of a.history)
+  Counted written = (length bytes ≤ 1048576) × (a : IsAccepted d p most bytes written) × (new.account.entries ≡ entries_of a.history) × (new.account.firings ≡ firings_of a.history)
 
-  says : (written : List ℕ) (played : Result (Unit {0}) Halt) (v : Verdict Frac64) → v ≡ Valid → P ≡ expanded d p → N ≡ labels_meant d p → Begins N P most old → IsPlayedOut (pair d p) N P bytes old new played → IfErr played (HaltFits P) → GivesVerdict played v → written ≡ new.report.bytes.items ++ verdict_text fraction_of N P v → Counted written
+  says : (written : List ℕ) (played : Result (Unit {0}) Halt) (v : Verdict Frac64) → v ≡ Valid → P ≡ expanded d p → N ≡ labels_meant d p → Begins N P most old → IsPlayedOut (pair d p) N P bytes old new played → IfErr played (HaltFits P) → GivesVerdict played v → written ≡ new.account.report ++ verdict_text fraction_of N P v → Counted written
   says written (Ok u) v i e n b r f g k =
-      let a = accepted d p N P most bytes written old new z r.within e n b r.plays (k ∙ ap (λ x. new.report.bytes.items ++ verdict_text fraction_of N P x) i) in
+      let a = accepted d p N P most bytes written old new z r.within e n b r.plays (k ∙ ap (λ x. new.account.report ++ verdict_text fraction_of N P x) i) in
       (r.within, a.0, a.1, a.2)
   says written (Err (Refused Valid)) v i e n b r f g k = absurd f.names
   says written (Err (Refused (Invalid x))) v i e n b r f g k = absurd (let h : Invalid x ≡ Valid = sym g ∙ i in cc h)
@@ -125,22 +132,22 @@ module _ (d : Domain) (p : tree.Problem) (N : Labels) (P : Problem) (most : ℕ)
     read : IsRead bytes text goes_on
     refused : IsRefused d p most text goes_on (outcome_of v) written
     verdict : v ≡ refused.verdict
-    entries : new.entries ≡ entries_of refused.refusal.history
-    firings : new.firings ≡ firings_of refused.refusal.history
+    entries : new.account.entries ≡ entries_of refused.refusal.history
+    firings : new.account.firings ≡ firings_of refused.refusal.history
 
   -- a refusal tells where the run halts
-  says_why : (written : List ℕ) (played : Result (Unit {0}) Halt) (v : Verdict Frac64) → P ≡ expanded d p → N ≡ labels_meant d p → Begins N P most old → IsPlayedOut (pair d p) N P bytes old new played → GivesVerdict played v → outcome_of v ≢ outcomes.Valid → written ≡ new.report.bytes.items ++ verdict_text fraction_of N P v → Refuses v written
+  says_why : (written : List ℕ) (played : Result (Unit {0}) Halt) (v : Verdict Frac64) → P ≡ expanded d p → N ≡ labels_meant d p → Begins N P most old → IsPlayedOut (pair d p) N P bytes old new played → GivesVerdict played v → outcome_of v ≢ outcomes.Valid → written ≡ new.account.report ++ verdict_text fraction_of N P v → Refuses v written
   says_why written (Ok u) v e n b s g o k = absurd (o (ap outcome_of g))
   says_why written (Err Memory) v e n b s g o k = absurd g
   says_why written (Err (Refused w)) v e n b s g o k =
       let start = b.ready (plan_of (pair d p) [] false) (instances_of (pair d p) []) refl refl in
-      let at : IsStoppedOn (pair d p) N P old.timeline.line.most bytes (account_in new) w = s.stops start.0 start.1 in
-      let here : IsStoppedInText (pair d p) N P old.timeline.line.most at.goes_on at.whole at.piece (account_in new) w = at.stopped in
-      let there : IsStoppedInText (pair d p) (labels_meant d p) (expanded d p) most at.goes_on at.whole at.piece (account_in new) v =
-      subst (λ M. IsStoppedInText (pair d p) M (expanded d p) most at.goes_on at.whole at.piece (account_in new) v) n
-      (subst (λ Q. IsStoppedInText (pair d p) N Q most at.goes_on at.whole at.piece (account_in new) v) e
-      (subst (λ m. IsStoppedInText (pair d p) N P m at.goes_on at.whole at.piece (account_in new) v) b.rests.most_is
-      (subst (IsStoppedInText (pair d p) N P old.timeline.line.most at.goes_on at.whole at.piece (account_in new)) (sym g) here))) in
+      let at : IsStoppedOn (pair d p) N P old.timeline.line.most bytes new.account w = s.stops start.0 start.1 in
+      let here : IsStoppedInText (pair d p) N P old.timeline.line.most at.goes_on at.whole at.piece new.account w = at.stopped in
+      let there : IsStoppedInText (pair d p) (labels_meant d p) (expanded d p) most at.goes_on at.whole at.piece new.account v =
+      subst (λ M. IsStoppedInText (pair d p) M (expanded d p) most at.goes_on at.whole at.piece new.account v) n
+      (subst (λ Q. IsStoppedInText (pair d p) N Q most at.goes_on at.whole at.piece new.account v) e
+      (subst (λ m. IsStoppedInText (pair d p) N P m at.goes_on at.whole at.piece new.account v) b.rests.most_is
+      (subst (IsStoppedInText (pair d p) N P old.timeline.line.most at.goes_on at.whole at.piece new.account) (sym g) here))) in
       let text_is : verdict_text fraction_of N P v ≡ verdict_text fraction_of (labels_meant d p) (expanded d p) v =
       ap (λ M. verdict_text fraction_of M P v) n ∙ ap (λ Q. verdict_text fraction_of (labels_meant d p) Q v) e in
       record {
@@ -155,7 +162,7 @@ module _ (d : Domain) (p : tree.Problem) (N : Labels) (P : Problem) (most : ℕ)
           verdict = v;
           outcome_is = refl;
           refusal = there.refusal;
-          written = k ∙ both (verdict_text fraction_of N P v) (verdict_text fraction_of (labels_meant d p) (expanded d p) v) new.report.bytes.items
+          written = k ∙ both (verdict_text fraction_of N P v) (verdict_text fraction_of (labels_meant d p) (expanded d p) v) new.account.report
               (report_of (labels_meant d p) (expanded d p) (plan_in (pair d p) there.refusal.reading) there.refusal.history)
               (ap (λ (a : Account). a.report) there.written) text_is;
         };
@@ -165,43 +172,43 @@ module _ (d : Domain) (p : tree.Problem) (N : Labels) (P : Problem) (most : ℕ)
       }
 
   -- the verdict, its line and the counts
-  whole : (j : Judgement) (played : Result (Unit {0}) Halt) → ValidOrNot j.judged.verdict → P ≡ expanded d p → N ≡ labels_meant d p → Begins N P most old → IsPlayedOut (pair d p) N P bytes old new played → IfErr played (HaltFits P) → SumsUp N P new played j → JudgesText d p most bytes j.judged
+  whole : (j : Judgement) (played : Result (Unit {0}) Halt) → ValidOrNot j.judged.verdict → P ≡ expanded d p → N ≡ labels_meant d p → Begins N P most old → IsPlayedOut (pair d p) N P bytes old new played → IfErr played (HaltFits P) → SumsUp N P run played j → JudgesText d p most bytes j.judged
   whole j played (is_valid i) e n b s f u =
-      let a = says j.bytes.items played j.judged.verdict i e n b s f u.gives u.bytes in
+      let a = says (sent ++ j.bytes.items) played j.judged.verdict i e n b s f u.gives (written_is played j u) in
       verdicts.judged bytes false (refl, a.0) (verdicts.accepted refl (record {
         verdict = i;
         line = u.line ∙ ap (verdict_text fraction_of N P) i;
-        bytes = j.bytes.items;
+        bytes = sent ++ j.bytes.items;
         accepted = a.1;
         entries = u.entries ∙ a.2;
         firings = u.firings ∙ a.3;
       }))
   whole j played (is_not x) e n b s f u =
-      let a = says_why j.bytes.items played j.judged.verdict e n b s u.gives x u.bytes in
+      let a = says_why (sent ++ j.bytes.items) played j.judged.verdict e n b s u.gives x (written_is played j u) in
       verdicts.judged a.text a.goes_on a.read (verdicts.refused (record {
         refusal = plain_refusal (outcome_of j.judged.verdict) (verdict_plain j.judged.verdict) x;
         line = u.line ∙ ap (λ M. verdict_text fraction_of M P j.judged.verdict) n ∙ ap (λ Q. verdict_text fraction_of (labels_meant d p) Q j.judged.verdict) e;
-        bytes = j.bytes.items;
+        bytes = sent ++ j.bytes.items;
         refused = a.refused;
         verdict = a.verdict;
         entries = u.entries ∙ a.entries;
         firings = u.firings ∙ a.firings;
       }))
 
-  refused_so : (j : Judgement) → j.outcome ≡ outcome_of j.judged.verdict → Refuses j.judged.verdict j.bytes.items → IsRefusedIn d p most bytes j.outcome j.bytes.items
+  refused_so : (j : Judgement) → j.outcome ≡ outcome_of j.judged.verdict → Refuses j.judged.verdict (sent ++ j.bytes.items) → IsRefusedIn d p most bytes j.outcome (sent ++ j.bytes.items)
   refused_so j o a = record {
     text = a.text;
     goes_on = a.goes_on;
     read = a.read;
-    refused = subst (λ (y : Outcome). IsRefused d p most a.text a.goes_on y j.bytes.items) (sym o) a.refused;
+    refused = subst (λ (y : Outcome). IsRefused d p most a.text a.goes_on y (sent ++ j.bytes.items)) (sym o) a.refused;
   }
 
-  pub judged : (j : Judgement) (played : Result (Unit {0}) Halt) → P ≡ expanded d p → N ≡ labels_meant d p → Begins N P most old → IsPlayedOut (pair d p) N P bytes old new played → IfErr played (HaltFits P) → SumsUp N P new played j → IsJudged d p most bytes j
+  pub judged : (j : Judgement) (played : Result (Unit {0}) Halt) → P ≡ expanded d p → N ≡ labels_meant d p → Begins N P most old → IsPlayedOut (pair d p) N P bytes old new played → IfErr played (HaltFits P) → SumsUp N P run played j → IsJudged d p most bytes (sent ++ j.bytes.items) j
   judged j played e n b s f u =
       let v = j.judged.verdict in
       record {
-        valid = λ h. (says j.bytes.items played v (valid_only v (sym u.outcome ∙ h)) e n b s f u.gives u.bytes).1;
-        refused = λ x. refused_so j u.outcome (says_why j.bytes.items played v e n b s u.gives (λ z. x (u.outcome ∙ z)) u.bytes);
+        valid = λ h. (says (sent ++ j.bytes.items) played v (valid_only v (sym u.outcome ∙ h)) e n b s f u.gives (written_is played j u)).1;
+        refused = λ x. refused_so j u.outcome (says_why (sent ++ j.bytes.items) played v e n b s u.gives (λ z. x (u.outcome ∙ z)) (written_is played j u));
         plain = subst IsPlain (sym u.outcome) (verdict_plain v);
         judged = whole j played (valid_or_not v) e n b s f u;
       }
@@ -211,6 +218,6 @@ pub sums_plain : (N : Labels) (P : Problem) (run : Run) (played : Result (Unit {
 sums_plain N P run played j u = subst IsPlain (sym u.outcome) (verdict_plain j.judged.verdict)
 
 -- a fact for the bytes under a name
-pub judged_told : (d : Domain) (p : tree.Problem) (N : Labels) (P : Problem) (most : ℕ) (told : Option (List ℕ)) (old new : Run) → IsGroundable IsFrac64 d p → (j : Judgement) (played : Result (Unit {0}) Halt) → P ≡ expanded d p → N ≡ labels_meant d p → Begins N P most old → IfSome told (λ bytes. IsPlayedOut (pair d p) N P bytes old new played) → IfErr played (HaltFits P) → SumsUp N P new played j → IfSome told (λ bytes. IsJudged d p most bytes j)
-judged_told d p N P most None old new z j played e n b s f u = tt
-judged_told d p N P most (Some bytes) old new z j played e n b s f u = judged d p N P most bytes old new z j played e n b s f u
+pub judged_told : (d : Domain) (p : tree.Problem) (N : Labels) (P : Problem) (most : ℕ) (told : Option (List ℕ)) (old : Progress) (sent : List ℕ) (run : Run) → IsGroundable IsFrac64 d p → (j : Judgement) (played : Result (Unit {0}) Halt) → P ≡ expanded d p → N ≡ labels_meant d p → Begins N P most old → IfSome told (λ bytes. IsPlayedOut (pair d p) N P bytes old (progress sent run) played) → IfErr played (HaltFits P) → SumsUp N P run played j → IfSome told (λ bytes. IsJudged d p most bytes (sent ++ j.bytes.items) j)
+judged_told d p N P most None old sent run z j played e n b s f u = tt
+judged_told d p N P most (Some bytes) old sent run z j played e n b s f u = judged d p N P most bytes old sent run z j played e n b s f u

@@ -21,6 +21,7 @@ pub mod TextStops
 pub mod Cutting
 pub mod FeedLemmas
 pub mod StreamLemmas
+pub mod Leaving
 pub mod Longer
 pub mod Telling
 pub mod Between

@@ -27,10 +27,9 @@ use Rattle.plus_timeline.specs.declared.stop.Stop.TheVariants as stops
 use Rattle.plus_timeline.proofs.Follows.{finish_breaks}
 use Rattle.plus_report.specs.declared.verdicts.Verdict.{Verdict}
 use Rattle.plus_report.specs.declared.verdicts.Verdict.TheVariants.{Valid, Invalid, Beyond, Other}
-use Rattle.plus_validator.specs.Account.{Account, account_in}
+use Rattle.plus_validator.specs.Account.{Account, Progress}
 use Rattle.plus_validator.specs.declared.halt.Halt.{Halt}
 use Rattle.plus_validator.specs.declared.halt.Halt.TheVariants.{Refused, Memory}
-use Rattle.plus_validator.specs.declared.run.Run.{Run}
 use Rattle.plus_validator.specs.Halts.{stop_halt}
 use Rattle.plus_validator.specs.Plans.{Pair, line_meant, HasTime, HasValue, plan_of}
 use Rattle.plus_validator.specs.Standing.{CanGoOn, IsReached}
@@ -81,10 +80,10 @@ way_in N P L most instance n account (Refused v) s = record { stopped = s.stoppe
 way_in N P L most instance n account Memory s = tt
 
 -- its time
-time_stops : (d : Pair) (N : Labels) (P : Problem) (line : Line) (meant : model.Line) (time : Time) (run : Run) (halt : Halt) (ls : List Line) (h : List Part) → line_meant d line ≡ meant ∷ [] → HasTime line time → model.time_of meant ≡ value_of time → CanGoOn P run.timeline → HaltsAtMoment (number_in line) time run halt → ReadiedFor d N P ls h run → StopsInLine d N P ls run.timeline.line.most line (account_in run) halt
+time_stops : (d : Pair) (N : Labels) (P : Problem) (line : Line) (meant : model.Line) (time : Time) (run : Progress) (halt : Halt) (ls : List Line) (h : List Part) → line_meant d line ≡ meant ∷ [] → HasTime line time → model.time_of meant ≡ value_of time → CanGoOn P run.timeline → HaltsAtMoment (number_in line) time run halt → ReadiedFor d N P ls h run → StopsInLine d N P ls run.timeline.line.most line run.account halt
 time_stops d N P line meant time run (Refused v) ls h e k t c s r = inl (record {
   history = h;
-  reported = reported N P (plan_of d ls false) (instances_of d ls) h run.timeline.line (account_in run) (account_in run) r.played c.within refl;
+  reported = reported N P (plan_of d ls false) (instances_of d ls) h run.timeline.line run.account run.account r.played c.within refl;
   waits = waits N P (plan_of d ls false) (instances_of d ls) h run r;
   meant = meant;
   meant_is = e;
@@ -94,43 +93,43 @@ time_stops d N P line meant time run (Refused v) ls h e k t c s r = inl (record 
 })
 time_stops d N P line meant time run Memory ls h e k t c s r = tt
 
-pub halts_by_time : (d : Pair) (N : Labels) (P : Problem) (line : Line) (meant : model.Line) (time : Time) (run : Run) (halt : Halt) → line_meant d line ≡ meant ∷ [] → HasTime line time → model.time_of meant ≡ value_of time → CanGoOn P run.timeline → HaltsAtMoment (number_in line) time run halt → HaltsInLine d N P line run run halt
+pub halts_by_time : (d : Pair) (N : Labels) (P : Problem) (line : Line) (meant : model.Line) (time : Time) (run : Progress) (halt : Halt) → line_meant d line ≡ meant ∷ [] → HasTime line time → model.time_of meant ≡ value_of time → CanGoOn P run.timeline → HaltsAtMoment (number_in line) time run halt → HaltsInLine d N P line run run halt
 halts_by_time d N P line meant time run halt e k t c s = record {
   stops = λ ls h r. time_stops d N P line meant time run halt ls h e k t c s r;
 }
 
 -- the way to it
-pub halts_before : (d : Pair) (N : Labels) (P : Problem) (line : Line) (meant : model.Line) (time : Time) (at : Frac64) (old new : Run) (halt : Halt) → line_meant d line ≡ meant ∷ [] → model.time_of meant ≡ value_of time → ((t : Time) → HasTime line t → time ≡ t) → IsInTime old time at → HaltsOnWay N P (fraction_of at) old new halt → HaltsInLine d N P line old new halt
+pub halts_before : (d : Pair) (N : Labels) (P : Problem) (line : Line) (meant : model.Line) (time : Time) (at : Frac64) (old new : Progress) (halt : Halt) → line_meant d line ≡ meant ∷ [] → model.time_of meant ≡ value_of time → ((t : Time) → HasTime line t → time ≡ t) → IsInTime old.ended old.timeline.line.now.time time at → HaltsOnWay N P (fraction_of at) old new halt → HaltsInLine d N P line old new halt
 halts_before d N P line meant time at old new halt e t w i s = record {
   stops = λ ls h r.
       let L : Plan = plan_of d ls false in
       let instance : ℕ → List Test = instances_of d (ls ++ line ∷ []) in
-      in_line d N P ls old.timeline.line.most line meant (account_in new) halt e (has_value line time at w i.is)
-      (way_in N P (with_line L meant) old.timeline.line.most instance (number_in line) (account_in new) halt
+      in_line d N P ls old.timeline.line.most line meant new.account halt e (has_value line time at w i.is)
+      (way_in N P (with_line L meant) old.timeline.line.most instance (number_in line) new.account halt
       (s.stops (with_line L meant) instance (length L.lines) h (has_begun L meant) (line_on_way d N P ls line h old meant time at (sym t) i r)));
 }
 
-module _ (d : Pair) (N : Labels) (P : Problem) (n : ℕ) (time : Time) (call : Call) (at : Frac64) (old there : Run) (i : IsInTime old time at) (r : Reaches N P (fraction_of at) old there) where
+module _ (d : Pair) (N : Labels) (P : Problem) (n : ℕ) (time : Time) (call : Call) (at : Frac64) (old there : Progress) (i : IsInTime old.ended old.timeline.line.now.time time at) (r : Reaches N P (fraction_of at) old there) where
   line : model.Line
   line = ActLine (value_of time) (called_of d.domain d.problem call.name call.args)
 
   -- its action
-  pub halts_in_act : (new : Run) (halt : Halt) → HaltsInAct d N P n call there new halt → HaltsInLine d N P (lines.Act n time call) old new halt
+  pub halts_in_act : (new : Progress) (halt : Halt) → HaltsInAct d N P n call there new halt → HaltsInLine d N P (lines.Act n time call) old new halt
   unfolding line
   halts_in_act new halt s = record {
     stops = λ ls h ready.
         let L : Plan = plan_of d ls false in
         let instance : ℕ → List Test = instances_of d (ls ++ lines.Act n time call ∷ []) in
         let x = act_reached d N P n time call at old there i r ls h ready in
-        in_line d N P ls old.timeline.line.most (lines.Act n time call) line (account_in new) halt refl (has_value (lines.Act n time call) time at (λ t k. k) i.is)
-        (subst (λ m. StopsIn N P (with_line L line) m instance n (account_in new) halt) r.most
+        in_line d N P ls old.timeline.line.most (lines.Act n time call) line new.account halt refl (has_value (lines.Act n time call) time at (λ t k. k) i.is)
+        (subst (λ m. StopsIn N P (with_line L line) m instance n new.account halt) r.most
         (s.stops (with_line L line) instance x.0 (has_begun L line) (instance_is d ls n time call there.timeline.line.now.acted x.1.acted_is)
-        (reached_now N P (with_line L line) instance (length L.lines) (value_of time) x.0 there.timeline.line (account_in there) x.1)
-        (act_due N P L instance x.0 there.timeline.line (account_in there) (called_of d.domain d.problem call.name call.args) (value_of time) x.1)));
+        (reached_now N P (with_line L line) instance (length L.lines) (value_of time) x.0 there.timeline.line there.account x.1)
+        (act_due N P L instance x.0 there.timeline.line there.account (called_of d.domain d.problem call.name call.args) (value_of time) x.1)));
   }
 
   -- what comes behind it
-  pub halts_behind : (acted new : Run) (now : Fraction) (halt : Halt) → ActsOnce d N P call there acted → now ≡ acted.timeline.line.now.time → HaltsOnWay N P now acted new halt → HaltsInLine d N P (lines.Act n time call) old new halt
+  pub halts_behind : (acted new : Progress) (now : Fraction) (halt : Halt) → ActsOnce d N P call there acted → now ≡ acted.timeline.line.now.time → HaltsOnWay N P now acted new halt → HaltsInLine d N P (lines.Act n time call) old new halt
   unfolding line
   halts_behind acted new now halt a e s = record {
     stops = λ ls h ready.
@@ -139,9 +138,9 @@ module _ (d : Pair) (N : Labels) (P : Problem) (n : ℕ) (time : Time) (call : C
         let x = act_reached d N P n time call at old there i r ls h ready in
         let y = act_once d N P n time call there acted ls x.0 a x.1 in
         let many : acted.timeline.line.now.acted ≡ suc (length L.lines) = a.acted_is ∙ ap suc x.1.acted_is in
-        in_line d N P ls old.timeline.line.most (lines.Act n time call) line (account_in new) halt refl (has_value (lines.Act n time call) time at (λ t k. k) i.is)
-        (way_in N P (with_line L line) old.timeline.line.most instance n (account_in new) halt
-        (subst (λ m. StopsOnWay N P (with_line L line) m instance (account_in new) halt) (a.most ∙ r.most)
+        in_line d N P ls old.timeline.line.most (lines.Act n time call) line new.account halt refl (has_value (lines.Act n time call) time at (λ t k. k) i.is)
+        (way_in N P (with_line L line) old.timeline.line.most instance n new.account halt
+        (subst (λ m. StopsOnWay N P (with_line L line) m instance new.account halt) (a.most ∙ r.most)
         (s.stops (with_line L line) instance (suc (length L.lines)) y.0 (has_begun L line) (record {
           played = y.1;
           target_is = acted_target L line acted.timeline.line.now many ∙ sym e;
@@ -151,14 +150,14 @@ module _ (d : Pair) (N : Labels) (P : Problem) (n : ℕ) (time : Time) (call : C
 
 -- ---- the end of the text
 
-closing : (N : Labels) (P : Problem) (L : Plan) (instance : ℕ → List Test) (h : List Part) (run : Run) (now : Fraction) → now ≡ run.timeline.line.now.time → Readied N P L instance h run → IsOnWay N P (closed L) instance now run.timeline.line.now.acted h run
+closing : (N : Labels) (P : Problem) (L : Plan) (instance : ℕ → List Test) (h : List Part) (run : Progress) (now : Fraction) → now ≡ run.timeline.line.now.time → Readied N P L instance h run → IsOnWay N P (closed L) instance now run.timeline.line.now.acted h run
 closing N P L instance h run now e ready = record {
-  played = close_played N P L instance run.ended h run.timeline.line (account_in run) ready;
-  target_is = close_target N P L instance run.ended h run.timeline.line (account_in run) ready ∙ sym e;
+  played = close_played N P L instance run.ended h run.timeline.line run.account ready;
+  target_is = close_target N P L instance run.ended h run.timeline.line run.account ready ∙ sym e;
   acted_is = refl;
 }
 
-pub halts_closing : (N : Labels) (P : Problem) (old new : Run) (now : Fraction) (halt : Halt) → now ≡ old.timeline.line.now.time → HaltsOnWay N P now old new halt → HaltsAtEnd N P old new halt
+pub halts_closing : (N : Labels) (P : Problem) (old new : Progress) (now : Fraction) (halt : Halt) → now ≡ old.timeline.line.now.time → HaltsOnWay N P now old new halt → HaltsAtEnd N P old new halt
 halts_closing N P old new now halt e s = record {
   stops = λ L instance h ready. s.stops (closed L) instance old.timeline.line.now.acted h (inr refl) (closing N P L instance h old now e ready);
 }
@@ -201,15 +200,15 @@ finish_stops N P L most instance acted time h v account account' (stops.Breach (
 finish_stops N P L most instance acted time h v account account' stops.Ended c m g r w e t = tt
 finish_stops N P L most instance acted time h v account account' stops.Memory c m g r w e t = tt
 
-pub halts_at_goal : (N : Labels) (P : Problem) (old mid new : Run) (now : Fraction) (stop : Stop Frac64) (halt : Halt) → now ≡ old.timeline.line.now.time → Reaches N P now old mid → (account_in new) ≡ (account_in mid) → halt ≡ stop_halt stop → FinishTold {A = Unit {0}} fraction_of IsFrac64 P mid.timeline.line (Err stop) → HaltsAtEnd N P old new halt
+pub halts_at_goal : (N : Labels) (P : Problem) (old mid new : Progress) (now : Fraction) (stop : Stop Frac64) (halt : Halt) → now ≡ old.timeline.line.now.time → Reaches N P now old mid → new.account ≡ mid.account → halt ≡ stop_halt stop → FinishTold {A = Unit {0}} fraction_of IsFrac64 P mid.timeline.line (Err stop) → HaltsAtEnd N P old new halt
 halts_at_goal N P old mid new now stop halt e r w k t = record {
   stops = λ L instance h ready.
       let there = r.reached (closed L) instance old.timeline.line.now.acted h (inr refl) (closing N P L instance h old now e ready) in
-      let there_now : IsReached N P (closed L) instance old.timeline.line.now.acted old.timeline.line.now.time there.0 mid.timeline.line (account_in mid) =
-      subst (λ x. IsReached N P (closed L) instance old.timeline.line.now.acted x there.0 mid.timeline.line (account_in mid)) e there.1 in
-      subst (StopsOnWay N P (closed L) old.timeline.line.most instance (account_in new)) (sym k)
-      (finish_stops N P (closed L) old.timeline.line.most instance old.timeline.line.now.acted old.timeline.line.now.time there.0 mid.timeline.line (account_in mid) (account_in new) stop refl r.most r.can.within there_now
-      (close_worked N P L instance old.ended h there.0 old.timeline.line mid.timeline.line (account_in old) (account_in mid) ready there_now) w t);
+      let there_now : IsReached N P (closed L) instance old.timeline.line.now.acted old.timeline.line.now.time there.0 mid.timeline.line mid.account =
+      subst (λ x. IsReached N P (closed L) instance old.timeline.line.now.acted x there.0 mid.timeline.line mid.account) e there.1 in
+      subst (StopsOnWay N P (closed L) old.timeline.line.most instance new.account) (sym k)
+      (finish_stops N P (closed L) old.timeline.line.most instance old.timeline.line.now.acted old.timeline.line.now.time there.0 mid.timeline.line mid.account new.account stop refl r.most r.can.within there_now
+      (close_worked N P L instance old.ended h there.0 old.timeline.line mid.timeline.line old.account mid.account ready there_now) w t);
 }
 
 pub on_err : {A E : Type 0} (r : Result A E) (G Q : E → Type 0) → ((e : E) → G e → Q e) → IfErr r G → IfErr r Q

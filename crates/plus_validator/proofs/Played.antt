@@ -29,16 +29,18 @@ use Rattle.plus_plan.specs.TimeValue.{value_of}
 use Rattle.plus_expansion.specs.Counting.{IsGroundable}
 use Rattle.plus_expansion.specs.Expansion.{expanded, labels_meant}
 use Rattle.plus_expansion.specs.Calls.{called_of}
-use Rattle.plus_validator.specs.Account.{Account, account_in}
+use Rattle.plus_validator.specs.Account.{Account, Progress}
 use Rattle.plus_validator.specs.Accepted.{IsAccepted}
 use Rattle.plus_validator.specs.Plans.{Pair, pair, line_meant, plan_of, HasTime, HasValue, lines_meant}
-use Rattle.plus_validator.specs.Standing.{IsPlayed, CanGoOn, IsReady, IsReached}
+use Rattle.plus_indexed.specs.Indexed.{IndexedView}
+use Rattle.plus_model.proofs.Moments.{≤ℚ_refl}
+use Rattle.plus_timeline.specs.Advance.{IsAhead}
+use Rattle.plus_validator.specs.Standing.{IsPlayed, CanGoOn, CanReach, HasRoom, IsReady, IsReached}
 use Rattle.plus_validator.specs.Running.{IsOnWay, Reaches}
 use Rattle.plus_validator.specs.Playing.{Readied, IsResting, ActsOnce, PlaysLine, IsInTime, Closes, PlaysAll, Ends, Begins, ReadiedFor}
 use Rattle.plus_validator.proofs.FiresLemmas.{fires_exactly}
 use Rattle.plus_validator.specs.Feeding.{HasPlayed}
 use Rattle.plus_validator.proofs.Texts.{plan_of-append}
-use Rattle.plus_validator.specs.declared.run.Run.{Run}
 use Rattle.plus_validator.proofs.Steps.{played_on, account_by, entries_of-append, asked_is}
 use Rattle.plus_validator.proofs.Lines.{with_line, has_begun, read_on, read_target, act_due, acted_target, act_ready, end_ready, Agree}
 use Rattle.std.proofs.lemmas.List.Elements.{All-cons, All-head, All-nil, All-tail}
@@ -63,7 +65,7 @@ act_passes d N P L instance h call action v account i n s due x =
     (line_passes P L v.most instance v.entries v.now (Some (ActLine v.now.time (Instance action))) due s.present s.over s.passed
     (all_pass (instance v.now.acted) (act_tests v.now.acted action v.now.state) (subst (AllPass IsFrac64) (sym n) (call_passes d call action i)) x))
 
-pub acts_once : (d : Pair) (N : Labels) (P : Problem) (call : Call) (action : Action) (old new : Run) → CanGoOn P old.timeline → IsInstance IsFrac64 d.domain call.name (called_of d.domain d.problem call.name call.args) action → AllPass IsFrac64 (act_tests old.timeline.line.now.acted action old.timeline.line.now.state) → DoesAct P action old.timeline.line new.timeline.line → new.ended ≡ old.ended → new.report.bytes.items ≡ old.report.bytes.items ++ act_text N action.label new.timeline.line.before new.timeline.line.now.state → new.entries ≡ old.entries → new.firings ≡ old.firings → Knows IsFrac64 P new.timeline → ActsOnce d N P call old new
+pub acts_once : (d : Pair) (N : Labels) (P : Problem) (call : Call) (action : Action) (old new : Progress) → CanGoOn P old.timeline → IsInstance IsFrac64 d.domain call.name (called_of d.domain d.problem call.name call.args) action → AllPass IsFrac64 (act_tests old.timeline.line.now.acted action old.timeline.line.now.state) → DoesAct P action old.timeline.line new.timeline.line → new.ended ≡ old.ended → new.account.report ≡ old.account.report ++ act_text N action.label new.timeline.line.before new.timeline.line.now.state → new.account.entries ≡ old.account.entries → new.account.firings ≡ old.account.firings → Knows IsFrac64 P new.timeline → ActsOnce d N P call old new
 acts_once d N P call action old new c i x a e r en fi k = record {
   can = record {
     knows = k;
@@ -79,15 +81,15 @@ acts_once d N P call action old new c i x a e r en fi k = record {
       let due' : next_line L old.timeline.line.now ≡ Some (ActLine old.timeline.line.now.time (Instance action)) = due ∙ ap (λ x. Some (ActLine old.timeline.line.now.time x)) i.is in
       let part : Part = Act old.timeline.line.now.acted a.after in (
         h ++ part ∷ [],
-        played_on N P L instance h old.timeline.line new.timeline.line (account_in old) (account_in new) part b s.played
-            (act_passes d N P L instance h call action old.timeline.line (account_in old) i n s due' x) (ap (λ v. v.most) a.is)
+        played_on N P L instance h old.timeline.line new.timeline.line old.account new.account part b s.played
+            (act_passes d N P L instance h call action old.timeline.line old.account i n s due' x) (ap (λ v. v.most) a.is)
             (act_adds P L action old.timeline.line new.timeline.line due' a)
             (ap (λ v. v.entries) a.is ∙ s.played.entries ∙ sym (add-zero (entries_of h)) ∙ sym (entries_of-append h part))
             (account_by
-            (r ∙ ap (λ x. old.report.bytes.items ++ act_text N action.label x new.timeline.line.now.state) (ap (λ v. v.before) a.is)
-            ∙ ap (λ x. old.report.bytes.items ++ act_text N action.label old.timeline.line.now.state x) (ap (λ v. v.now.state) a.is)
-            ∙ ap (λ x. old.report.bytes.items ++ act_text N (called_label x) old.timeline.line.now.state a.after) (sym due'))
-            (en ∙ sym (add-zero old.entries)) (fi ∙ sym (add-zero old.firings))),
+            (r ∙ ap (λ x. old.account.report ++ act_text N action.label x new.timeline.line.now.state) (ap (λ v. v.before) a.is)
+            ∙ ap (λ x. old.account.report ++ act_text N action.label old.timeline.line.now.state x) (ap (λ v. v.now.state) a.is)
+            ∙ ap (λ x. old.account.report ++ act_text N (called_label x) old.timeline.line.now.state a.after) (sym due'))
+            (en ∙ sym (add-zero old.account.entries)) (fi ∙ sym (add-zero old.account.firings))),
       );
 }
 
@@ -99,7 +101,7 @@ with_meant d ls line meant e =
     ap (λ (ks : List model.Line). let L : Plan = record { lines = lines_meant d ls ++ ks; closed = false } in L) (sym e) ∙ sym (plan_of-append d ls line false)
 
 -- a line that is no line of the plan leaves the run as it is
-pub no_line : (d : Pair) (N : Labels) (P : Problem) (line : Line) (run : Run) → line_meant d line ≡ [] → line_instances d line ≡ [] → HasValue line → CanGoOn P run.timeline → run.timeline.line.now.running ≡ None → PlaysLine d N P line run run
+pub no_line : (d : Pair) (N : Labels) (P : Problem) (line : Line) (run : Progress) → line_meant d line ≡ [] → line_instances d line ≡ [] → HasValue line → CanGoOn P run.timeline → run.timeline.line.now.running ≡ None → PlaysLine d N P line run run
 no_line d N P line run e f w c m = record {
   rests = record { can = c; moment = m; most_is = refl };
   value = w;
@@ -118,7 +120,7 @@ IsNoLine (lines.Act n t c) = ⊥
 IsNoLine (lines.End n t) = ⊥
 IsNoLine (lines.Step n c) = Unit {0}
 
-pub nothing_played : (d : Pair) (N : Labels) (P : Problem) (line : Line) (run : Run) → IsNoLine line → CanGoOn P run.timeline → run.timeline.line.now.running ≡ None → PlaysLine d N P line run run
+pub nothing_played : (d : Pair) (N : Labels) (P : Problem) (line : Line) (run : Progress) → IsNoLine line → CanGoOn P run.timeline → run.timeline.line.now.running ≡ None → PlaysLine d N P line run run
 nothing_played d N P lines.Blank run q c m = no_line d N P lines.Blank run refl refl (record { fits = λ t h. absurd h }) c m
 nothing_played d N P (lines.Act n t k) run q c m = absurd q
 nothing_played d N P (lines.End n t) run q c m = absurd q
@@ -131,48 +133,48 @@ has_value line time at is e = record {
 }
 
 -- the run stands ready for a line at this time
-pub not_ended : (N : Labels) (P : Problem) (L : Plan) (instance : ℕ → List Test) (h : List Part) (run : Run) → run.ended ≡ false → Readied N P L instance h run → IsReady N P L instance false h run.timeline.line (account_in run)
-not_ended N P L instance h run e r = subst (λ b. IsReady N P L instance b h run.timeline.line (account_in run)) e r
+pub not_ended : (N : Labels) (P : Problem) (L : Plan) (instance : ℕ → List Test) (h : List Part) (run : Progress) → run.ended ≡ false → Readied N P L instance h run → IsReady N P L instance false h run.timeline.line run.account
+not_ended N P L instance h run e r = subst (λ b. IsReady N P L instance b h run.timeline.line run.account) e r
 
 -- and is then on its way to it
-pub on_way : (N : Labels) (P : Problem) (L : Plan) (instance instance' : ℕ → List Test) (h : List Part) (run : Run) (line : model.Line) (u : Fraction) → Agree L instance instance' → u ≡ model.time_of line → run.timeline.line.now.time ≤ℚ u → IsReady N P L instance false h run.timeline.line (account_in run) → IsOnWay N P (with_line L line) instance' u (length L.lines) h run
+pub on_way : (N : Labels) (P : Problem) (L : Plan) (instance instance' : ℕ → List Test) (h : List Part) (run : Progress) (line : model.Line) (u : Fraction) → Agree L instance instance' → u ≡ model.time_of line → run.timeline.line.now.time ≤ℚ u → IsReady N P L instance false h run.timeline.line run.account → IsOnWay N P (with_line L line) instance' u (length L.lines) h run
 on_way N P L instance instance' h run line u a e le r = record {
-  played = read_on N P L instance instance' h run.timeline.line (account_in run) line a r (subst (λ x. run.timeline.line.now.time ≤ℚ x) e le);
-  target_is = read_target N P L instance h run.timeline.line (account_in run) line r ∙ sym e;
+  played = read_on N P L instance instance' h run.timeline.line run.account line a r (subst (λ x. run.timeline.line.now.time ≤ℚ x) e le);
+  target_is = read_target N P L instance h run.timeline.line run.account line r ∙ sym e;
   acted_is = r.acted;
 }
 
 -- the same for a line of the text
-pub line_on_way : (d : Pair) (N : Labels) (P : Problem) (ls : List Line) (line : Line) (h : List Part) (run : Run) (meant : model.Line) (time : Time) (at : Frac64) → value_of time ≡ model.time_of meant → IsInTime run time at → ReadiedFor d N P ls h run → IsOnWay N P (with_line (plan_of d ls false) meant) (instances_of d (ls ++ line ∷ [])) (fraction_of at) (length (lines_meant d ls)) h run
+pub line_on_way : (d : Pair) (N : Labels) (P : Problem) (ls : List Line) (line : Line) (h : List Part) (run : Progress) (meant : model.Line) (time : Time) (at : Frac64) → value_of time ≡ model.time_of meant → IsInTime run.ended run.timeline.line.now.time time at → ReadiedFor d N P ls h run → IsOnWay N P (with_line (plan_of d ls false) meant) (instances_of d (ls ++ line ∷ [])) (fraction_of at) (length (lines_meant d ls)) h run
 line_on_way d N P ls line h run meant time at e i r =
     on_way N P (plan_of d ls false) (instances_of d ls) (instances_of d (ls ++ line ∷ [])) h run meant (fraction_of at) (instances_agree d ls (line ∷ [])) (i.is ∙ e) i.ahead
     (not_ended N P (plan_of d ls false) (instances_of d ls) h run i.not_ended r)
 
 -- the action of a line is due
-pub act_reached : (d : Pair) (N : Labels) (P : Problem) (n : ℕ) (time : Time) (call : Call) (at : Frac64) (old there : Run) → IsInTime old time at → Reaches N P (fraction_of at) old there → (ls : List Line) (h : List Part) → ReadiedFor d N P ls h old → (x : List Part) × IsReached N P (with_line (plan_of d ls false) (ActLine (value_of time) (called_of d.domain d.problem call.name call.args))) (instances_of d (ls ++ lines.Act n time call ∷ [])) (length (lines_meant d ls)) (value_of time) x there.timeline.line (account_in there)
+pub act_reached : (d : Pair) (N : Labels) (P : Problem) (n : ℕ) (time : Time) (call : Call) (at : Frac64) (old there : Progress) → IsInTime old.ended old.timeline.line.now.time time at → Reaches N P (fraction_of at) old there → (ls : List Line) (h : List Part) → ReadiedFor d N P ls h old → (x : List Part) × IsReached N P (with_line (plan_of d ls false) (ActLine (value_of time) (called_of d.domain d.problem call.name call.args))) (instances_of d (ls ++ lines.Act n time call ∷ [])) (length (lines_meant d ls)) (value_of time) x there.timeline.line there.account
 act_reached d N P n time call at old there i r ls h ready =
     let line : model.Line = ActLine (value_of time) (called_of d.domain d.problem call.name call.args) in
     let instance : ℕ → List Test = instances_of d (ls ++ lines.Act n time call ∷ []) in
     let x = r.reached (with_line (plan_of d ls false) line) instance (length (lines_meant d ls)) h (has_begun (plan_of d ls false) line) (line_on_way d N P ls (lines.Act n time call) h old line time at refl i ready) in
-    (x.0, subst (λ u. IsReached N P (with_line (plan_of d ls false) line) instance (length (lines_meant d ls)) u x.0 there.timeline.line (account_in there)) i.is x.1)
+    (x.0, subst (λ u. IsReached N P (with_line (plan_of d ls false) line) instance (length (lines_meant d ls)) u x.0 there.timeline.line there.account) i.is x.1)
 
 -- the same over the present time
 pub reached_now : (N : Labels) (P : Problem) (L : Plan) (instance : ℕ → List Test) (acted : ℕ) (time : Fraction) (h : List Part) (t : TimelineView) (account : Account) → IsReached N P L instance acted time h t account → IsReached N P L instance t.now.acted t.now.time h t account
 reached_now N P L instance acted time h t account r = record { played = r.played; present = r.present; over = r.over; passed = r.passed; acted_is = refl; time_is = refl }
 
 -- and is done
-pub act_once : (d : Pair) (N : Labels) (P : Problem) (n : ℕ) (time : Time) (call : Call) (there acted : Run) (ls : List Line) (x : List Part) → ActsOnce d N P call there acted → IsReached N P (with_line (plan_of d ls false) (ActLine (value_of time) (called_of d.domain d.problem call.name call.args))) (instances_of d (ls ++ lines.Act n time call ∷ [])) (length (lines_meant d ls)) (value_of time) x there.timeline.line (account_in there) → (y : List Part) × IsPlayed N P (with_line (plan_of d ls false) (ActLine (value_of time) (called_of d.domain d.problem call.name call.args))) (instances_of d (ls ++ lines.Act n time call ∷ [])) y acted.timeline.line (account_in acted)
+pub act_once : (d : Pair) (N : Labels) (P : Problem) (n : ℕ) (time : Time) (call : Call) (there acted : Progress) (ls : List Line) (x : List Part) → ActsOnce d N P call there acted → IsReached N P (with_line (plan_of d ls false) (ActLine (value_of time) (called_of d.domain d.problem call.name call.args))) (instances_of d (ls ++ lines.Act n time call ∷ [])) (length (lines_meant d ls)) (value_of time) x there.timeline.line there.account → (y : List Part) × IsPlayed N P (with_line (plan_of d ls false) (ActLine (value_of time) (called_of d.domain d.problem call.name call.args))) (instances_of d (ls ++ lines.Act n time call ∷ [])) y acted.timeline.line acted.account
 act_once d N P n time call there acted ls x a k =
     let called : Called = called_of d.domain d.problem call.name call.args in
     let L : Plan = plan_of d ls false in
     let line : model.Line = ActLine (value_of time) called in
     let instance : ℕ → List Test = instances_of d (ls ++ lines.Act n time call ∷ []) in
     a.acted (with_line L line) instance x (has_begun L line) (instance_is d ls n time call there.timeline.line.now.acted k.acted_is)
-    (reached_now N P (with_line L line) instance (length (lines_meant d ls)) (value_of time) x there.timeline.line (account_in there) k)
-    (act_due N P L instance x there.timeline.line (account_in there) called (value_of time) k)
+    (reached_now N P (with_line L line) instance (length (lines_meant d ls)) (value_of time) x there.timeline.line there.account k)
+    (act_due N P L instance x there.timeline.line there.account called (value_of time) k)
 
 -- the end of the plan is played
-pub end_played : (d : Pair) (N : Labels) (P : Problem) (n : ℕ) (time : Time) (at : Frac64) (old mid new : Run) → IsInTime old time at → Reaches N P (fraction_of at) old mid → new.timeline ≡ mid.timeline → account_in new ≡ account_in mid → new.ended ≡ true → PlaysLine d N P (lines.End n time) old new
+pub end_played : (d : Pair) (N : Labels) (P : Problem) (n : ℕ) (time : Time) (at : Frac64) (old mid new : Progress) → IsInTime old.ended old.timeline.line.now.time time at → Reaches N P (fraction_of at) old mid → new.timeline ≡ mid.timeline → new.account ≡ mid.account → new.ended ≡ true → PlaysLine d N P (lines.End n time) old new
 end_played d N P n time at old mid new i r t w e = record {
   rests = record { can = subst (CanGoOn P) (sym t) r.can; moment = ap (λ v. v.line.now.running) t ∙ r.moment; most_is = ap (λ v. v.line.most) t ∙ r.most };
   value = has_value (lines.End n time) time at (λ x h. h) i.is;
@@ -181,18 +183,18 @@ end_played d N P n time at old mid new i r t w e = record {
       let instance : ℕ → List Test = instances_of d (ls ++ lines.End n time ∷ []) in
       let line : model.Line = EndLine (value_of time) in
       let there = r.reached (with_line L line) instance (length L.lines) h (has_begun L line) (line_on_way d N P ls (lines.End n time) h old line time at refl i ready) in
-      let there_at : IsReached N P (with_line L line) instance (length L.lines) (value_of time) there.0 mid.timeline.line (account_in mid) =
-      subst (λ x. IsReached N P (with_line L line) instance (length L.lines) x there.0 mid.timeline.line (account_in mid)) i.is there.1 in
-      let done = end_ready N P L instance there.0 mid.timeline.line (account_in mid) (value_of time) refl there_at in
-      let moved : IsReady N P (with_line L line) instance true there.0 new.timeline.line (account_in new) =
-      subst (λ v. IsReady N P (with_line L line) instance true there.0 v.line (account_in new)) (sym t)
+      let there_at : IsReached N P (with_line L line) instance (length L.lines) (value_of time) there.0 mid.timeline.line mid.account =
+      subst (λ x. IsReached N P (with_line L line) instance (length L.lines) x there.0 mid.timeline.line mid.account) i.is there.1 in
+      let done = end_ready N P L instance there.0 mid.timeline.line mid.account (value_of time) refl there_at in
+      let moved : IsReady N P (with_line L line) instance true there.0 new.timeline.line new.account =
+      subst (λ v. IsReady N P (with_line L line) instance true there.0 v.line new.account) (sym t)
       (subst (λ (x : Account). IsReady N P (with_line L line) instance true there.0 mid.timeline.line x) (sym w) done) in
-      let ended : Readied N P (with_line L line) instance there.0 new = subst (λ b. IsReady N P (with_line L line) instance b there.0 new.timeline.line (account_in new)) (sym e) moved in
+      let ended : Readied N P (with_line L line) instance there.0 new = subst (λ b. IsReady N P (with_line L line) instance b there.0 new.timeline.line new.account) (sym e) moved in
       (there.0, subst (λ (M : Plan). Readied N P M instance there.0 new) (with_meant d ls (lines.End n time) line refl) ended);
 }
 
 -- an action is played
-pub act_played : (d : Pair) (N : Labels) (P : Problem) (n : ℕ) (time : Time) (call : Call) (at : Frac64) (now : Fraction) (old there acted new : Run) → IsInTime old time at → Reaches N P (fraction_of at) old there → ActsOnce d N P call there acted → now ≡ acted.timeline.line.now.time → Reaches N P now acted new → PlaysLine d N P (lines.Act n time call) old new
+pub act_played : (d : Pair) (N : Labels) (P : Problem) (n : ℕ) (time : Time) (call : Call) (at : Frac64) (now : Fraction) (old there acted new : Progress) → IsInTime old.ended old.timeline.line.now.time time at → Reaches N P (fraction_of at) old there → ActsOnce d N P call there acted → now ≡ acted.timeline.line.now.time → Reaches N P now acted new → PlaysLine d N P (lines.Act n time call) old new
 act_played d N P n time call at now old there acted new i r a e s = record {
   rests = record { can = s.can; moment = s.moment; most_is = s.most ∙ a.most ∙ r.most };
   value = has_value (lines.Act n time call) time at (λ x h. h) i.is;
@@ -210,23 +212,31 @@ act_played d N P n time call at now old there acted new i r a e s = record {
         target_is = acted_target L line acted.timeline.line.now many ∙ sym e;
         acted_is = many;
       }) in
-      let z_at : IsReached N P L' instance (suc (length L.lines)) (value_of time) z.0 new.timeline.line (account_in new) =
-      subst (λ u. IsReached N P L' instance (suc (length L.lines)) u z.0 new.timeline.line (account_in new)) (e ∙ a.time ∙ x.1.time_is) z.1 in
-      let done = act_ready N P L instance z.0 new.timeline.line (account_in new) called (value_of time) refl z_at in
-      let ended : Readied N P L' instance z.0 new = subst (λ b. IsReady N P L' instance b z.0 new.timeline.line (account_in new)) (sym (s.ended ∙ a.ended ∙ r.ended ∙ i.not_ended)) done in
+      let z_at : IsReached N P L' instance (suc (length L.lines)) (value_of time) z.0 new.timeline.line new.account =
+      subst (λ u. IsReached N P L' instance (suc (length L.lines)) u z.0 new.timeline.line new.account) (e ∙ a.time ∙ x.1.time_is) z.1 in
+      let done = act_ready N P L instance z.0 new.timeline.line new.account called (value_of time) refl z_at in
+      let ended : Readied N P L' instance z.0 new = subst (λ b. IsReady N P L' instance b z.0 new.timeline.line new.account) (sym (s.ended ∙ a.ended ∙ r.ended ∙ i.not_ended)) done in
       (z.0, subst (λ (M : Plan). Readied N P M instance z.0 new) (with_meant d ls (lines.Act n time call) line refl) ended);
+}
+
+-- a run at a moment may go on to the present time
+pub reach_now : (P : Problem) (u : Fraction) (t : IndexedView) → CanGoOn P t → t.line.now.running ≡ None → u ≡ t.line.now.time → CanReach P u t
+reach_now P u t c m e = record {
+  goes = c;
+  ahead = subst (λ r. IsAhead r t.line.now.time u) (sym m) (subst (λ x. t.line.now.time ≤ℚ x) (sym e) (≤ℚ_refl t.line.now.time));
+  room = subst (λ r. HasRoom r t.line.entries t.line.most) (sym m) tt;
 }
 
 -- ---- the lines of a text
 
-pub played_none : (d : Pair) (N : Labels) (P : Problem) (run : Run) → IsResting P run.timeline.line.most run → HasPlayed d N P [] run run
+pub played_none : (d : Pair) (N : Labels) (P : Problem) (run : Progress) → IsResting P run.timeline.line.most run.timeline → HasPlayed d N P [] run run
 played_none d N P run r = record { rests = r; times = All-nil HasValue; ready = λ h k. (h, k) }
 
 all_more : {A : Type 0} (P : A → Type 0) (xs : List A) (x : A) → All P xs → P x → All P (xs ++ x ∷ [])
 all_more P [] x a h = All-cons P x [] h a
 all_more P (y ∷ xs) x a h = All-cons P y (xs ++ x ∷ []) (All-head P y xs a) (all_more P xs x (All-tail P y xs a) h)
 
-pub played_more : (d : Pair) (N : Labels) (P : Problem) (lines : List Line) (line : Line) (first run new : Run) → HasPlayed d N P lines first run → PlaysLine d N P line run new → HasPlayed d N P (lines ++ line ∷ []) first new
+pub played_more : (d : Pair) (N : Labels) (P : Problem) (lines : List Line) (line : Line) (first run new : Progress) → HasPlayed d N P lines first run → PlaysLine d N P line run new → HasPlayed d N P (lines ++ line ∷ []) first new
 played_more d N P lines line first run new r p = record {
   rests = record { can = p.rests.can; moment = p.rests.moment; most_is = p.rests.most_is ∙ r.rests.most_is };
   times = all_more HasValue lines line r.times p.value;
@@ -236,7 +246,7 @@ played_more d N P lines line first run new r p = record {
 }
 
 -- the text is played to its end
-pub plays_all : (d : Pair) (N : Labels) (P : Problem) (text : List ℕ) (lines : List Line) (old mid new : Run) → HasPlayed d N P lines old mid → plan_lines Timed text ≡ map Ok lines → Closes N P mid new → PlaysAll d N P text old new
+pub plays_all : (d : Pair) (N : Labels) (P : Problem) (text : List ℕ) (lines : List Line) (old mid new : Progress) → HasPlayed d N P lines old mid → plan_lines Timed text ≡ map Ok lines → Closes N P mid new → PlaysAll d N P text old new
 plays_all d N P text lines old mid new r e c = record {
   lines = lines;
   read = e;
@@ -244,19 +254,19 @@ plays_all d N P text lines old mid new r e c = record {
   ends = λ h k.
       let a = r.ready h k in
       let b = c.ends (plan_of d lines false) (instances_of d lines) a.0 a.1 in
-      (b.0, subst (λ m. Ends N P (plan_of d lines true) m (instances_of d lines) b.0 (account_in new)) r.rests.most_is b.1);
+      (b.0, subst (λ m. Ends N P (plan_of d lines true) m (instances_of d lines) b.0 new.account) r.rests.most_is b.1);
 }
 
 -- and accepted, with what is counted
-pub accepted : (d : Domain) (p : tree.Problem) (N : Labels) (P : Problem) (most : ℕ) (text bytes : List ℕ) (old new : Run) → IsGroundable IsFrac64 d p → length text ≤ 1048576 → P ≡ expanded d p → N ≡ labels_meant d p → Begins N P most old → PlaysAll (pair d p) N P text old new → bytes ≡ new.report.bytes.items ++ codes "valid\n" → (a : IsAccepted d p most text bytes) × (new.entries ≡ entries_of a.history) × (new.firings ≡ firings_of a.history)
+pub accepted : (d : Domain) (p : tree.Problem) (N : Labels) (P : Problem) (most : ℕ) (text bytes : List ℕ) (old new : Progress) → IsGroundable IsFrac64 d p → length text ≤ 1048576 → P ≡ expanded d p → N ≡ labels_meant d p → Begins N P most old → PlaysAll (pair d p) N P text old new → bytes ≡ new.account.report ++ codes "valid\n" → (a : IsAccepted d p most text bytes) × (new.account.entries ≡ entries_of a.history) × (new.account.firings ≡ firings_of a.history)
 accepted d p N P most text bytes old new z w e f b a k =
     let start = b.ready (plan_of (pair d p) [] false) (instances_of (pair d p) []) refl refl in
     let finish = a.ends start.0 start.1 in
     let i = instances_of (pair d p) a.lines in
-    let ends : Ends (labels_meant d p) (expanded d p) (plan_of (pair d p) a.lines true) most i finish.0 (account_in new) =
-    subst (λ M. Ends M (expanded d p) (plan_of (pair d p) a.lines true) most i finish.0 (account_in new)) f
-    (subst (λ Q. Ends N Q (plan_of (pair d p) a.lines true) most i finish.0 (account_in new)) e
-    (subst (λ m. Ends N P (plan_of (pair d p) a.lines true) m i finish.0 (account_in new)) b.rests.most_is finish.1)) in
+    let ends : Ends (labels_meant d p) (expanded d p) (plan_of (pair d p) a.lines true) most i finish.0 new.account =
+    subst (λ M. Ends M (expanded d p) (plan_of (pair d p) a.lines true) most i finish.0 new.account) f
+    (subst (λ Q. Ends N Q (plan_of (pair d p) a.lines true) most i finish.0 new.account) e
+    (subst (λ m. Ends N P (plan_of (pair d p) a.lines true) m i finish.0 new.account) b.rests.most_is finish.1)) in
     let accepts : IsAccepted d p most text bytes = record {
       groundable = z;
       within = w;

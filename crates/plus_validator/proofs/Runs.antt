@@ -15,13 +15,12 @@ use Rattle.plus_timeline.specs.declared.next.Next.{Next}
 use Rattle.plus_indexed.specs.Knows.{Knows}
 use Rattle.plus_timeline.specs.declared.next.Next.TheVariants.{Round, Run as run_answer, Entry, There}
 use Rattle.plus_validator.specs.Standing.{CanReach, IsReached, IsMore, a_round, a_run, an_entry, is_there, account_next}
-use Rattle.plus_validator.specs.Account.{Account, account_in}
+use Rattle.plus_validator.specs.Account.{Account, Progress}
 use Rattle.plus_validator.specs.Running.{IsOnWay, StepsOn, Reaches, Steps}
-use Rattle.plus_validator.specs.declared.run.Run.{Run}
 use Rattle.plus_validator.proofs.Steps.{account_by, part_of, way_tests, step_goes, step_most, step_less, step_played, step_clear, step_target, step_acted, step_done}
 
 -- what a step says by its answer
-step_more : (N : Labels) (P : Problem) (u : Fraction) (old new : Run) (answer : Next Frac64) → IsMore answer → CanReach P u old.timeline → Advances fraction_of P u old.timeline.line new.timeline.line answer → AllPass IsFrac64 (way_tests P u old.timeline.line) → new.ended ≡ old.ended → account_in new ≡ account_next fraction_of N P new.timeline.line answer (account_in old) → Knows IsFrac64 P new.timeline → StepsOn N P u old new
+step_more : (N : Labels) (P : Problem) (u : Fraction) (old new : Progress) (answer : Next Frac64) → IsMore answer → CanReach P u old.timeline → Advances fraction_of P u old.timeline.line new.timeline.line answer → AllPass IsFrac64 (way_tests P u old.timeline.line) → new.ended ≡ old.ended → new.account ≡ account_next fraction_of N P new.timeline.line answer old.account → Knows IsFrac64 P new.timeline → StepsOn N P u old new
 step_more N P u old new answer m c a x e r k = record {
   can = step_goes fraction_of P u old.timeline new.timeline answer c a k;
   less = step_less fraction_of P u old.timeline old.timeline.line new.timeline.line answer c refl m a;
@@ -30,8 +29,8 @@ step_more N P u old new answer m c a x e r k = record {
   on_way = λ L instance acted h b w. (
     h ++ part_of new.timeline.line answer ∷ [],
     record {
-      played = step_played fraction_of N P L instance h u old.timeline.line new.timeline.line answer (account_in old) (account_in new) m b w.played
-          (step_clear fraction_of N P L instance h u old.timeline.line new.timeline.line answer (account_in old) m w.played w.target_is a x) w.target_is a r;
+      played = step_played fraction_of N P L instance h u old.timeline.line new.timeline.line answer old.account new.account m b w.played
+          (step_clear fraction_of N P L instance h u old.timeline.line new.timeline.line answer old.account m w.played w.target_is a x) w.target_is a r;
       target_is = step_target fraction_of P L u old.timeline.line new.timeline.line answer w.target_is a;
       acted_is = step_acted fraction_of P u old.timeline.line new.timeline.line answer a ∙ w.acted_is;
     },
@@ -42,7 +41,7 @@ step_more N P u old new answer m c a x e r k = record {
 nothing_added : (N : Labels) (P : Problem) (t : TimelineView) (account : Account) → account_next fraction_of N P t There account ≡ account
 nothing_added N P t account = account_by (append-nil account.report) (add-zero account.entries) (add-zero account.firings)
 
-step_there : (N : Labels) (P : Problem) (u : Fraction) (old new : Run) → CanReach P u old.timeline → IsThere P u old.timeline.line new.timeline.line → AllPass IsFrac64 (way_tests P u old.timeline.line) → new.ended ≡ old.ended → account_in new ≡ account_next fraction_of N P new.timeline.line There (account_in old) → Knows IsFrac64 P new.timeline → Reaches N P u old new
+step_there : (N : Labels) (P : Problem) (u : Fraction) (old new : Progress) → CanReach P u old.timeline → IsThere P u old.timeline.line new.timeline.line → AllPass IsFrac64 (way_tests P u old.timeline.line) → new.ended ≡ old.ended → new.account ≡ account_next fraction_of N P new.timeline.line There old.account → Knows IsFrac64 P new.timeline → Reaches N P u old new
 step_there N P u old new c a x e r k = record {
   can = (step_goes fraction_of P u old.timeline new.timeline There c a k).goes;
   paused = record { there = ap (λ v. v.answer) a.is; fresh = ap (λ v. v.acted) a.is };
@@ -51,12 +50,12 @@ step_there N P u old new c a x e r k = record {
   ended = e;
   reached = λ L instance acted h b w. (
     h,
-    subst (λ i. IsReached N P L instance i u h new.timeline.line (account_in new)) w.acted_is
-        (step_done fraction_of N P L instance h u old.timeline.line new.timeline.line (account_in old) (account_in new) w.played w.target_is a x (r ∙ nothing_added N P new.timeline.line (account_in old))),
+    subst (λ i. IsReached N P L instance i u h new.timeline.line new.account) w.acted_is
+        (step_done fraction_of N P L instance h u old.timeline.line new.timeline.line old.account new.account w.played w.target_is a x (r ∙ nothing_added N P new.timeline.line old.account)),
   );
 }
 
-pub step_says : (N : Labels) (P : Problem) (u : Fraction) (old new : Run) (answer : Next Frac64) → CanReach P u old.timeline → Advances fraction_of P u old.timeline.line new.timeline.line answer → AllPass IsFrac64 (way_tests P u old.timeline.line) → new.ended ≡ old.ended → account_in new ≡ account_next fraction_of N P new.timeline.line answer (account_in old) → Knows IsFrac64 P new.timeline → Steps N P u old new (is_there answer)
+pub step_says : (N : Labels) (P : Problem) (u : Fraction) (old new : Progress) (answer : Next Frac64) → CanReach P u old.timeline → Advances fraction_of P u old.timeline.line new.timeline.line answer → AllPass IsFrac64 (way_tests P u old.timeline.line) → new.ended ≡ old.ended → new.account ≡ account_next fraction_of N P new.timeline.line answer old.account → Knows IsFrac64 P new.timeline → Steps N P u old new (is_there answer)
 step_says N P u old new Round c a x e r k = step_more N P u old new Round a_round c a x e r k
 step_says N P u old new run_answer c a x e r k = step_more N P u old new run_answer a_run c a x e r k
 step_says N P u old new (Entry t) c a x e r k = step_more N P u old new (Entry t) (an_entry t) c a x e r k
@@ -64,7 +63,7 @@ step_says N P u old new There c a x e r k = step_there N P u old new c a x e r k
 
 -- ---- several steps
 
-pub record Along (N : Labels) (P : Problem) (u : Fraction) (start run : Run) : Type 0 where
+pub record Along (N : Labels) (P : Problem) (u : Fraction) (start run : Progress) : Type 0 where
   pub can : CanReach P u run.timeline
   pub most : run.timeline.line.most ≡ start.timeline.line.most
   pub ended : run.ended ≡ start.ended
@@ -72,10 +71,10 @@ pub record Along (N : Labels) (P : Problem) (u : Fraction) (start run : Run) : T
       (L : Plan) (instance : ℕ → List Test) (acted : ℕ) (h : List Part) → HasBegun L → IsOnWay N P L instance u acted h start
       → (h' : List Part) × IsOnWay N P L instance u acted h' run
 
-pub along_start : (N : Labels) (P : Problem) (u : Fraction) (run : Run) → CanReach P u run.timeline → Along N P u run run
+pub along_start : (N : Labels) (P : Problem) (u : Fraction) (run : Progress) → CanReach P u run.timeline → Along N P u run run
 along_start N P u run c = record { can = c; most = refl; ended = refl; on_way = λ L instance acted h b w. (h, w) }
 
-pub along_step : (N : Labels) (P : Problem) (u : Fraction) (start run new : Run) → Along N P u start run → StepsOn N P u run new → Along N P u start new
+pub along_step : (N : Labels) (P : Problem) (u : Fraction) (start run new : Progress) → Along N P u start run → StepsOn N P u run new → Along N P u start new
 along_step N P u start run new a s = record {
   can = s.can;
   most = s.most ∙ a.most;
@@ -83,7 +82,7 @@ along_step N P u start run new a s = record {
   on_way = λ L instance acted h b w. (let x = a.on_way L instance acted h b w in s.on_way L instance acted x.0 b x.1);
 }
 
-pub along_done : (N : Labels) (P : Problem) (u : Fraction) (start run new : Run) → Along N P u start run → Reaches N P u run new → Reaches N P u start new
+pub along_done : (N : Labels) (P : Problem) (u : Fraction) (start run new : Progress) → Along N P u start run → Reaches N P u run new → Reaches N P u start new
 along_done N P u start run new a s = record {
   can = s.can;
   paused = s.paused;

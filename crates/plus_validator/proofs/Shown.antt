@@ -27,7 +27,6 @@ use Rattle.plus_timeline.specs.declared.next.Next.TheVariants.{Round, Run as run
 use Rattle.plus_report.specs.Shown.{AreEvents, AreProcesses}
 use Rattle.plus_validator.specs.Standing.{MovesThenChanges, IsShown, next_text}
 use Rattle.plus_validator.specs.Playing.{IsInTime}
-use Rattle.plus_validator.specs.declared.run.Run.{Run}
 
 all_events : (n : ℕ) (es : List EventId) → All (λ e. e < n) (event_numbers es) → All (λ (e : EventId). e.0 < n) es
 all_events n [] a = All-nil (λ (e : EventId). e.0 < n)
@@ -103,8 +102,8 @@ not_earlier x y e = le_by_not y x (λ h.
     cc (e, f))
 
 -- a time that is not below the present one, where no end was read
-pub in_time : (run : Run) (time : Time) (at : Frac64) → fraction_of at ≡ value_of time → run.ended ≡ false → false ≡ is_below (fraction_of at) run.timeline.line.now.time → IsInTime run time at
-in_time run time at i e b = record { is = i; not_ended = e; ahead = not_earlier (fraction_of at) run.timeline.line.now.time b }
+pub in_time : (ended : Bool) (now : Fraction) (time : Time) (at : Frac64) → fraction_of at ≡ value_of time → ended ≡ false → false ≡ is_below (fraction_of at) now → IsInTime ended now time at
+in_time ended now time at i e b = record { is = i; not_ended = e; ahead = not_earlier (fraction_of at) now b }
 
 -- what the report has after an action
 pub act_reported : (old new : List ℕ) (N : Labels) (label : List ℕ) (b s b' s' : State) → Took (Some old) (Some new) (act_text N label b s) → b ≡ b' → s ≡ s' → new ≡ old ++ act_text N label b' s'

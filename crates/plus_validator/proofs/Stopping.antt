@@ -1,5 +1,5 @@
 -- A run that halts: the verdict stands at the history that is reported.
-use Rattle.plus_validator.specs.Account.{Account, account_in}
+use Rattle.plus_validator.specs.Account.{Account, Progress}
 use Rattle.plus_validator.specs.Plans.{Pair}
 use Rattle.std.proofs.Common.{◌≡◌, ℕ, ◌≤◌, List, [], refl, ap, sym, subst, ◌∙◌}
 use Rattle.std.specs.Prelude.{Option, Some, None, Err, IsSomeAnd}
@@ -35,7 +35,6 @@ use Rattle.plus_report.specs.declared.verdicts.Verdict.TheVariants.{Invalid, Bey
 use Rattle.plus_report.specs.Report.{called_label}
 use Rattle.plus_validator.specs.declared.halt.Halt.{Halt}
 use Rattle.plus_validator.specs.declared.halt.Halt.TheVariants.{Refused, Memory}
-use Rattle.plus_validator.specs.declared.run.Run.{Run}
 use Rattle.plus_validator.specs.Halts.{stop_halt, CallHalts, CallVerdict}
 use Rattle.plus_validator.specs.Standing.{IsPlayed, CanGoOn, CanReach, IsReached}
 use Rattle.plus_validator.specs.Running.{IsOnWay}
@@ -104,12 +103,12 @@ way_fails : (P : Problem) (L : Plan) (instance : ℕ → List Test) (u : Fractio
 way_fails P L instance u t test e f =
     advance_fails P L t.most instance t.entries t.now test (subst (λ (ts : List Test). FirstFailing IsFrac64 ts test) (way_is P L u t e) f)
 
-pub advance_stops : (N : Labels) (P : Problem) (L : Plan) (instance : ℕ → List Test) (u : Fraction) (acted : ℕ) (h : List Part) (old new : Run) (stop : Stop Frac64) → HasBegun L → CanReach P u old.timeline → IsOnWay N P L instance u acted h old → AdvanceTold fraction_of IsFrac64 P u old.timeline.line new.timeline.line (Err stop) → (account_in new) ≡ (account_in old) → StopsOnWay N P L old.timeline.line.most instance (account_in new) (stop_halt stop)
+pub advance_stops : (N : Labels) (P : Problem) (L : Plan) (instance : ℕ → List Test) (u : Fraction) (acted : ℕ) (h : List Part) (old new : Progress) (stop : Stop Frac64) → HasBegun L → CanReach P u old.timeline → IsOnWay N P L instance u acted h old → AdvanceTold fraction_of IsFrac64 P u old.timeline.line new.timeline.line (Err stop) → new.account ≡ old.account → StopsOnWay N P L old.timeline.line.most instance new.account (stop_halt stop)
 advance_stops N P L instance u acted h old new (stops.Breach b) begun c w k r = record {
   stopped = record {
     history = h;
-    reported = reported N P L instance h old.timeline.line (account_in old) (account_in new) w.played c.goes.within r;
-    stands = broken_at N P L instance h old.timeline.line (account_in old) w.played b begun (advance_breaks fraction_of P L old.timeline.line u b w.target_is k.means)
+    reported = reported N P L instance h old.timeline.line old.account new.account w.played c.goes.within r;
+    stands = broken_at N P L instance h old.timeline.line old.account w.played b begun (advance_breaks fraction_of P L old.timeline.line u b w.target_is k.means)
         (and_then (breach_of fraction_of old.timeline.line.now.acted b) (λ x. FirstFailing IsFrac64 (way_tests P u old.timeline.line) (breach x)) (λ x. FirstFailing IsFrac64 (asked P L old.timeline.line.most instance old.timeline.line.entries old.timeline.line.now) (breach x))
         (λ x f. way_fails P L instance u old.timeline.line (breach x) w.target_is f) k.first);
   };
@@ -118,35 +117,35 @@ advance_stops N P L instance u acted h old new (stops.Breach b) begun c w k r = 
 advance_stops N P L instance u acted h old new (stops.Limit l) begun c w k r = record {
   stopped = record {
     history = h;
-    reported = reported N P L instance h old.timeline.line (account_in old) (account_in new) w.played c.goes.within r;
-    stands = fails_at N P L instance h old.timeline.line (account_in old) w.played (of_limit fraction_of l) (way_fails P L instance u old.timeline.line (of_limit fraction_of l) w.target_is k.first);
+    reported = reported N P L instance h old.timeline.line old.account new.account w.played c.goes.within r;
+    stands = fails_at N P L instance h old.timeline.line old.account w.played (of_limit fraction_of l) (way_fails P L instance u old.timeline.line (of_limit fraction_of l) w.target_is k.first);
   };
   names = tt;
 }
 advance_stops N P L instance u acted h old new stops.Ended begun c w k r = tt
 advance_stops N P L instance u acted h old new stops.Memory begun c w k r = tt
 
-pub advance_halts_on : (N : Labels) (P : Problem) (u : Fraction) (old new : Run) (stop : Stop Frac64) (halt : Halt) → CanReach P u old.timeline → halt ≡ stop_halt stop → AdvanceTold fraction_of IsFrac64 P u old.timeline.line new.timeline.line (Err stop) → (account_in new) ≡ (account_in old) → HaltsOnWay N P u old new halt
+pub advance_halts_on : (N : Labels) (P : Problem) (u : Fraction) (old new : Progress) (stop : Stop Frac64) (halt : Halt) → CanReach P u old.timeline → halt ≡ stop_halt stop → AdvanceTold fraction_of IsFrac64 P u old.timeline.line new.timeline.line (Err stop) → new.account ≡ old.account → HaltsOnWay N P u old new halt
 advance_halts_on N P u old new stop halt c e k r = record {
-  stops = λ L instance acted h begun w. subst (StopsOnWay N P L old.timeline.line.most instance (account_in new)) (sym e) (advance_stops N P L instance u acted h old new stop begun c w k r);
+  stops = λ L instance acted h begun w. subst (StopsOnWay N P L old.timeline.line.most instance new.account) (sym e) (advance_stops N P L instance u acted h old new stop begun c w k r);
 }
 
 -- several steps, and then a halt
-pub along_halts : (N : Labels) (P : Problem) (u : Fraction) (start run new : Run) (halt : Halt) → Along N P u start run → HaltsOnWay N P u run new halt → HaltsOnWay N P u start new halt
+pub along_halts : (N : Labels) (P : Problem) (u : Fraction) (start run new : Progress) (halt : Halt) → Along N P u start run → HaltsOnWay N P u run new halt → HaltsOnWay N P u start new halt
 along_halts N P u start run new halt a s = record {
   stops = λ L instance acted h begun w.
       let x = a.on_way L instance acted h begun w in
-      subst (λ m. StopsOnWay N P L m instance (account_in new) halt) a.most (s.stops L instance acted x.0 begun x.1);
+      subst (λ m. StopsOnWay N P L m instance new.account halt) a.most (s.stops L instance acted x.0 begun x.1);
 }
 
 -- ---- an action that is due
 
 -- the verdict stands at the history that is played, and names this line
-stopped_in : (N : Labels) (P : Problem) (L : Plan) (instance : ℕ → List Test) (n : ℕ) (h : List Part) (old new : Run) (v : Verdict Frac64) → CanGoOn P old.timeline → IsPlayed N P L instance h old.timeline.line (account_in old) → (account_in new) ≡ (account_in old) → Stands P L old.timeline.line.most instance h v → NamesLine n (called_label (next_line L old.timeline.line.now)) v → IsStoppedIn N P L old.timeline.line.most instance n (account_in new) v
+stopped_in : (N : Labels) (P : Problem) (L : Plan) (instance : ℕ → List Test) (n : ℕ) (h : List Part) (old new : Progress) (v : Verdict Frac64) → CanGoOn P old.timeline → IsPlayed N P L instance h old.timeline.line old.account → new.account ≡ old.account → Stands P L old.timeline.line.most instance h v → NamesLine n (called_label (next_line L old.timeline.line.now)) v → IsStoppedIn N P L old.timeline.line.most instance n new.account v
 stopped_in N P L instance n h old new v c p r s m = record {
   stopped = record {
     history = h;
-    reported = reported N P L instance h old.timeline.line (account_in old) (account_in new) p c.within r;
+    reported = reported N P L instance h old.timeline.line old.account new.account p c.within r;
     stands = s;
   };
   names = subst (λ (w : View). NamesLine n (called_label (next_line L w)) v) p.now m;
@@ -157,54 +156,54 @@ due_fails : (N : Labels) (P : Problem) (L : Plan) (instance : ℕ → List Test)
 due_fails N P L instance h t account call test r d f = line_fails P L t.most instance t.entries t.now (Some (ActLine t.now.time call)) test d r.present r.over r.passed f
 
 -- it calls no action
-unknown_stops : (N : Labels) (P : Problem) (n : ℕ) (name : List ℕ) (run : Run) (v : Verdict Frac64) (L : Plan) (instance : ℕ → List Test) (h : List Part) → CanGoOn P run.timeline → v ≡ Invalid (breaches.UnknownAction n name) → HasBegun L → IsReached N P L instance run.timeline.line.now.acted run.timeline.line.now.time h run.timeline.line (account_in run) → next_line L run.timeline.line.now ≡ Some (ActLine run.timeline.line.now.time (plan.UnknownAction name)) → IsStoppedIn N P L run.timeline.line.most instance n (account_in run) v
+unknown_stops : (N : Labels) (P : Problem) (n : ℕ) (name : List ℕ) (run : Progress) (v : Verdict Frac64) (L : Plan) (instance : ℕ → List Test) (h : List Part) → CanGoOn P run.timeline → v ≡ Invalid (breaches.UnknownAction n name) → HasBegun L → IsReached N P L instance run.timeline.line.now.acted run.timeline.line.now.time h run.timeline.line run.account → next_line L run.timeline.line.now ≡ Some (ActLine run.timeline.line.now.time (plan.UnknownAction name)) → IsStoppedIn N P L run.timeline.line.most instance n run.account v
 unknown_stops N P n name run v L instance h c e begun r d =
-    subst (IsStoppedIn N P L run.timeline.line.most instance n (account_in run)) (sym e)
+    subst (IsStoppedIn N P L run.timeline.line.most instance n run.account) (sym e)
     (stopped_in N P L instance n h run run (Invalid (breaches.UnknownAction n name)) c r.played refl
-    (broken_at N P L instance h run.timeline.line (account_in run) r.played (breaches.UnknownAction n name) begun (refl, record { present = r.present; due = d })
-    (due_fails N P L instance h run.timeline.line (account_in run) (plan.UnknownAction name) (breach (model.UnknownAction run.timeline.line.now.acted name)) r d (breach_fails (model.UnknownAction run.timeline.line.now.acted name) [])))
+    (broken_at N P L instance h run.timeline.line run.account r.played (breaches.UnknownAction n name) begun (refl, record { present = r.present; due = d })
+    (due_fails N P L instance h run.timeline.line run.account (plan.UnknownAction name) (breach (model.UnknownAction run.timeline.line.now.acted name)) r d (breach_fails (model.UnknownAction run.timeline.line.now.acted name) [])))
     refl)
 
-wrong_stops : (N : Labels) (P : Problem) (n : ℕ) (name : List ℕ) (run : Run) (v : Verdict Frac64) (L : Plan) (instance : ℕ → List Test) (h : List Part) → CanGoOn P run.timeline → v ≡ Invalid (breaches.WrongArguments n name) → HasBegun L → IsReached N P L instance run.timeline.line.now.acted run.timeline.line.now.time h run.timeline.line (account_in run) → next_line L run.timeline.line.now ≡ Some (ActLine run.timeline.line.now.time (plan.WrongArguments name)) → IsStoppedIn N P L run.timeline.line.most instance n (account_in run) v
+wrong_stops : (N : Labels) (P : Problem) (n : ℕ) (name : List ℕ) (run : Progress) (v : Verdict Frac64) (L : Plan) (instance : ℕ → List Test) (h : List Part) → CanGoOn P run.timeline → v ≡ Invalid (breaches.WrongArguments n name) → HasBegun L → IsReached N P L instance run.timeline.line.now.acted run.timeline.line.now.time h run.timeline.line run.account → next_line L run.timeline.line.now ≡ Some (ActLine run.timeline.line.now.time (plan.WrongArguments name)) → IsStoppedIn N P L run.timeline.line.most instance n run.account v
 wrong_stops N P n name run v L instance h c e begun r d =
-    subst (IsStoppedIn N P L run.timeline.line.most instance n (account_in run)) (sym e)
+    subst (IsStoppedIn N P L run.timeline.line.most instance n run.account) (sym e)
     (stopped_in N P L instance n h run run (Invalid (breaches.WrongArguments n name)) c r.played refl
-    (broken_at N P L instance h run.timeline.line (account_in run) r.played (breaches.WrongArguments n name) begun (refl, record { present = r.present; due = d })
-    (due_fails N P L instance h run.timeline.line (account_in run) (plan.WrongArguments name) (breach (model.WrongArguments run.timeline.line.now.acted name)) r d (breach_fails (model.WrongArguments run.timeline.line.now.acted name) [])))
+    (broken_at N P L instance h run.timeline.line run.account r.played (breaches.WrongArguments n name) begun (refl, record { present = r.present; due = d })
+    (due_fails N P L instance h run.timeline.line run.account (plan.WrongArguments name) (breach (model.WrongArguments run.timeline.line.now.acted name)) r d (breach_fails (model.WrongArguments run.timeline.line.now.acted name) [])))
     refl)
 
 -- a limit of its instance is passed
-instance_fails : (w : Pair) (N : Labels) (P : Problem) (k : Call) (action : Action) (run : Run) (L : Plan) (instance : ℕ → List Test) (h : List Part) (test : Test) → called_of w.domain w.problem k.name k.args ≡ Instance action → instance run.timeline.line.now.acted ≡ call_tests w k → IsReached N P L instance run.timeline.line.now.acted run.timeline.line.now.time h run.timeline.line (account_in run) → next_line L run.timeline.line.now ≡ Some (ActLine run.timeline.line.now.time (called_of w.domain w.problem k.name k.args)) → FirstFailing IsFrac64 (call_tests w k) test → Fails P L run.timeline.line.most instance h test
+instance_fails : (w : Pair) (N : Labels) (P : Problem) (k : Call) (action : Action) (run : Progress) (L : Plan) (instance : ℕ → List Test) (h : List Part) (test : Test) → called_of w.domain w.problem k.name k.args ≡ Instance action → instance run.timeline.line.now.acted ≡ call_tests w k → IsReached N P L instance run.timeline.line.now.acted run.timeline.line.now.time h run.timeline.line run.account → next_line L run.timeline.line.now ≡ Some (ActLine run.timeline.line.now.time (called_of w.domain w.problem k.name k.args)) → FirstFailing IsFrac64 (call_tests w k) test → Fails P L run.timeline.line.most instance h test
 instance_fails w N P k action run L instance h test i n r d f =
-    fails_at N P L instance h run.timeline.line (account_in run) r.played test
-    (due_fails N P L instance h run.timeline.line (account_in run) (Instance action) test r (d ∙ ap (λ x. Some (ActLine run.timeline.line.now.time x)) i)
+    fails_at N P L instance h run.timeline.line run.account r.played test
+    (due_fails N P L instance h run.timeline.line run.account (Instance action) test r (d ∙ ap (λ x. Some (ActLine run.timeline.line.now.time x)) i)
     (fails_left (instance run.timeline.line.now.acted) (act_tests run.timeline.line.now.acted action run.timeline.line.now.state) test (subst (λ (ts : List Test). FirstFailing IsFrac64 ts test) (sym n) f)))
 
-call_stops : (w : Pair) (N : Labels) (P : Problem) (n : ℕ) (k : Call) (fault : InstanceFault) (run : Run) (v : Verdict Frac64) (L : Plan) (instance : ℕ → List Test) (h : List Part) → CanGoOn P run.timeline → RefusesCall IsFrac64 w.domain k.name (called_of w.domain w.problem k.name k.args) fault → CallVerdict fault n k.name v → HasBegun L → instance run.timeline.line.now.acted ≡ call_tests w k → IsReached N P L instance run.timeline.line.now.acted run.timeline.line.now.time h run.timeline.line (account_in run) → next_line L run.timeline.line.now ≡ Some (ActLine run.timeline.line.now.time (called_of w.domain w.problem k.name k.args)) → IsStoppedIn N P L run.timeline.line.most instance n (account_in run) v
+call_stops : (w : Pair) (N : Labels) (P : Problem) (n : ℕ) (k : Call) (fault : InstanceFault) (run : Progress) (v : Verdict Frac64) (L : Plan) (instance : ℕ → List Test) (h : List Part) → CanGoOn P run.timeline → RefusesCall IsFrac64 w.domain k.name (called_of w.domain w.problem k.name k.args) fault → CallVerdict fault n k.name v → HasBegun L → instance run.timeline.line.now.acted ≡ call_tests w k → IsReached N P L instance run.timeline.line.now.acted run.timeline.line.now.time h run.timeline.line run.account → next_line L run.timeline.line.now ≡ Some (ActLine run.timeline.line.now.time (called_of w.domain w.problem k.name k.args)) → IsStoppedIn N P L run.timeline.line.most instance n run.account v
 call_stops w N P n k instances.UnknownAction run v L instance h c f e begun i r d =
     unknown_stops N P n k.name run v L instance h c e begun r (d ∙ ap (λ x. Some (ActLine run.timeline.line.now.time x)) f)
 call_stops w N P n k instances.WrongArguments run v L instance h c f e begun i r d =
     wrong_stops N P n k.name run v L instance h c e begun r (d ∙ ap (λ x. Some (ActLine run.timeline.line.now.time x)) f)
 call_stops w N P n k instances.TooManyNodes run v L instance h c f e begun i r d =
-    subst (IsStoppedIn N P L run.timeline.line.most instance n (account_in run)) (sym e)
+    subst (IsStoppedIn N P L run.timeline.line.most instance n run.account) (sym e)
     (stopped_in N P L instance n h run run (Other (TooMany kinds.Nodes 1000000)) c r.played refl
     (refl, refl, instance_fails w N P k f.action run L instance h (too_many_nodes 1000000) f.is i r d (call_too_large w k f)) tt)
 call_stops w N P n k (instances.Literal span) run v L instance h c f e begun i r d =
-    subst (IsStoppedIn N P L run.timeline.line.most instance n (account_in run)) (sym e)
+    subst (IsStoppedIn N P L run.timeline.line.most instance n run.account) (sym e)
     (stopped_in N P L instance n h run run (Other (Literal texts.Domain span.start span.«end»)) c r.played refl
     (instance_fails w N P k f.action run L instance h (no_number span.start span.«end») f.is i r d (call_unfit w k span f)) tt)
 call_stops w N P n k instances.Memory run v L instance h c f e begun i r d = absurd e
 
-pub call_halts_in : (w : Pair) (N : Labels) (P : Problem) (n : ℕ) (k : Call) (fault : InstanceFault) (run : Run) (halt : Halt) → CanGoOn P run.timeline → RefusesCall IsFrac64 w.domain k.name (called_of w.domain w.problem k.name k.args) fault → CallHalts fault n k.name halt → HaltsInAct w N P n k run run halt
+pub call_halts_in : (w : Pair) (N : Labels) (P : Problem) (n : ℕ) (k : Call) (fault : InstanceFault) (run : Progress) (halt : Halt) → CanGoOn P run.timeline → RefusesCall IsFrac64 w.domain k.name (called_of w.domain w.problem k.name k.args) fault → CallHalts fault n k.name halt → HaltsInAct w N P n k run run halt
 call_halts_in w N P n k fault run (Refused v) c f e = record {
   stops = λ L instance h begun i r d. call_stops w N P n k fault run v L instance h c f e begun i r d;
 }
 call_halts_in w N P n k fault run Memory c f e = record { stops = λ L instance h begun i r d. tt }
 
 -- what the action asks fails
-act_fails : (w : Pair) (N : Labels) (P : Problem) (k : Call) (action : Action) (run : Run) (L : Plan) (instance : ℕ → List Test) (h : List Part) (test : Test) → IsInstance IsFrac64 w.domain k.name (called_of w.domain w.problem k.name k.args) action → instance run.timeline.line.now.acted ≡ call_tests w k → IsReached N P L instance run.timeline.line.now.acted run.timeline.line.now.time h run.timeline.line (account_in run) → next_line L run.timeline.line.now ≡ Some (ActLine run.timeline.line.now.time (Instance action)) → FirstFailing IsFrac64 (act_tests run.timeline.line.now.acted action run.timeline.line.now.state) test → FirstFailing IsFrac64 (asked P L run.timeline.line.most instance run.timeline.line.entries run.timeline.line.now) test
+act_fails : (w : Pair) (N : Labels) (P : Problem) (k : Call) (action : Action) (run : Progress) (L : Plan) (instance : ℕ → List Test) (h : List Part) (test : Test) → IsInstance IsFrac64 w.domain k.name (called_of w.domain w.problem k.name k.args) action → instance run.timeline.line.now.acted ≡ call_tests w k → IsReached N P L instance run.timeline.line.now.acted run.timeline.line.now.time h run.timeline.line run.account → next_line L run.timeline.line.now ≡ Some (ActLine run.timeline.line.now.time (Instance action)) → FirstFailing IsFrac64 (act_tests run.timeline.line.now.acted action run.timeline.line.now.state) test → FirstFailing IsFrac64 (asked P L run.timeline.line.most instance run.timeline.line.entries run.timeline.line.now) test
 act_fails w N P k action run L instance h test i n r d f =
-    due_fails N P L instance h run.timeline.line (account_in run) (Instance action) test r d
+    due_fails N P L instance h run.timeline.line run.account (Instance action) test r d
     (fails_right (instance run.timeline.line.now.acted) (act_tests run.timeline.line.now.acted action run.timeline.line.now.state) test (subst (AllPass IsFrac64) (sym n) (call_passes w k action i)) f)
 
 act_names : (action : Action) (n : ℕ) (s : State) (b : Breach Frac64) (label : List ℕ) → label ≡ action.label → BreaksAct action n s b → BreachNames n label b
@@ -221,22 +220,22 @@ act_names action n s (breaches.Coupled x y) label e r = tt
 act_names action n s (breaches.NoFirstMoment x t) label e r = tt
 act_names action n s breaches.Goal label e r = tt
 
-act_stops : (w : Pair) (N : Labels) (P : Problem) (n : ℕ) (k : Call) (action : Action) (old new : Run) (stop : Stop Frac64) (L : Plan) (instance : ℕ → List Test) (h : List Part) → CanGoOn P old.timeline → IsInstance IsFrac64 w.domain k.name (called_of w.domain w.problem k.name k.args) action → ActTold {A = Unit {0}} fraction_of IsFrac64 P action n old.timeline.line new.timeline.line (Err stop) → (account_in new) ≡ (account_in old) → HasBegun L → instance old.timeline.line.now.acted ≡ call_tests w k → IsReached N P L instance old.timeline.line.now.acted old.timeline.line.now.time h old.timeline.line (account_in old) → next_line L old.timeline.line.now ≡ Some (ActLine old.timeline.line.now.time (Instance action)) → StopsIn N P L old.timeline.line.most instance n (account_in new) (stop_halt stop)
+act_stops : (w : Pair) (N : Labels) (P : Problem) (n : ℕ) (k : Call) (action : Action) (old new : Progress) (stop : Stop Frac64) (L : Plan) (instance : ℕ → List Test) (h : List Part) → CanGoOn P old.timeline → IsInstance IsFrac64 w.domain k.name (called_of w.domain w.problem k.name k.args) action → ActTold {A = Unit {0}} fraction_of IsFrac64 P action n old.timeline.line new.timeline.line (Err stop) → new.account ≡ old.account → HasBegun L → instance old.timeline.line.now.acted ≡ call_tests w k → IsReached N P L instance old.timeline.line.now.acted old.timeline.line.now.time h old.timeline.line old.account → next_line L old.timeline.line.now ≡ Some (ActLine old.timeline.line.now.time (Instance action)) → StopsIn N P L old.timeline.line.most instance n new.account (stop_halt stop)
 act_stops w N P n k action old new (stops.Breach b) L instance h c i t r begun m q d =
     stopped_in N P L instance n h old new (Invalid b) c q.played r
-    (broken_at N P L instance h old.timeline.line (account_in old) q.played b begun (act_breaks fraction_of P L old.timeline.line action n b q.present d t.means)
+    (broken_at N P L instance h old.timeline.line old.account q.played b begun (act_breaks fraction_of P L old.timeline.line action n b q.present d t.means)
     (and_then (breach_of fraction_of old.timeline.line.now.acted b) (λ x. FirstFailing IsFrac64 (act_tests old.timeline.line.now.acted action old.timeline.line.now.state) (breach x)) (λ x. FirstFailing IsFrac64 (asked P L old.timeline.line.most instance old.timeline.line.entries old.timeline.line.now) (breach x))
     (λ x f. act_fails w N P k action old L instance h (breach x) i m q d f) t.first))
     (act_names action n old.timeline.line.now.state b (called_label (next_line L old.timeline.line.now)) (ap called_label d) t.means)
 act_stops w N P n k action old new (stops.Limit l) L instance h c i t r begun m q d =
     stopped_in N P L instance n h old new (Beyond l) c q.played r
-    (fails_at N P L instance h old.timeline.line (account_in old) q.played (of_limit fraction_of l) (act_fails w N P k action old L instance h (of_limit fraction_of l) i m q d t.first)) tt
+    (fails_at N P L instance h old.timeline.line old.account q.played (of_limit fraction_of l) (act_fails w N P k action old L instance h (of_limit fraction_of l) i m q d t.first)) tt
 act_stops w N P n k action old new stops.Ended L instance h c i t r begun m q d = tt
 act_stops w N P n k action old new stops.Memory L instance h c i t r begun m q d = tt
 
-pub act_halts_in : (w : Pair) (N : Labels) (P : Problem) (n : ℕ) (k : Call) (action : Action) (old new : Run) (stop : Stop Frac64) (halt : Halt) → CanGoOn P old.timeline → IsInstance IsFrac64 w.domain k.name (called_of w.domain w.problem k.name k.args) action → halt ≡ stop_halt stop → ActTold {A = Unit {0}} fraction_of IsFrac64 P action n old.timeline.line new.timeline.line (Err stop) → (account_in new) ≡ (account_in old) → HaltsInAct w N P n k old new halt
+pub act_halts_in : (w : Pair) (N : Labels) (P : Problem) (n : ℕ) (k : Call) (action : Action) (old new : Progress) (stop : Stop Frac64) (halt : Halt) → CanGoOn P old.timeline → IsInstance IsFrac64 w.domain k.name (called_of w.domain w.problem k.name k.args) action → halt ≡ stop_halt stop → ActTold {A = Unit {0}} fraction_of IsFrac64 P action n old.timeline.line new.timeline.line (Err stop) → new.account ≡ old.account → HaltsInAct w N P n k old new halt
 act_halts_in w N P n k action old new stop halt c i e t r = record {
   stops = λ L instance h begun m q d.
-      subst (StopsIn N P L old.timeline.line.most instance n (account_in new)) (sym e)
+      subst (StopsIn N P L old.timeline.line.most instance n new.account) (sym e)
       (act_stops w N P n k action old new stop L instance h c i t r begun m q (d ∙ ap (λ x. Some (ActLine old.timeline.line.now.time x)) i.is));
 }

@@ -8,6 +8,7 @@ use Rattle.plus_io.proofs.Pieces.{Takes-nil, Takes-append, Takes-whole, at_most_
 use Rattle.plus_model.specs.Terms.{Problem}
 use Rattle.plus_numbering.specs.declared.numbering.Numbering.{Numbering}
 use Rattle.plus_state.specs.View.{Labels}
+use Rattle.plus_indexed.specs.Indexed.{IndexedView}
 use Rattle.plus_plan.specs.Pending.{Pending}
 use Rattle.plus_plan.specs.declared.forms.PlanForm.TheVariants.{Timed}
 use Rattle.plus_plan.specs.Pieces.{fresh, IsIdle}
@@ -16,37 +17,39 @@ use Rattle.plus_plan.proofs.Cuttings.{given_none}
 use Rattle.plus_report.specs.declared.verdicts.Verdict.TheVariants.{Other}
 use Rattle.plus_report.specs.declared.refusals.Early.TheVariants.{TooLong}
 use Rattle.plus_report.specs.declared.refusals.Text.TheVariants as texts
+use Rattle.plus_validator.specs.Account.{Progress, progress}
 use Rattle.plus_validator.specs.declared.feed.Feed.{Feed}
 use Rattle.plus_validator.specs.declared.halt.Halt.{Halt}
 use Rattle.plus_validator.specs.declared.halt.Halt.TheVariants.{Refused}
-use Rattle.plus_validator.specs.declared.run.Run.{Run}
 use Rattle.plus_validator.specs.Limits.{text_limit}
 use Rattle.plus_validator.specs.Plans.{Pair, pair_in}
 use Rattle.plus_validator.specs.Playing.{IsResting}
-use Rattle.plus_validator.specs.Feeding.{IsFresh, IsFed, IsOpen, HaltsWith, HaltsOn, Feeds, HaltsFeeding, EndsFeeding, HaltsEnding, IsPlayedOut}
-use Rattle.plus_validator.specs.Streaming.{HasCome}
+use Rattle.plus_validator.specs.Feeding.{Course, course, IsFresh, IsFed, IsOpen, HaltsWith, HaltsOn, Feeds, HaltsFeeding, EndsFeeding, HaltsEnding, IsPlayedOut}
+use Rattle.plus_validator.specs.declared.run.Run.{Run}
+use Rattle.plus_validator.specs.Streaming.{HasCome, IsPlayedFrom}
+use Rattle.plus_validator.specs.Leaving.{StopsReading, BreaksOffSoFar}
 use Rattle.plus_validator.proofs.FeedLemmas.{long_text_halts}
 use Rattle.plus_validator.proofs.Played.{played_none}
 
 -- ---- the same pair
 
 module _ (n m : Numbering) (N : Labels) (P : Problem) (same : n ≡ m) where
-  pub feeds_same : (piece : List ℕ) (old new : Feed) → Feeds (pair_in n.typed.now) N P piece old new → Feeds (pair_in m.typed.now) N P piece old new
+  pub feeds_same : (piece : List ℕ) (old new : Course) → Feeds (pair_in n.typed.now) N P piece old new → Feeds (pair_in m.typed.now) N P piece old new
   feeds_same piece old new h = subst (λ (k : Numbering). Feeds (pair_in k.typed.now) N P piece old new) same h
 
-  pub halts_same : (piece : List ℕ) (old : Feed) (new : Run) (halt : Halt) → HaltsFeeding (pair_in n.typed.now) N P piece old new halt → HaltsFeeding (pair_in m.typed.now) N P piece old new halt
+  pub halts_same : (piece : List ℕ) (old : Course) (new : Progress) (halt : Halt) → HaltsFeeding (pair_in n.typed.now) N P piece old new halt → HaltsFeeding (pair_in m.typed.now) N P piece old new halt
   halts_same piece old new halt h = subst (λ (k : Numbering). HaltsFeeding (pair_in k.typed.now) N P piece old new halt) same h
 
-  pub ends_same : (r : Result (Unit {0}) Halt) (old : Feed) (new : Run) → OnOk r (EndsFeeding (pair_in n.typed.now) N P old new) → OnOk r (EndsFeeding (pair_in m.typed.now) N P old new)
+  pub ends_same : (r : Result (Unit {0}) Halt) (old : Course) (new : Progress) → OnOk r (EndsFeeding (pair_in n.typed.now) N P old new) → OnOk r (EndsFeeding (pair_in m.typed.now) N P old new)
   ends_same r old new h = subst (λ (k : Numbering). OnOk r (EndsFeeding (pair_in k.typed.now) N P old new)) same h
 
-  pub ending_same : (r : Result (Unit {0}) Halt) (old : Feed) (new : Run) → IfErr r (HaltsEnding (pair_in n.typed.now) N P old new) → IfErr r (HaltsEnding (pair_in m.typed.now) N P old new)
+  pub ending_same : (r : Result (Unit {0}) Halt) (old : Course) (new : Progress) → IfErr r (HaltsEnding (pair_in n.typed.now) N P old new) → IfErr r (HaltsEnding (pair_in m.typed.now) N P old new)
   ending_same r old new h = subst (λ (k : Numbering). IfErr r (HaltsEnding (pair_in k.typed.now) N P old new)) same h
 
-  pub played_same : (bytes : List ℕ) (first new : Run) (played : Result (Unit {0}) Halt) → IsPlayedOut (pair_in n.typed.now) N P bytes first new played → IsPlayedOut (pair_in m.typed.now) N P bytes first new played
+  pub played_same : (bytes : List ℕ) (first new : Progress) (played : Result (Unit {0}) Halt) → IsPlayedOut (pair_in n.typed.now) N P bytes first new played → IsPlayedOut (pair_in m.typed.now) N P bytes first new played
   played_same bytes first new played h = subst (λ (k : Numbering). IsPlayedOut (pair_in k.typed.now) N P bytes first new played) same h
 
-  pub told_same : (told : Option (List ℕ)) (first new : Run) (played : Result (Unit {0}) Halt) → IfSome told (λ bytes. IsPlayedOut (pair_in n.typed.now) N P bytes first new played) → IfSome told (λ bytes. IsPlayedOut (pair_in m.typed.now) N P bytes first new played)
+  pub told_same : (told : Option (List ℕ)) (first new : Progress) (played : Result (Unit {0}) Halt) → IfSome told (λ bytes. IsPlayedOut (pair_in n.typed.now) N P bytes first new played) → IfSome told (λ bytes. IsPlayedOut (pair_in m.typed.now) N P bytes first new played)
   told_same told first new played h = subst (λ (k : Numbering). IfSome told (λ bytes. IsPlayedOut (pair_in k.typed.now) N P bytes first new played)) same h
 
 -- ---- nothing has come
@@ -54,21 +57,21 @@ module _ (n m : Numbering) (N : Labels) (P : Problem) (same : n ≡ m) where
 fresh_idle : IsIdle (fresh Timed)
 fresh_idle = record { no_fault = refl; no_lf = refl; not_last = λ c. refl; short = omega arith }
 
-rests_so : (P : Problem) (most : ℕ) (run : Run) → IsResting P most run → IsResting P run.timeline.line.most run
-rests_so P most run r = record { can = r.can; moment = r.moment; most_is = refl }
+rests_so : (P : Problem) (most : ℕ) (t : IndexedView) → IsResting P most t → IsResting P t.line.most t
+rests_so P most t r = record { can = r.can; moment = r.moment; most_is = refl }
 
 pub fresh_open : (N : Labels) (P : Problem) (most : ℕ) (numbering : Numbering) (feed : Feed) → IsFresh N P most numbering feed → IsOpen P feed.run.timeline.line.most numbering feed
 fresh_open N P most numbering feed h = record {
   idle = subst IsIdle (sym h.reader) fresh_idle;
   going = ap (λ (x : Pending). x.closed) h.reader;
-  rests = rests_so P most feed.run h.begins.rests;
+  rests = rests_so P most feed.run.timeline h.begins.rests;
   made = h.made;
   same = h.same;
 }
 
 -- more may come from here on
 pub open_now : (P : Problem) (most : ℕ) (numbering : Numbering) (feed : Feed) → IsOpen P most numbering feed → IsOpen P feed.run.timeline.line.most feed.instances.numbering.now feed
-open_now P most numbering feed o = record { idle = o.idle; going = o.going; rests = rests_so P most feed.run o.rests; made = o.made; same = refl }
+open_now P most numbering feed o = record { idle = o.idle; going = o.going; rests = rests_so P most feed.run.timeline o.rests; made = o.made; same = refl }
 
 pub open_then : (P : Problem) (most : ℕ) (numbering : Numbering) (feed new : Feed) → IsOpen P most numbering feed → IsOpen P feed.run.timeline.line.most feed.instances.numbering.now new → IsOpen P most numbering new
 open_then P most numbering feed new o n = record {
@@ -79,18 +82,22 @@ open_then P most numbering feed new o n = record {
   same = n.same ∙ o.same;
 }
 
+-- the report that is kept does not matter
+pub open_on : (P : Problem) (most : ℕ) (numbering : Numbering) (feed : Feed) (run : Run) → IsOpen P most numbering feed → run.timeline ≡ feed.run.timeline → IsOpen P most numbering (record feed { run = run })
+open_on P most numbering feed run o e = record { idle = o.idle; going = o.going; rests = subst (IsResting P most) (sym e) o.rests; made = o.made; same = o.same }
+
 pub fresh_now : (N : Labels) (P : Problem) (most : ℕ) (numbering : Numbering) (feed : Feed) → IsFresh N P most numbering feed → IsFresh N P most feed.instances.numbering.now feed
 fresh_now N P most numbering feed h = record { reader = h.reader; begins = h.begins; made = h.made; same = refl }
 
-pub fresh_fed : (d : Pair) (N : Labels) (P : Problem) (most : ℕ) (numbering : Numbering) (feed : Feed) → IsFresh N P most numbering feed → IsFed d N P [] feed.run feed
+pub fresh_fed : (d : Pair) (N : Labels) (P : Problem) (most : ℕ) (numbering : Numbering) (feed : Feed) → IsFresh N P most numbering feed → IsFed d N P [] (progress [] feed.run) (course [] feed)
 fresh_fed d N P most numbering feed h = record {
   lines = [];
   given = subst (HasGiven Timed [] []) (sym h.reader) (given_none Timed);
   no_fault = ap (λ (x : Pending). x.fault) h.reader;
-  played = played_none d N P feed.run (rests_so P most feed.run h.begins.rests);
+  played = played_none d N P (progress [] feed.run) (rests_so P most feed.run.timeline h.begins.rests);
 }
 
-pub fresh_come : (d : Pair) (N : Labels) (P : Problem) (most : ℕ) (numbering : Numbering) (bytes rest : Option (List ℕ)) (feed : Feed) → IsFresh N P most numbering feed → rest ≡ bytes → HasCome d N P bytes rest 0 feed.run feed
+pub fresh_come : (d : Pair) (N : Labels) (P : Problem) (most : ℕ) (numbering : Numbering) (bytes rest : Option (List ℕ)) (feed : Feed) → IsFresh N P most numbering feed → rest ≡ bytes → HasCome d N P bytes rest 0 (progress [] feed.run) (course [] feed)
 fresh_come d N P most numbering bytes rest feed h e = record {
   text = [];
   front = subst (λ r. Takes bytes r []) (sym e) (Takes-nil bytes);
@@ -100,7 +107,7 @@ fresh_come d N P most numbering bytes rest feed h e = record {
 
 -- ---- more comes
 
-module _ (d : Pair) (N : Labels) (P : Problem) (bytes rest left : Option (List ℕ)) (total count : ℕ) (first : Run) (feed : Feed) (piece : List ℕ) (come : HasCome d N P bytes rest total first feed)
+module _ (d : Pair) (N : Labels) (P : Problem) (bytes rest left : Option (List ℕ)) (total count : ℕ) (first : Progress) (feed : Course) (piece : List ℕ) (come : HasCome d N P bytes rest total first feed)
     (next : Takes rest left (take count piece)) (fits : count ≤ length piece) where
   pub most_read : total + count ≤ text_limit + 1 → TakesAtMost (text_limit + 1) bytes left
   most_read m = at_most_one_over bytes rest left come.text piece count text_limit come.front next fits (subst (λ n. n + count ≤ text_limit + 1) (sym come.size) m)
@@ -128,11 +135,11 @@ module _ (d : Pair) (N : Labels) (P : Problem) (bytes rest left : Option (List �
     taken : Takes bytes left (come.text ++ take count piece)
     taken = Takes-append bytes rest left come.text (take count piece) come.front next
 
-    fed_more : (new : Feed) → Feeds d N P part feed new → IsFed d N P (come.text ++ part) first new
+    fed_more : (new : Course) → Feeds d N P part feed new → IsFed d N P (come.text ++ part) first new
     fed_more new f = f.fed come.text first come.fed text_within
 
     -- the run halts in it
-    pub halts_more : (new : Run) (halt : Halt) → feed.reader.closed ≡ false → HaltsFeeding d N P part feed new halt → IfSome bytes (λ text. IsPlayedOut d N P text first new (Err halt))
+    pub halts_more : (new : Progress) (halt : Halt) → feed.reader.closed ≡ false → HaltsFeeding d N P part feed new halt → IfSome bytes (λ text. IsPlayedOut d N P text first new (Err halt))
     halts_more new halt o h = at left taken
       where
         on : HaltsOn d N P (come.text ++ part) feed.reader.closed first new halt
@@ -147,7 +154,7 @@ module _ (d : Pair) (N : Labels) (P : Problem) (bytes rest left : Option (List �
         at (Some behind) e = subst (λ b. IfSome b (λ text. HaltsWith d N P text first new halt)) (sym e) (all ((come.text ++ take count piece) ++ behind) behind refl)
 
     -- the text is too long
-    pub halts_long : (new : Feed) → Feeds d N P part feed new → new.reader.closed ≡ false → IsIdle new.reader → within < count → total + within ≡ text_limit → IfSome bytes (λ text. IsPlayedOut d N P text first new.run (Err (Refused (Other (TooLong texts.Plan)))))
+    pub halts_long : (new : Course) → Feeds d N P part feed new → new.reader.closed ≡ false → IsIdle new.reader → within < count → total + within ≡ text_limit → IfSome bytes (λ text. IsPlayedOut d N P text first new.run (Err (Refused (Other (TooLong texts.Plan)))))
     halts_long new f o i more full = at left taken
       where
         all : (behind : List ℕ) → HaltsWith d N P ((come.text ++ take count piece) ++ behind) first new.run (Refused (Other (TooLong texts.Plan)))
@@ -161,7 +168,7 @@ module _ (d : Pair) (N : Labels) (P : Problem) (bytes rest left : Option (List �
         at (Some behind) e = subst (λ b. IfSome b (λ text. HaltsWith d N P text first new.run (Refused (Other (TooLong texts.Plan))))) (sym e) (all behind)
 
     -- all of the piece is played
-    pub has_more : (new : Feed) → Feeds d N P part feed new → within ≡ count → HasCome d N P bytes left (total + count) first new
+    pub has_more : (new : Course) → Feeds d N P part feed new → within ≡ count → HasCome d N P bytes left (total + count) first new
     has_more new f e = record {
       text = come.text ++ part;
       front = subst (λ z. Takes bytes left (come.text ++ z)) (ap (λ n. take n piece) (sym e) ∙ sym part_is) taken;
@@ -171,11 +178,11 @@ module _ (d : Pair) (N : Labels) (P : Problem) (bytes rest left : Option (List �
 
 -- ---- all has come
 
-played_out : (d : Pair) (N : Labels) (P : Problem) (text : List ℕ) (first : Run) (feed : Feed) (new : Run) (played : Result (Unit {0}) Halt) → IsFed d N P text first feed → length text ≤ text_limit → OnOk played (EndsFeeding d N P feed new) → IfErr played (HaltsEnding d N P feed new) → IsPlayedOut d N P text first new played
+played_out : (d : Pair) (N : Labels) (P : Problem) (text : List ℕ) (first : Progress) (feed : Course) (new : Progress) (played : Result (Unit {0}) Halt) → IsFed d N P text first feed → length text ≤ text_limit → OnOk played (EndsFeeding d N P feed new) → IfErr played (HaltsEnding d N P feed new) → IsPlayedOut d N P text first new played
 played_out d N P text first feed new (Ok u) h w e s = e.ends text first h w
 played_out d N P text first feed new (Err halt) h w e s = s.halts text first h w
 
-pub ends_read : (d : Pair) (N : Labels) (P : Problem) (bytes rest : Option (List ℕ)) (total : ℕ) (first : Run) (feed : Feed) (new : Run) (played : Result (Unit {0}) Halt) → HasCome d N P bytes rest total first feed → IsAtEnd rest → total ≤ text_limit → OnOk played (EndsFeeding d N P feed new) → IfErr played (HaltsEnding d N P feed new) → IfSome bytes (λ text. IsPlayedOut d N P text first new played)
+pub ends_read : (d : Pair) (N : Labels) (P : Problem) (bytes rest : Option (List ℕ)) (total : ℕ) (first : Progress) (feed : Course) (new : Progress) (played : Result (Unit {0}) Halt) → HasCome d N P bytes rest total first feed → IsAtEnd rest → total ≤ text_limit → OnOk played (EndsFeeding d N P feed new) → IfErr played (HaltsEnding d N P feed new) → IfSome bytes (λ text. IsPlayedOut d N P text first new played)
 ends_read d N P bytes rest total first feed new played come end room e s = at bytes (Takes-whole bytes rest come.text come.front end)
   where
     out : IsPlayedOut d N P come.text first new played
@@ -187,11 +194,11 @@ ends_read d N P bytes rest total first feed new played come end room e s = at by
 
 -- ---- the text stands in memory
 
-module _ (d : Pair) (N : Labels) (P : Problem) (bytes : List ℕ) (first : Feed) (fed : IsFed d N P [] first.run first) (within : ℕ) (w : within ≤ length bytes) (few : within ≤ text_limit) where
+module _ (d : Pair) (N : Labels) (P : Problem) (bytes : List ℕ) (first : Course) (fed : IsFed d N P [] first.run first) (within : ℕ) (w : within ≤ length bytes) (few : within ≤ text_limit) where
   part_within : length (take within bytes) ≤ text_limit
   part_within = let e = length-take-le within bytes w in omega arith
 
-  pub bytes_halt : (new : Run) (halt : Halt) → first.reader.closed ≡ false → HaltsFeeding d N P (take within bytes) first new halt → HaltsWith d N P bytes first.run new halt
+  pub bytes_halt : (new : Progress) (halt : Halt) → first.reader.closed ≡ false → HaltsFeeding d N P (take within bytes) first new halt → HaltsWith d N P bytes first.run new halt
   bytes_halt new halt o h =
       (h.halts [] first.run fed part_within).halts bytes (record {
         behind = drop within bytes;
@@ -200,7 +207,7 @@ module _ (d : Pair) (N : Labels) (P : Problem) (bytes : List ℕ) (first : Feed)
         all = λ c. absurd (let q : true ≡ false = sym c ∙ o in cc q);
       })
 
-  module _ (next : Feed) (f : Feeds d N P (take within bytes) first next) where
+  module _ (next : Course) (f : Feeds d N P (take within bytes) first next) where
     next_fed : IsFed d N P (take within bytes) first.run next
     next_fed = f.fed [] first.run fed part_within
 
@@ -209,6 +216,18 @@ module _ (d : Pair) (N : Labels) (P : Problem) (bytes : List ℕ) (first : Feed)
         let some : 0 < length (drop within bytes) = omega (arith, length-drop within bytes) in
         long_text_halts d N P (take within bytes) first.run next next_fed part_within (drop within bytes) bytes o i (length-take-le within bytes w ∙ full) some (sym (take-append-drop within bytes))
 
-    pub bytes_end : (new : Run) (played : Result (Unit {0}) Halt) → take within bytes ≡ bytes → OnOk played (EndsFeeding d N P next new) → IfErr played (HaltsEnding d N P next new) → IsPlayedOut d N P bytes first.run new played
+    pub bytes_end : (new : Progress) (played : Result (Unit {0}) Halt) → take within bytes ≡ bytes → OnOk played (EndsFeeding d N P next new) → IfErr played (HaltsEnding d N P next new) → IsPlayedOut d N P bytes first.run new played
     bytes_end new played all e s =
         subst (λ t. IsPlayedOut d N P t first.run new played) all (played_out d N P (take within bytes) first.run next new played next_fed part_within e s)
+
+-- ---- what became of a file, for the same pair
+
+module _ (n m : Numbering) (N : Labels) (P : Problem) (same : n ≡ m) (most : ℕ) (bytes : Option (List ℕ)) (old new : Option (List ℕ)) where
+  pub from_same : (first : Progress) (run : Run) (played : Result (Unit {0}) Halt) → IsPlayedFrom n.typed.now.domain n.typed.now.problem N P most bytes first run old new played → IsPlayedFrom m.typed.now.domain m.typed.now.problem N P most bytes first run old new played
+  from_same first run played h = subst (λ (k : Numbering). IsPlayedFrom k.typed.now.domain k.typed.now.problem N P most bytes first run old new played) same h
+
+  pub reading_same : (picked rest : Option (List ℕ)) → StopsReading n.typed.now.domain n.typed.now.problem most bytes picked rest old new → StopsReading m.typed.now.domain m.typed.now.problem most bytes picked rest old new
+  reading_same picked rest h = subst (λ (k : Numbering). StopsReading k.typed.now.domain k.typed.now.problem most bytes picked rest old new) same h
+
+  pub broken_same : IfSome bytes (λ text. BreaksOffSoFar n.typed.now.domain n.typed.now.problem most text old new) → IfSome bytes (λ text. BreaksOffSoFar m.typed.now.domain m.typed.now.problem most text old new)
+  broken_same h = subst (λ (k : Numbering). IfSome bytes (λ text. BreaksOffSoFar k.typed.now.domain k.typed.now.problem most text old new)) same h

@@ -33,10 +33,9 @@ use Rattle.plus_report.specs.declared.refusals.Early.{Early}
 use Rattle.plus_report.specs.declared.refusals.Early.TheVariants as early
 use Rattle.plus_report.specs.declared.refusals.Early.TheVariants.{BadLine, LineTooLong}
 use Rattle.plus_report.specs.declared.refusals.Text.TheVariants as texts
-use Rattle.plus_validator.specs.Account.{Account, account_in}
+use Rattle.plus_validator.specs.Account.{Account, Progress}
 use Rattle.plus_validator.specs.declared.halt.Halt.{Halt}
 use Rattle.plus_validator.specs.declared.halt.Halt.TheVariants.{Refused, Memory}
-use Rattle.plus_validator.specs.declared.run.Run.{Run}
 use Rattle.plus_validator.specs.Halts.{line_halt}
 use Rattle.plus_validator.specs.Plans.{Pair, line_meant, lines_meant, plan_of, reading_of}
 use Rattle.plus_validator.specs.Standing.{CanGoOn}
@@ -244,19 +243,19 @@ are_worked d P ls more closed most g h v a c w p s (inr n) = record {
 -- ---- what the run leaves
 
 -- the report is that of the lines read, which are worked
-waiting_report : (d : Pair) (N : Labels) (P : Problem) (ls : List Line) (most : ℕ) (h : List Part) (run : Run) → CanGoOn P run.timeline → run.timeline.line.most ≡ most → ReadiedFor d N P ls h run → IsReported N P (plan_of d ls false) most (instances_of d ls) h (account_in run)
+pub waiting_report : (d : Pair) (N : Labels) (P : Problem) (ls : List Line) (most : ℕ) (h : List Part) (run : Progress) → CanGoOn P run.timeline → run.timeline.line.most ≡ most → ReadiedFor d N P ls h run → IsReported N P (plan_of d ls false) most (instances_of d ls) h run.account
 waiting_report d N P ls most h run c m r =
-    subst (λ k. IsReported N P (plan_of d ls false) k (instances_of d ls) h (account_in run)) m
-    (reported N P (plan_of d ls false) (instances_of d ls) h run.timeline.line (account_in run) (account_in run) r.played c.within refl)
+    subst (λ k. IsReported N P (plan_of d ls false) k (instances_of d ls) h run.account) m
+    (reported N P (plan_of d ls false) (instances_of d ls) h run.timeline.line run.account run.account r.played c.within refl)
 
-waiting_for : (d : Pair) (N : Labels) (P : Problem) (ls : List Line) (most : ℕ) (h : List Part) (run : Run) → run.timeline.line.most ≡ most → ReadiedFor d N P ls h run → IsWaiting P (plan_of d ls false) most (instances_of d ls) h
+pub waiting_for : (d : Pair) (N : Labels) (P : Problem) (ls : List Line) (most : ℕ) (h : List Part) (run : Progress) → run.timeline.line.most ≡ most → ReadiedFor d N P ls h run → IsWaiting P (plan_of d ls false) most (instances_of d ls) h
 waiting_for d N P ls most h run m r =
     subst (λ k. IsWaiting P (plan_of d ls false) k (instances_of d ls) h) m (waits N P (plan_of d ls false) (instances_of d ls) h run r)
 
 -- the lines of these whole lines begin with those that are played
-module _ (d : Pair) (N : Labels) (P : Problem) (start run : Run) (lines : List Line) (r : HasPlayed d N P lines start run) (whole : List ℕ) (behind : List (Result Line PlanFault)) (more : Bool) (piece : List ℕ) where
+module _ (d : Pair) (N : Labels) (P : Problem) (start run : Progress) (lines : List Line) (r : HasPlayed d N P lines start run) (whole : List ℕ) (behind : List (Result Line PlanFault)) (more : Bool) (piece : List ℕ) where
   -- the verdict on a next line that is none
-  none_next : (fault : PlanFault) (v : Verdict Frac64) (h : List Part) → plan_lines Timed whole ≡ map Ok lines ++ Err fault ∷ behind → NamesFault fault v → Refutes d P (lines ++ []) v → ReadiedFor d N P [] h start → IsStoppedInText d N P start.timeline.line.most more whole piece (account_in run) v
+  none_next : (fault : PlanFault) (v : Verdict Frac64) (h : List Part) → plan_lines Timed whole ≡ map Ok lines ++ Err fault ∷ behind → NamesFault fault v → Refutes d P (lines ++ []) v → ReadiedFor d N P [] h start → IsStoppedInText d N P start.timeline.line.most more whole piece run.account v
   none_next fault v h e n f ready =
       let a = r.ready h ready in
       let w = waiting_report d N P lines start.timeline.line.most a.0 run r.rests.can r.rests.most_is a.1 in
@@ -281,12 +280,12 @@ module _ (d : Pair) (N : Labels) (P : Problem) (start run : Run) (lines : List L
         written = w.written;
       }
 
-  pub bad_stops : (fault : PlanFault) (h : List Part) → plan_lines Timed whole ≡ map Ok lines ++ Err fault ∷ behind → ReadiedFor d N P [] h start → StopsInText d N P start.timeline.line.most more whole piece (account_in run) (line_halt fault)
+  pub bad_stops : (fault : PlanFault) (h : List Part) → plan_lines Timed whole ≡ map Ok lines ++ Err fault ∷ behind → ReadiedFor d N P [] h start → StopsInText d N P start.timeline.line.most more whole piece run.account (line_halt fault)
   bad_stops (faults.NotLine n begin last) h e ready = none_next (faults.NotLine n begin last) (Other (BadLine n begin last)) h e refl tt ready
   bad_stops (faults.LineTooLong n) h e ready = none_next (faults.LineTooLong n) (Other (LineTooLong n)) h e refl tt ready
   bad_stops faults.Memory h e ready = tt
 
-  line_stops : (new : Run) (line : Line) (halt : Halt) (g : List Part) → IsReported N P (plan_of d lines false) start.timeline.line.most (instances_of d lines) g (account_in run) → IsWaiting P (plan_of d lines false) start.timeline.line.most (instances_of d lines) g → plan_lines Timed whole ≡ map Ok lines ++ Ok line ∷ behind → StopsInLine d N P lines start.timeline.line.most line (account_in new) halt → StopsInText d N P start.timeline.line.most more whole piece (account_in new) halt
+  line_stops : (new : Progress) (line : Line) (halt : Halt) (g : List Part) → IsReported N P (plan_of d lines false) start.timeline.line.most (instances_of d lines) g run.account → IsWaiting P (plan_of d lines false) start.timeline.line.most (instances_of d lines) g → plan_lines Timed whole ≡ map Ok lines ++ Ok line ∷ behind → StopsInLine d N P lines start.timeline.line.most line new.account halt → StopsInText d N P start.timeline.line.most more whole piece new.account halt
   line_stops new line Memory g ready w e s = tt
   line_stops new line (Refused v) g ready w e (inl b) =
       let longest = waiting_longest d P lines start.timeline.line.most (instances_of d lines) b.history b.reported.prefix b.waits in
@@ -339,23 +338,23 @@ module _ (d : Pair) (N : Labels) (P : Problem) (start run : Run) (lines : List L
       }
 
   -- the next line halts the run
-  pub next_stops : (new : Run) (line : Line) (halt : Halt) (h : List Part) → plan_lines Timed whole ≡ map Ok lines ++ Ok line ∷ behind → HaltsInLine d N P line run new halt → ReadiedFor d N P [] h start → StopsInText d N P start.timeline.line.most more whole piece (account_in new) halt
+  pub next_stops : (new : Progress) (line : Line) (halt : Halt) (h : List Part) → plan_lines Timed whole ≡ map Ok lines ++ Ok line ∷ behind → HaltsInLine d N P line run new halt → ReadiedFor d N P [] h start → StopsInText d N P start.timeline.line.most more whole piece new.account halt
   next_stops new line halt h e s ready =
       let a = r.ready h ready in
       line_stops new line halt a.0 (waiting_report d N P lines start.timeline.line.most a.0 run r.rests.can r.rests.most_is a.1)
       (waiting_for d N P lines start.timeline.line.most a.0 run r.rests.most_is a.1) e
-      (subst (λ m. StopsInLine d N P lines m line (account_in new) halt) r.rests.most_is (s.stops lines a.0 a.1))
+      (subst (λ m. StopsInLine d N P lines m line new.account halt) r.rests.most_is (s.stops lines a.0 a.1))
 
 -- ---- all lines are worked
 
-module _ (d : Pair) (N : Labels) (P : Problem) (text : List ℕ) (old mid : Run) (lines : List Line) (r : HasPlayed d N P lines old mid) (said : plan_lines Timed text ≡ map Ok lines) where
-  end_worked : (g h : List Part) (v : Verdict Frac64) → IsReported N P (plan_of d lines false) old.timeline.line.most (instances_of d lines) g (account_in mid) → IsWaiting P (plan_of d lines false) old.timeline.line.most (instances_of d lines) g → Prefix P (plan_of d lines true) h → Stands P (plan_of d lines true) old.timeline.line.most (instances_of d lines) h v → AreWorked d P old.timeline.line.most lines h
+module _ (d : Pair) (N : Labels) (P : Problem) (text : List ℕ) (old mid : Progress) (lines : List Line) (r : HasPlayed d N P lines old mid) (said : plan_lines Timed text ≡ map Ok lines) where
+  end_worked : (g h : List Part) (v : Verdict Frac64) → IsReported N P (plan_of d lines false) old.timeline.line.most (instances_of d lines) g mid.account → IsWaiting P (plan_of d lines false) old.timeline.line.most (instances_of d lines) g → Prefix P (plan_of d lines true) h → Stands P (plan_of d lines true) old.timeline.line.most (instances_of d lines) h v → AreWorked d P old.timeline.line.most lines h
   end_worked g h v a w p s =
       are_worked d P lines [] true old.timeline.line.most g h v a.prefix a.clear w
       (subst (λ (ls : List Line). Prefix P (plan_of d ls true) h) (sym (append-nil lines)) p)
       (subst (λ (ls : List Line). Stands P (plan_of d ls true) old.timeline.line.most (instances_of d ls) h v) (sym (append-nil lines)) s) (inl (inr refl))
 
-  end_stops : (account : Account) (halt : Halt) (g : List Part) → IsReported N P (plan_of d lines false) old.timeline.line.most (instances_of d lines) g (account_in mid) → IsWaiting P (plan_of d lines false) old.timeline.line.most (instances_of d lines) g → StopsOnWay N P (plan_of d lines true) old.timeline.line.most (instances_of d lines) account halt → StopsInText d N P old.timeline.line.most false text [] account halt
+  end_stops : (account : Account) (halt : Halt) (g : List Part) → IsReported N P (plan_of d lines false) old.timeline.line.most (instances_of d lines) g mid.account → IsWaiting P (plan_of d lines false) old.timeline.line.most (instances_of d lines) g → StopsOnWay N P (plan_of d lines true) old.timeline.line.most (instances_of d lines) account halt → StopsInText d N P old.timeline.line.most false text [] account halt
   end_stops account Memory g ready w s = tt
   end_stops account (Refused v) g ready w s = record {
     refusal = record {
@@ -377,15 +376,15 @@ module _ (d : Pair) (N : Labels) (P : Problem) (text : List ℕ) (old mid : Run)
   }
 
   -- the text is at its end
-  pub halts_after_all : (new : Run) (halt : Halt) (h : List Part) → HaltsAtEnd N P mid new halt → ReadiedFor d N P [] h old → StopsInText d N P old.timeline.line.most false text [] (account_in new) halt
+  pub halts_after_all : (new : Progress) (halt : Halt) (h : List Part) → HaltsAtEnd N P mid new halt → ReadiedFor d N P [] h old → StopsInText d N P old.timeline.line.most false text [] new.account halt
   halts_after_all new halt h s ready =
       let a = r.ready h ready in
-      end_stops (account_in new) halt a.0 (waiting_report d N P lines old.timeline.line.most a.0 mid r.rests.can r.rests.most_is a.1)
+      end_stops new.account halt a.0 (waiting_report d N P lines old.timeline.line.most a.0 mid r.rests.can r.rests.most_is a.1)
       (waiting_for d N P lines old.timeline.line.most a.0 mid r.rests.most_is a.1)
-      (subst (λ m. StopsOnWay N P (plan_of d lines true) m (instances_of d lines) (account_in new) halt) r.rests.most_is (s.stops (plan_of d lines false) (instances_of d lines) a.0 a.1))
+      (subst (λ m. StopsOnWay N P (plan_of d lines true) m (instances_of d lines) new.account halt) r.rests.most_is (s.stops (plan_of d lines false) (instances_of d lines) a.0 a.1))
 
   -- the text goes on behind a piece of a line
-  pub cut_stops : (piece : List ℕ) (v : Verdict Frac64) (h : List Part) → v ≡ Other (cut_verdict (length lines + 1) (length piece)) → ReadiedFor d N P [] h old → IsStoppedInText d N P old.timeline.line.most true text piece (account_in mid) v
+  pub cut_stops : (piece : List ℕ) (v : Verdict Frac64) (h : List Part) → v ≡ Other (cut_verdict (length lines + 1) (length piece)) → ReadiedFor d N P [] h old → IsStoppedInText d N P old.timeline.line.most true text piece mid.account v
   cut_stops piece v h e ready =
       let a = r.ready h ready in
       let w = waiting_report d N P lines old.timeline.line.most a.0 mid r.rests.can r.rests.most_is a.1 in

@@ -1,15 +1,29 @@
 -- What the check of a plan writes, by its outcome.
-use Rattle.std.proofs.Common.{◌≡◌, ℕ, List, refl, subst}
-use Rattle.std.specs.Prelude.{◌≢◌, Option, Some, None, IfSome}
+use Rattle.std.proofs.Common.{◌≡◌, ℕ, ◌≤◌, List, ◌++◌, refl, sym, subst, ◌∙◌, arith}
+use Rattle.std.specs.Prelude.{◌≢◌, Option, Some, None, IfSome, IfErr, Result}
 use Rattle.plus_io.specs.Faults.{Rose}
 use Rattle.plus_io.specs.Taken.{Took, TookPart}
+use Rattle.plus_model.specs.Terms as terms
+use Rattle.plus_number.specs.Frac.{IsFrac64}
+use Rattle.plus_state.specs.View.{Labels}
 use Rattle.plus_tree.specs.declared.trees.Domain.{Domain}
 use Rattle.plus_tree.specs.declared.trees.Problem.{Problem}
+use Rattle.plus_expansion.specs.Expansion.{expanded, labels_meant}
+use Rattle.plus_expansion.specs.Counting.{IsGroundable}
+use Rattle.plus_validator.specs.Account.{Progress}
+use Rattle.plus_validator.specs.declared.halt.Halt.{Halt}
 use Rattle.plus_validator.specs.declared.judgement.Judgement.{Judgement}
 use Rattle.plus_validator.specs.declared.judge.Outcome.{Outcome}
 use Rattle.plus_validator.specs.declared.judge.Outcome.TheVariants.{Valid, Invalid, Beyond, BadText, ReadFault, WriteFault, NoMemory}
-use Rattle.plus_validator.specs.Judged.{IsPlain, IsJudged}
+use Rattle.plus_validator.specs.declared.run.Run.{Run}
+use Rattle.plus_validator.specs.Halts.{HaltFits}
+use Rattle.plus_validator.specs.Playing.{Begins}
+use Rattle.plus_validator.specs.Leaving.{LeavesReport, StopsWriting, at_end}
+use Rattle.plus_validator.specs.Streaming.{IsPlayedFrom}
+use Rattle.plus_validator.specs.Judged.{IsPlain, IsJudged, SumsUp, Concludes, told, broken, no_memory}
 use Rattle.plus_validator.specs.Validates.{Accepts, Refuses, BreaksOff, IsWhole, RefusesPair, RefusesPairInPart, IsRefusal, IsRefusedIn, EndsUngrounded}
+use Rattle.plus_validator.proofs.Judging.{judged_told, sums_plain}
+use Rattle.plus_validator.proofs.Leaving.{took_both, took_part_behind}
 
 -- a fact for the bytes under a name
 some_fact : {A : Type 0} (o : Option A) (P Q : A → Type 0) → ((x : A) → P x → Q x) → IfSome o P → IfSome o Q
@@ -41,37 +55,37 @@ ungrounded_memory d p before now old new r e h = subst (EndsUngrounded d p befor
 
 -- ---- the plan is judged
 
-module _ (d : Domain) (p : Problem) (most : ℕ) (bytes : List ℕ) (j : Judgement) (judged : IsJudged d p most bytes j) where
-  accepts_read : (old new : Option (List ℕ)) → Took old new j.bytes.items → j.outcome ≡ Valid → Accepts d p most bytes old new
-  accepts_read old new t h = record { bytes = j.bytes.items; took = t; accepted = judged.valid h }
+module _ (d : Domain) (p : Problem) (most : ℕ) (bytes written : List ℕ) (j : Judgement) (judged : IsJudged d p most bytes written j) where
+  accepts_read : (old new : Option (List ℕ)) → Took old new written → j.outcome ≡ Valid → Accepts d p most bytes old new
+  accepts_read old new t h = record { bytes = written; took = t; accepted = judged.valid h }
 
   refusal_not_valid : (o : Outcome) → IsRefusal o → o ≢ Valid
   refusal_not_valid o h e = subst IsRefusal e h
 
-  refuses_read : (old new : Option (List ℕ)) → Took old new j.bytes.items → IsRefusal j.outcome → Refuses d p most bytes j.outcome old new
-  refuses_read old new t h = record { bytes = j.bytes.items; took = t; refused = judged.refused (refusal_not_valid j.outcome h) }
+  refuses_read : (old new : Option (List ℕ)) → Took old new written → IsRefusal j.outcome → Refuses d p most bytes j.outcome old new
+  refuses_read old new t h = record { bytes = written; took = t; refused = judged.refused (refusal_not_valid j.outcome h) }
 
-  whole_by : (o : Outcome) → j.outcome ≡ o → IsPlain o → IsWhole d p most bytes o j.bytes.items
+  whole_by : (o : Outcome) → j.outcome ≡ o → IsPlain o → IsWhole d p most bytes o written
   whole_by Valid e h = judged.valid e
-  whole_by Invalid e h = subst (λ (o : Outcome). IsRefusedIn d p most bytes o j.bytes.items) e (judged.refused (λ k. (let f : Invalid ≡ Valid = subst (λ (o : Outcome). o ≡ Valid) e k in cc f)))
-  whole_by Beyond e h = subst (λ (o : Outcome). IsRefusedIn d p most bytes o j.bytes.items) e (judged.refused (λ k. (let f : Beyond ≡ Valid = subst (λ (o : Outcome). o ≡ Valid) e k in cc f)))
-  whole_by BadText e h = subst (λ (o : Outcome). IsRefusedIn d p most bytes o j.bytes.items) e (judged.refused (λ k. (let f : BadText ≡ Valid = subst (λ (o : Outcome). o ≡ Valid) e k in cc f)))
+  whole_by Invalid e h = subst (λ (o : Outcome). IsRefusedIn d p most bytes o written) e (judged.refused (λ k. (let f : Invalid ≡ Valid = subst (λ (o : Outcome). o ≡ Valid) e k in cc f)))
+  whole_by Beyond e h = subst (λ (o : Outcome). IsRefusedIn d p most bytes o written) e (judged.refused (λ k. (let f : Beyond ≡ Valid = subst (λ (o : Outcome). o ≡ Valid) e k in cc f)))
+  whole_by BadText e h = subst (λ (o : Outcome). IsRefusedIn d p most bytes o written) e (judged.refused (λ k. (let f : BadText ≡ Valid = subst (λ (o : Outcome). o ≡ Valid) e k in cc f)))
   whole_by ReadFault e h = absurd h
   whole_by WriteFault e h = absurd h
   whole_by NoMemory e h = absurd h
 
-  breaks_off_read : (old new : Option (List ℕ)) → TookPart old new j.bytes.items → BreaksOff d p most bytes old new
-  breaks_off_read old new t = record { outcome = j.outcome; bytes = j.bytes.items; whole = whole_by j.outcome refl judged.plain; part = t }
+  breaks_off_read : (old new : Option (List ℕ)) → TookPart old new written → BreaksOff d p most bytes old new
+  breaks_off_read old new t = record { outcome = j.outcome; bytes = written; whole = whole_by j.outcome refl judged.plain; part = t }
 
-module _ (d : Domain) (p : Problem) (most : ℕ) (told : Option (List ℕ)) (j : Judgement) (judged : IfSome told (λ bytes. IsJudged d p most bytes j)) (old new : Option (List ℕ)) where
-  pub accepts_told : Took old new j.bytes.items → j.outcome ≡ Valid → IfSome told (λ bytes. Accepts d p most bytes old new)
-  accepts_told t h = some_fact told (λ bytes. IsJudged d p most bytes j) (λ bytes. Accepts d p most bytes old new) (λ bytes r. accepts_read d p most bytes j r old new t h) judged
+module _ (d : Domain) (p : Problem) (most : ℕ) (known : Option (List ℕ)) (written : List ℕ) (j : Judgement) (judged : IfSome known (λ bytes. IsJudged d p most bytes written j)) (old new : Option (List ℕ)) where
+  pub accepts_told : Took old new written → j.outcome ≡ Valid → IfSome known (λ bytes. Accepts d p most bytes old new)
+  accepts_told t h = some_fact known (λ bytes. IsJudged d p most bytes written j) (λ bytes. Accepts d p most bytes old new) (λ bytes r. accepts_read d p most bytes written j r old new t h) judged
 
-  pub refuses_told : Took old new j.bytes.items → IsRefusal j.outcome → IfSome told (λ bytes. Refuses d p most bytes j.outcome old new)
-  refuses_told t h = some_fact told (λ bytes. IsJudged d p most bytes j) (λ bytes. Refuses d p most bytes j.outcome old new) (λ bytes r. refuses_read d p most bytes j r old new t h) judged
+  pub refuses_told : Took old new written → IsRefusal j.outcome → IfSome known (λ bytes. Refuses d p most bytes j.outcome old new)
+  refuses_told t h = some_fact known (λ bytes. IsJudged d p most bytes written j) (λ bytes. Refuses d p most bytes j.outcome old new) (λ bytes r. refuses_read d p most bytes written j r old new t h) judged
 
-  pub breaks_off_told : TookPart old new j.bytes.items → IfSome told (λ bytes. BreaksOff d p most bytes old new)
-  breaks_off_told t = some_fact told (λ bytes. IsJudged d p most bytes j) (λ bytes. BreaksOff d p most bytes old new) (λ bytes r. breaks_off_read d p most bytes j r old new t) judged
+  pub breaks_off_told : TookPart old new written → IfSome known (λ bytes. BreaksOff d p most bytes old new)
+  breaks_off_told t = some_fact known (λ bytes. IsJudged d p most bytes written j) (λ bytes. BreaksOff d p most bytes old new) (λ bytes r. breaks_off_read d p most bytes written j r old new t) judged
 
 -- a judgement's outcome is no fault
 pub judged_reads : (o : Outcome) → IsPlain o → o ≡ ReadFault → ⊥
@@ -82,3 +96,50 @@ judged_memory o p e = subst IsPlain e p
 
 pub judged_writes : (o : Outcome) → IsPlain o → o ≡ WriteFault → ⊥
 judged_writes o p e = subst IsPlain e p
+
+-- a count that rose later rose
+pub rose_since : (a b n : ℕ) → a ≤ b → Rose b n → Rose a n
+rose_since a b n l r = grind arith
+
+-- ---- the plan is played, and what is left is written
+
+module _ (d : Domain) (p : Problem) (N : Labels) (P : terms.Problem) (most : ℕ) (bytes : Option (List ℕ)) (first : Progress) (run : Run) (played : Result (Unit {0}) Halt) (old mid : Option (List ℕ))
+    (z : IsGroundable IsFrac64 d p) (e : P ≡ expanded d p) (n : N ≡ labels_meant d p) (b : Begins N P most first) (f : IsPlayedFrom d p N P most bytes first run old mid played) (fits : IfErr played (HaltFits P)) where
+  module _ (j : Judgement) (u : SumsUp N P run played j) where
+    judged_here : IfSome bytes (λ text. IsJudged d p most text (f.sent ++ j.bytes.items) j)
+    judged_here = judged_told d p N P most bytes first f.sent run z j played e n b f.out fits u
+
+    all_taken : (new : Option (List ℕ)) → Took mid new j.bytes.items → Took old new (f.sent ++ j.bytes.items)
+    all_taken new t = took_both old mid new f.sent j.bytes.items f.took t
+
+  module _ (new : Option (List ℕ)) (outcome : Outcome) (before now : ℕ) where
+    abbrev Ended : Type 0
+    Ended = Concludes N P run played before now mid new outcome
+
+    pub ends_valid : Ended → outcome ≡ Valid → IfSome bytes (λ text. Accepts d p most text old new)
+    ends_valid (told j u o t) h = accepts_told d p most bytes (f.sent ++ j.bytes.items) j (judged_here j u) old new (all_taken j u new t) (sym o ∙ h)
+    ends_valid (broken j u o r t) h = absurd (let k : WriteFault ≡ Valid = sym o ∙ h in cc k)
+    ends_valid (no_memory o same) h = absurd (let k : NoMemory ≡ Valid = sym o ∙ h in cc k)
+
+    pub ends_refused : Ended → IsRefusal outcome → IfSome bytes (λ text. Refuses d p most text outcome old new)
+    ends_refused (told j u o t) h =
+        subst (λ x. IfSome bytes (λ text. Refuses d p most text x old new)) (sym o)
+        (refuses_told d p most bytes (f.sent ++ j.bytes.items) j (judged_here j u) old new (all_taken j u new t) (subst IsRefusal o h))
+    ends_refused (broken j u o r t) h = absurd (subst IsRefusal o h)
+    ends_refused (no_memory o same) h = absurd (subst IsRefusal o h)
+
+    pub ends_reading : Ended → outcome ≡ ReadFault → ⊥
+    ends_reading (told j u o t) h = judged_reads j.outcome (sums_plain N P run played j u) (sym o ∙ h)
+    ends_reading (broken j u o r t) h = let k : WriteFault ≡ ReadFault = sym o ∙ h in cc k
+    ends_reading (no_memory o same) h = let k : NoMemory ≡ ReadFault = sym o ∙ h in cc k
+
+    pub ends_broken : Ended → outcome ≡ WriteFault → Rose before now × StopsWriting d p most bytes old new
+    ends_broken (told j u o t) h = absurd (judged_writes j.outcome (sums_plain N P run played j u) (sym o ∙ h))
+    ends_broken (broken j u o r t) h =
+        (r, at_end (breaks_off_told d p most bytes (f.sent ++ j.bytes.items) j (judged_here j u) old new (took_part_behind old mid new f.sent j.bytes.items f.took t)))
+    ends_broken (no_memory o same) h = absurd (let k : NoMemory ≡ WriteFault = sym o ∙ h in cc k)
+
+    pub ends_wanting : Ended → outcome ≡ NoMemory → LeavesReport d p most bytes old new
+    ends_wanting (told j u o t) h = absurd (judged_memory j.outcome (sums_plain N P run played j u) (sym o ∙ h))
+    ends_wanting (broken j u o r t) h = absurd (let k : WriteFault ≡ NoMemory = sym o ∙ h in cc k)
+    ends_wanting (no_memory o same) h = subst (LeavesReport d p most bytes old) (sym same) f.so_far

@@ -20,10 +20,9 @@ use Rattle.plus_plan.specs.TimeValue.{value_of}
 use Rattle.plus_report.specs.declared.verdicts.Verdict.TheVariants.{Invalid, Other}
 use Rattle.plus_report.specs.declared.refusals.Early.TheVariants.{Literal}
 use Rattle.plus_report.specs.declared.refusals.Text.TheVariants as texts
-use Rattle.plus_validator.specs.Account.{account_in}
+use Rattle.plus_validator.specs.Account.{Progress}
 use Rattle.plus_validator.specs.declared.halt.Halt.{Halt}
 use Rattle.plus_validator.specs.declared.halt.Halt.TheVariants.{Refused}
-use Rattle.plus_validator.specs.declared.run.Run.{Run}
 use Rattle.plus_validator.specs.Playing.{Readied}
 use Rattle.plus_validator.specs.Standing.{EndsBy}
 use Rattle.plus_validator.specs.Refused.{IsWaiting, after_end, no_value, goes_back}
@@ -32,12 +31,12 @@ use Rattle.plus_stretch.specs.Tests.{AllPass, Test}
 use Rattle.plus_validator.proofs.Steps.{asked_is}
 
 -- what is ready for a line waits for it
-pub waits : (N : Labels) (P : Problem) (L : Plan) (instance : ℕ → List Test) (h : List Part) (run : Run) → Readied N P L instance h run → IsWaiting P L run.timeline.line.most instance h
+pub waits : (N : Labels) (P : Problem) (L : Plan) (instance : ℕ → List Test) (h : List Part) (run : Progress) → Readied N P L instance h run → IsWaiting P L run.timeline.line.most instance h
 waits N P L instance h run r = elim r.worked [
   | inl e ↦ inl e
   | inr w ↦ inr (record {
     worked = subst (IsWorked P L) r.played.now w.worked;
-    passed = subst (AllPass IsFrac64) (asked_is N P L instance h run.timeline.line (account_in run) r.played) w.passed;
+    passed = subst (AllPass IsFrac64) (asked_is N P L instance h run.timeline.line run.account r.played) w.passed;
   })
 ]
 
@@ -46,7 +45,7 @@ none_is_one [] line e = cc
 none_is_one (x ∷ ls) line e = cc
 
 -- after some line the lines are worked
-worked_after : (N : Labels) (P : Problem) (L : Plan) (instance : ℕ → List Test) (h : List Part) (run : Run) (before : List model.Line) (line : model.Line) → Readied N P L instance h run → L.lines ≡ before ++ line ∷ [] → IsWorked P L (view_of P h)
+worked_after : (N : Labels) (P : Problem) (L : Plan) (instance : ℕ → List Test) (h : List Part) (run : Progress) (before : List model.Line) (line : model.Line) → Readied N P L instance h run → L.lines ≡ before ++ line ∷ [] → IsWorked P L (view_of P h)
 worked_after N P L instance h run before line r e = elim (waits N P L instance h run r) [
   | inl n ↦ absurd (none_is_one before line (sym n ∙ e))
   | inr w ↦ w.worked
@@ -67,10 +66,10 @@ no_end lines before time t (inr a) e =
     let k : ActLine time a.1 ≡ EndLine t = two_lasts a.0 before (ActLine time a.1) (EndLine t) (sym a.2 ∙ e) in
     cc k
 
-ends_by : (N : Labels) (P : Problem) (L : Plan) (instance : ℕ → List Test) (h : List Part) (run : Run) → run.ended ≡ false → Readied N P L instance h run → EndsBy L.lines false run.timeline.line.now.time
+ends_by : (N : Labels) (P : Problem) (L : Plan) (instance : ℕ → List Test) (h : List Part) (run : Progress) → run.ended ≡ false → Readied N P L instance h run → EndsBy L.lines false run.timeline.line.now.time
 ends_by N P L instance h run e r = subst (λ b. EndsBy L.lines b run.timeline.line.now.time) e r.last
 
-no_break_by_end : (N : Labels) (P : Problem) (L : Plan) (instance : ℕ → List Test) (h : List Part) (run : Run) (meant : model.Line) → run.ended ≡ false → Readied N P L instance h run → BreaksBy P L h meant AfterEnd → ⊥
+no_break_by_end : (N : Labels) (P : Problem) (L : Plan) (instance : ℕ → List Test) (h : List Part) (run : Progress) (meant : model.Line) → run.ended ≡ false → Readied N P L instance h run → BreaksBy P L h meant AfterEnd → ⊥
 no_break_by_end N P L instance h run meant e r k =
     let b = k.breach in
     no_end L.lines b.0 run.timeline.line.now.time b.1 (ends_by N P L instance h run e r) b.2.lines
@@ -81,7 +80,7 @@ at_zero_or_later top bottom k = le_by (Is-over (pos 0) 1 (omega arith)) (Is-over
 
 -- ---- the three faults of a time
 
-pub halts_after_end : (run : Run) (n : ℕ) (time : Time) (halt : Halt) → run.ended ≡ true → halt ≡ Refused (Invalid (breaches.AfterEnd n)) → HaltsAtMoment n time run halt
+pub halts_after_end : (run : Progress) (n : ℕ) (time : Time) (halt : Halt) → run.ended ≡ true → halt ≡ Refused (Invalid (breaches.AfterEnd n)) → HaltsAtMoment n time run halt
 halts_after_end run n time halt e k = record {
   refused = λ N P L instance h meant r t.
       let last = subst (λ b. EndsBy L.lines b run.timeline.line.now.time) e r.last in
@@ -102,13 +101,13 @@ halts_after_end run n time halt e k = record {
       refl);
 }
 
-pub halts_without_value : (run : Run) (n : ℕ) (time : Time) (halt : Halt) → run.ended ≡ false → (IsFrac64 (value_of time) → ⊥) → halt ≡ Refused (Other (Literal texts.Plan time.span.start time.span.«end»)) → HaltsAtMoment n time run halt
+pub halts_without_value : (run : Progress) (n : ℕ) (time : Time) (halt : Halt) → run.ended ≡ false → (IsFrac64 (value_of time) → ⊥) → halt ≡ Refused (Other (Literal texts.Plan time.span.start time.span.«end»)) → HaltsAtMoment n time run halt
 halts_without_value run n time halt e f k = record {
   refused = λ N P L instance h meant r t.
       subst (TimeHalts P L h n meant time) (sym k) (no_value (no_break_by_end N P L instance h run meant e r) f refl);
 }
 
-goes_back_by : (N : Labels) (P : Problem) (L : Plan) (instance : ℕ → List Test) (h : List Part) (run : Run) (meant : model.Line) (time : Time) → 0 < time.bottom → EndsBy L.lines false run.timeline.line.now.time → Readied N P L instance h run → model.time_of meant ≡ value_of time → value_of time <ℚ run.timeline.line.now.time → BreaksBy P L h meant TimeGoesBack
+goes_back_by : (N : Labels) (P : Problem) (L : Plan) (instance : ℕ → List Test) (h : List Part) (run : Progress) (meant : model.Line) (time : Time) → 0 < time.bottom → EndsBy L.lines false run.timeline.line.now.time → Readied N P L instance h run → model.time_of meant ≡ value_of time → value_of time <ℚ run.timeline.line.now.time → BreaksBy P L h meant TimeGoesBack
 goes_back_by N P L instance h run meant time k (inl n) r t l =
     absurd (not_below (value_of time) (whole (pos 0)) (subst (λ x. value_of time <ℚ x) n.1 l) (at_zero_or_later time.top time.bottom k))
 goes_back_by N P L instance h run meant time k (inr a) r t l = record {
@@ -126,7 +125,7 @@ goes_back_by N P L instance h run meant time k (inr a) r t l = record {
   );
 }
 
-pub halts_going_back : (run : Run) (n : ℕ) (time : Time) (at : Frac64) (halt : Halt) → 0 < time.bottom → run.ended ≡ false → fraction_of at ≡ value_of time → is_below (fraction_of at) run.timeline.line.now.time ≡ true → halt ≡ Refused (Invalid (breaches.TimeGoesBack n)) → HaltsAtMoment n time run halt
+pub halts_going_back : (run : Progress) (n : ℕ) (time : Time) (at : Frac64) (halt : Halt) → 0 < time.bottom → run.ended ≡ false → fraction_of at ≡ value_of time → is_below (fraction_of at) run.timeline.line.now.time ≡ true → halt ≡ Refused (Invalid (breaches.TimeGoesBack n)) → HaltsAtMoment n time run halt
 halts_going_back run n time at halt b e i l k = record {
   refused = λ N P L instance h meant r t.
       subst (TimeHalts P L h n meant time) (sym k)

@@ -1,9 +1,10 @@
 -- What is told of a history: its report, how many moments it enters, and how many events fire in it.
-use Rattle.std.specs.Prelude.{ℕ, ◌+◌, List, [], ◌∷◌, ◌++◌}
+use Rattle.std.specs.Prelude.{ℕ, ◌+◌, Bool, List, [], ◌∷◌, ◌++◌}
 use Rattle.plus_model.specs.Terms.{Problem}
 use Rattle.plus_model.specs.Plan.{Plan}
 use Rattle.plus_model.specs.History.{Part}
 use Rattle.plus_state.specs.View.{Labels}
+use Rattle.plus_indexed.specs.Indexed.{IndexedView}
 use Rattle.plus_report.specs.Report.{report_of}
 use Rattle.plus_validator.specs.Asking.{entries_of, firings_of}
 use Rattle.plus_validator.specs.declared.run.Run.{Run}
@@ -25,6 +26,17 @@ account_more account text part =
       firings = account.firings + firings_of (part ∷ []);
     }
 
--- what a run tells
-abbrev pub account_in : Run → Account
-account_in run = record { report = run.report.bytes.items; entries = run.entries; firings = run.firings }
+-- How far a plan is played: its timeline, all that is told of it, and whether its end was read.
+pub record Progress : Type 0 where
+  pub timeline : IndexedView
+  pub account : Account
+  pub ended : Bool
+
+-- the progress of a run that has handed on these first bytes of its report, and keeps the others
+abbrev pub progress : List ℕ → Run → Progress
+progress sent run =
+    record {
+      timeline = run.timeline;
+      account = record { report = sent ++ run.report.bytes.items; entries = run.entries; firings = run.firings };
+      ended = run.ended;
+    }

@@ -8,14 +8,14 @@ use Rattle.plus_state.specs.View.{Labels}
 use Rattle.plus_plan.specs.declared.forms.Line.{Line}
 use Rattle.plus_plan.specs.declared.forms.PlanForm.TheVariants.{Timed}
 use Rattle.plus_plan.specs.Given.{HasGiven}
+use Rattle.plus_plan.specs.Pending.{Pending}
 use Rattle.plus_plan.specs.Pieces.{fresh, IsIdle}
 use Rattle.plus_instances.specs.Made.{AreMade}
 use Rattle.plus_report.specs.declared.verdicts.Verdict.{Verdict}
 use Rattle.plus_validator.specs.declared.feed.Feed.{Feed}
 use Rattle.plus_validator.specs.declared.halt.Halt.{Halt}
 use Rattle.plus_validator.specs.declared.halt.Halt.TheVariants.{Refused, Memory}
-use Rattle.plus_validator.specs.declared.run.Run.{Run}
-use Rattle.plus_validator.specs.Account.{Account, account_in}
+use Rattle.plus_validator.specs.Account.{Account, Progress, progress}
 use Rattle.plus_validator.specs.Limits.{text_limit}
 use Rattle.plus_validator.specs.Plans.{Pair, HasValue}
 use Rattle.plus_validator.specs.Playing.{ReadiedFor, IsResting, Begins, PlaysAll}
@@ -23,16 +23,25 @@ use Rattle.plus_validator.specs.Refused.{WholeLines}
 use Rattle.plus_validator.specs.Stopped.{IsStoppedInText}
 use Rattle.plus_validator.specs.Validates.{IsRead}
 
+-- A plan that is played as its text comes: how far it is played, and what the reader of its lines holds.
+pub record Course : Type 0 where
+  pub run : Progress
+  pub reader : Pending
+
+-- that of a feed which has handed on these first bytes of its report
+abbrev pub course : List ℕ → Feed → Course
+course sent feed = record { run = progress sent feed.run; reader = feed.reader }
+
 -- ---- what has come
 
 -- these lines are played, since the run was so
-pub record HasPlayed (d : Pair) (N : Labels) (P : Problem) (lines : List Line) (first now : Run) : Type 0 where
-  pub rests : IsResting P first.timeline.line.most now
+pub record HasPlayed (d : Pair) (N : Labels) (P : Problem) (lines : List Line) (first now : Progress) : Type 0 where
+  pub rests : IsResting P first.timeline.line.most now.timeline
   pub times : All HasValue lines
   pub ready : (h : List Part) → ReadiedFor d N P [] h first → (h' : List Part) × ReadiedFor d N P lines h' now
 
 -- of what has come of this text these lines are played, and no line of it is refused
-pub record IsFed (d : Pair) (N : Labels) (P : Problem) (text : List ℕ) (first : Run) (feed : Feed) : Type 0 where
+pub record IsFed (d : Pair) (N : Labels) (P : Problem) (text : List ℕ) (first : Progress) (feed : Course) : Type 0 where
   pub lines : List Line
   pub given : HasGiven Timed text lines feed.reader
   pub no_fault : feed.reader.fault ≡ None
@@ -41,7 +50,7 @@ pub record IsFed (d : Pair) (N : Labels) (P : Problem) (text : List ℕ) (first 
 -- nothing has come
 pub record IsFresh (N : Labels) (P : Problem) (most : ℕ) (numbering : Numbering) (feed : Feed) : Type 0 where
   pub reader : feed.reader ≡ fresh Timed
-  pub begins : Begins N P most feed.run
+  pub begins : Begins N P most (progress [] feed.run)
   pub made : AreMade feed.instances
   pub same : feed.instances.numbering.now ≡ numbering
 
@@ -49,7 +58,7 @@ pub record IsFresh (N : Labels) (P : Problem) (most : ℕ) (numbering : Numberin
 pub record IsOpen (P : Problem) (most : ℕ) (numbering : Numbering) (feed : Feed) : Type 0 where
   pub idle : IsIdle feed.reader
   pub going : feed.reader.closed ≡ false
-  pub rests : IsResting P most feed.run
+  pub rests : IsResting P most feed.run.timeline
   pub made : AreMade feed.instances
   pub same : feed.instances.numbering.now ≡ numbering
 
@@ -77,44 +86,44 @@ StopsOn d N P most bytes account (Refused v) = IsStoppedOn d N P most bytes acco
 StopsOn d N P most bytes account Memory = Unit {0}
 
 -- the run halts in the plan text that stands in these bytes
-pub record HaltsWith (d : Pair) (N : Labels) (P : Problem) (bytes : List ℕ) (first new : Run) (halt : Halt) : Type 0 where
-  pub stops : (h : List Part) → ReadiedFor d N P [] h first → StopsOn d N P first.timeline.line.most bytes (account_in new) halt
+pub record HaltsWith (d : Pair) (N : Labels) (P : Problem) (bytes : List ℕ) (first new : Progress) (halt : Halt) : Type 0 where
+  pub stops : (h : List Part) → ReadiedFor d N P [] h first → StopsOn d N P first.timeline.line.most bytes new.account halt
 
 -- it halts in this text, whatever stands behind it
-pub record HaltsOn (d : Pair) (N : Labels) (P : Problem) (text : List ℕ) (ended : Bool) (first new : Run) (halt : Halt) : Type 0 where
+pub record HaltsOn (d : Pair) (N : Labels) (P : Problem) (text : List ℕ) (ended : Bool) (first new : Progress) (halt : Halt) : Type 0 where
   pub halts : (bytes : List ℕ) → IsReadOf bytes text ended → HaltsWith d N P bytes first new halt
 
 -- this piece of a text is played, where the text with it is within the limit
-pub record Feeds (d : Pair) (N : Labels) (P : Problem) (piece : List ℕ) (old new : Feed) : Type 0 where
+pub record Feeds (d : Pair) (N : Labels) (P : Problem) (piece : List ℕ) (old new : Course) : Type 0 where
   pub fed :
-      (text : List ℕ) (first : Run) → IsFed d N P text first old → length (text ++ piece) ≤ text_limit
+      (text : List ℕ) (first : Progress) → IsFed d N P text first old → length (text ++ piece) ≤ text_limit
       → IsFed d N P (text ++ piece) first new
 
 -- the run halts in this piece
-pub record HaltsFeeding (d : Pair) (N : Labels) (P : Problem) (piece : List ℕ) (old : Feed) (new : Run) (halt : Halt) : Type 0 where
+pub record HaltsFeeding (d : Pair) (N : Labels) (P : Problem) (piece : List ℕ) (old : Course) (new : Progress) (halt : Halt) : Type 0 where
   pub halts :
-      (text : List ℕ) (first : Run) → IsFed d N P text first old → length (text ++ piece) ≤ text_limit
+      (text : List ℕ) (first : Progress) → IsFed d N P text first old → length (text ++ piece) ≤ text_limit
       → HaltsOn d N P (text ++ piece) old.reader.closed first new halt
 
 -- ---- the end of the text
 
 -- the plan text is within the limit, it is played to its end, and the goal holds there
-pub record PlaysText (d : Pair) (N : Labels) (P : Problem) (bytes : List ℕ) (first new : Run) : Type 0 where
+pub record PlaysText (d : Pair) (N : Labels) (P : Problem) (bytes : List ℕ) (first new : Progress) : Type 0 where
   pub within : length bytes ≤ text_limit
   pub plays : PlaysAll d N P bytes first new
 
-pub record EndsFeeding (d : Pair) (N : Labels) (P : Problem) (old : Feed) (new : Run) : Type 0 where
+pub record EndsFeeding (d : Pair) (N : Labels) (P : Problem) (old : Course) (new : Progress) : Type 0 where
   pub ends :
-      (text : List ℕ) (first : Run) → IsFed d N P text first old → length text ≤ text_limit
+      (text : List ℕ) (first : Progress) → IsFed d N P text first old → length text ≤ text_limit
       → PlaysText d N P text first new
 
 -- or the run halts
-pub record HaltsEnding (d : Pair) (N : Labels) (P : Problem) (old : Feed) (new : Run) (halt : Halt) : Type 0 where
+pub record HaltsEnding (d : Pair) (N : Labels) (P : Problem) (old : Course) (new : Progress) (halt : Halt) : Type 0 where
   pub halts :
-      (text : List ℕ) (first : Run) → IsFed d N P text first old → length text ≤ text_limit
+      (text : List ℕ) (first : Progress) → IsFed d N P text first old → length text ≤ text_limit
       → HaltsWith d N P text first new halt
 
 -- the plan text that stands in these bytes is played, or the run halts in it
-abbrev pub IsPlayedOut : Pair → Labels → Problem → List ℕ → Run → Run → Result (Unit {0}) Halt → Type 0
+abbrev pub IsPlayedOut : Pair → Labels → Problem → List ℕ → Progress → Progress → Result (Unit {0}) Halt → Type 0
 IsPlayedOut d N P bytes first new (Ok u) = PlaysText d N P bytes first new
 IsPlayedOut d N P bytes first new (Err halt) = HaltsWith d N P bytes first new halt

@@ -1,5 +1,7 @@
 -- The report and the verdict of a plan text.
-use Rattle.std.specs.Prelude.{◌≡◌, ◌≢◌, ℕ, List, ◌++◌, Result, Ok, Err}
+use Rattle.std.specs.Prelude.{◌≡◌, ◌≢◌, ℕ, List, ◌++◌, Option, Result, Ok, Err}
+use Rattle.plus_io.specs.Faults.{Rose}
+use Rattle.plus_io.specs.Taken.{Took, TookPart}
 use Rattle.plus_model.specs.Terms.{Problem}
 use Rattle.plus_number.specs.declared.frac.Frac64.{Frac64}
 use Rattle.plus_number.specs.Frac.{fraction_of}
@@ -26,7 +28,7 @@ GivesVerdict (Ok u) v = v ≡ Valid
 GivesVerdict (Err (Refused w)) v = v ≡ w
 GivesVerdict (Err Memory) v = ⊥
 
--- what is said of a plan that was played so: its verdict, the report with the verdict's line, and what is counted
+-- what is said of a plan that was played so: its verdict, what is kept of the report with the verdict's line, and what is counted
 pub record SumsUp (N : Labels) (P : Problem) (run : Run) (played : Result (Unit {0}) Halt) (j : Judgement) : Type 0 where
   pub gives : GivesVerdict played j.judged.verdict
   pub outcome : j.outcome ≡ outcome_of j.judged.verdict
@@ -34,6 +36,14 @@ pub record SumsUp (N : Labels) (P : Problem) (run : Run) (played : Result (Unit 
   pub line : j.judged.line.items ≡ verdict_text fraction_of N P j.judged.verdict
   pub entries : j.judged.entries ≡ run.entries
   pub firings : j.judged.firings ≡ run.firings
+
+-- That is written, or the sink failed and took a part of it, or memory is wanting and nothing is written.
+pub data Concludes (N : Labels) (P : Problem) (run : Run) (played : Result (Unit {0}) Halt) (before now : ℕ) (old new : Option (List ℕ)) (outcome : Outcome) : Type 0 where
+  told : (j : Judgement) → SumsUp N P run played j → outcome ≡ j.outcome → Took old new j.bytes.items → Concludes N P run played before now old new outcome
+  broken :
+      (j : Judgement) → SumsUp N P run played j → outcome ≡ outcomes.WriteFault → Rose before now → TookPart old new j.bytes.items
+      → Concludes N P run played before now old new outcome
+  no_memory : outcome ≡ outcomes.NoMemory → new ≡ old → Concludes N P run played before now old new outcome
 
 -- no fault
 abbrev pub IsPlain : Outcome → Type 0
@@ -45,10 +55,10 @@ IsPlain outcomes.ReadFault = ⊥
 IsPlain outcomes.WriteFault = ⊥
 IsPlain outcomes.NoMemory = ⊥
 
--- the plan text stands in these bytes: its outcome is so, its report and its verdict's line are so, and so are the verdict and the
+-- the plan text stands in these bytes: its outcome is so, its report with the verdict's line is so, and so are the verdict and the
 -- counts
-pub record IsJudged (d : Domain) (p : tree.Problem) (most : ℕ) (bytes : List ℕ) (j : Judgement) : Type 0 where
-  pub valid : j.outcome ≡ outcomes.Valid → IsAccepted d p most bytes j.bytes.items
-  pub refused : j.outcome ≢ outcomes.Valid → IsRefusedIn d p most bytes j.outcome j.bytes.items
+pub record IsJudged (d : Domain) (p : tree.Problem) (most : ℕ) (bytes written : List ℕ) (j : Judgement) : Type 0 where
+  pub valid : j.outcome ≡ outcomes.Valid → IsAccepted d p most bytes written
+  pub refused : j.outcome ≢ outcomes.Valid → IsRefusedIn d p most bytes j.outcome written
   pub plain : IsPlain j.outcome
   pub judged : JudgesText d p most bytes j.judged

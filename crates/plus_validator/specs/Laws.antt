@@ -63,7 +63,7 @@ CheckedAsJudged =
     → JudgesText d p most bytes j → IsAnswered d p most bytes outcome written
     → (outcome ≡ outcome_of j.verdict) × (report : List ℕ) × (written ≡ report ++ j.line.items)
 
--- a history has no more moments and events than its report has bytes, so that they can be counted while it is in memory
+-- a history has no more moments and events than its report has bytes
 abbrev pub CountsFit : Type 0
 CountsFit = (N : Labels) (P : terms.Problem) (L : Plan) (h : List Part) → entries_of h + firings_of h ≤ length (report_of N P L h)
 

@@ -14,6 +14,7 @@ pub mod Stopped
 pub mod Validates
 pub mod Verdicts
 pub mod Judged
+pub mod Leaving
 pub mod Feeding
 pub mod Streaming
 pub mod Tame

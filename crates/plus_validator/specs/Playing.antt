@@ -1,6 +1,6 @@
 -- What the lines of a plan text do to a run.
-use Rattle.std.specs.Prelude.{◌≡◌, ℕ, suc, ◌≤◌, true, false, List, [], ◌∷◌, ◌++◌, map, All, Some, None, Ok}
-use Rattle.plus_fraction.specs.Fraction.{◌≤ℚ◌}
+use Rattle.std.specs.Prelude.{◌≡◌, ℕ, suc, ◌≤◌, Bool, true, false, List, [], ◌∷◌, ◌++◌, map, All, Some, None, Ok}
+use Rattle.plus_fraction.specs.Fraction.{Fraction, ◌≤ℚ◌}
 use Rattle.plus_model.specs.Terms.{Problem}
 use Rattle.plus_model.specs.Plan.{Plan, ActLine}
 use Rattle.plus_model.specs.History.{Part}
@@ -10,6 +10,7 @@ use Rattle.plus_number.specs.Frac.{fraction_of}
 use Rattle.plus_number.specs.declared.exact.Exact.{Ghosts}
 use Rattle.plus_state.specs.declared.problem.Ground.{Ground}
 use Rattle.plus_state.specs.View.{Labels, problem_of, labels_of}
+use Rattle.plus_indexed.specs.Indexed.{IndexedView}
 use Rattle.plus_tree.specs.declared.trees.Domain.{Domain}
 use Rattle.plus_tree.specs.declared.trees.Problem as tree
 use Rattle.plus_plan.specs.declared.forms.Time.{Time}
@@ -23,9 +24,8 @@ use Rattle.plus_tree.specs.declared.trees.Call.{Call}
 use Rattle.plus_validator.specs.Asking.{entries_of, call_tests, instances_of, NoneFails, IsClear}
 use Rattle.plus_validator.specs.Plans.{Pair, plan_of, HasValue}
 use Rattle.plus_expansion.specs.Calls.{called_of}
-use Rattle.plus_validator.specs.Account.{Account, account_of, account_in}
+use Rattle.plus_validator.specs.Account.{Account, Progress, account_of}
 use Rattle.plus_validator.specs.Standing.{IsPlayed, CanGoOn, IsReady, IsReached}
-use Rattle.plus_validator.specs.declared.run.Run.{Run}
 
 -- the ground form of a pair
 pub record IsGroundOf {E : Ghosts Frac64} (d : Domain) (p : tree.Problem) (g : Ground Frac64 E) : Type 0 where
@@ -33,13 +33,13 @@ pub record IsGroundOf {E : Ghosts Frac64} (d : Domain) (p : tree.Problem) (g : G
   pub labels : labels_of g ≡ labels_meant d p
 
 -- the time of a line that may be played: none stands after an end, and time does not go back
-pub record IsInTime (run : Run) (time : Time) (at : Frac64) : Type 0 where
+pub record IsInTime (ended : Bool) (now : Fraction) (time : Time) (at : Frac64) : Type 0 where
   pub is : fraction_of at ≡ value_of time
-  pub not_ended : run.ended ≡ false
-  pub ahead : run.timeline.line.now.time ≤ℚ fraction_of at
+  pub not_ended : ended ≡ false
+  pub ahead : now ≤ℚ fraction_of at
 
 -- the action that is called is done; what is asked of its instance passes
-pub record ActsOnce (d : Pair) (N : Labels) (P : Problem) (call : Call) (old new : Run) : Type 0 where
+pub record ActsOnce (d : Pair) (N : Labels) (P : Problem) (call : Call) (old new : Progress) : Type 0 where
   pub can : CanGoOn P new.timeline
   pub moment : new.timeline.line.now.running ≡ None
   pub most : new.timeline.line.most ≡ old.timeline.line.most
@@ -48,27 +48,27 @@ pub record ActsOnce (d : Pair) (N : Labels) (P : Problem) (call : Call) (old new
   pub acted_is : new.timeline.line.now.acted ≡ suc old.timeline.line.now.acted
   pub acted :
       (L : Plan) (instance : ℕ → List Test) (h : List Part) → HasBegun L → instance old.timeline.line.now.acted ≡ call_tests d call
-      → IsReached N P L instance old.timeline.line.now.acted old.timeline.line.now.time h old.timeline.line (account_in old)
+      → IsReached N P L instance old.timeline.line.now.acted old.timeline.line.now.time h old.timeline.line old.account
       → next_line L old.timeline.line.now ≡ Some (ActLine old.timeline.line.now.time (called_of d.domain d.problem call.name call.args))
-      → (h' : List Part) × IsPlayed N P L instance h' new.timeline.line (account_in new)
+      → (h' : List Part) × IsPlayed N P L instance h' new.timeline.line new.account
 
 -- the run stands ready for the next line of this plan
-abbrev pub Readied : Labels → Problem → Plan → (ℕ → List Test) → List Part → Run → Type 0
-Readied N P L instance h run = IsReady N P L instance run.ended h run.timeline.line (account_in run)
+abbrev pub Readied : Labels → Problem → Plan → (ℕ → List Test) → List Part → Progress → Type 0
+Readied N P L instance h run = IsReady N P L instance run.ended h run.timeline.line run.account
 
 -- it does so for the line behind these lines of the text
-abbrev pub ReadiedFor : Pair → Labels → Problem → List Line → List Part → Run → Type 0
+abbrev pub ReadiedFor : Pair → Labels → Problem → List Line → List Part → Progress → Type 0
 ReadiedFor d N P ls h run = Readied N P (plan_of d ls false) (instances_of d ls) h run
 
 -- the run may play on: it stands at a moment
-pub record IsResting (P : Problem) (most : ℕ) (run : Run) : Type 0 where
-  pub can : CanGoOn P run.timeline
-  pub moment : run.timeline.line.now.running ≡ None
-  pub most_is : run.timeline.line.most ≡ most
+pub record IsResting (P : Problem) (most : ℕ) (t : IndexedView) : Type 0 where
+  pub can : CanGoOn P t
+  pub moment : t.line.now.running ≡ None
+  pub most_is : t.line.most ≡ most
 
 -- a line of the text is played
-pub record PlaysLine (d : Pair) (N : Labels) (P : Problem) (line : Line) (old new : Run) : Type 0 where
-  pub rests : IsResting P old.timeline.line.most new
+pub record PlaysLine (d : Pair) (N : Labels) (P : Problem) (line : Line) (old new : Progress) : Type 0 where
+  pub rests : IsResting P old.timeline.line.most new.timeline
   pub value : HasValue line
   pub ready :
       (ls : List Line) (h : List Part) → ReadiedFor d N P ls h old
@@ -86,23 +86,23 @@ pub record Ends (N : Labels) (P : Problem) (L : Plan) (most : ℕ) (instance : �
   pub passed : NoneFails P L most instance h
   pub written : account ≡ account_of N P L h
 
-pub record Closes (N : Labels) (P : Problem) (old new : Run) : Type 0 where
+pub record Closes (N : Labels) (P : Problem) (old new : Progress) : Type 0 where
   pub ends :
       (L : Plan) (instance : ℕ → List Test) (h : List Part) → Readied N P L instance h old
-      → (h' : List Part) × Ends N P (closed L) old.timeline.line.most instance h' (account_in new)
+      → (h' : List Part) × Ends N P (closed L) old.timeline.line.most instance h' new.account
 
 -- a run is begun: it is ready for the first line of a text
-pub record Begins (N : Labels) (P : Problem) (most : ℕ) (run : Run) : Type 0 where
-  pub rests : IsResting P most run
+pub record Begins (N : Labels) (P : Problem) (most : ℕ) (run : Progress) : Type 0 where
+  pub rests : IsResting P most run.timeline
   pub ready :
       (L : Plan) (instance : ℕ → List Test) → L.lines ≡ [] → L.closed ≡ false
       → (h : List Part) × Readied N P L instance h run
 
 -- a text is played to its end, and the goal holds there
-pub record PlaysAll (d : Pair) (N : Labels) (P : Problem) (text : List ℕ) (old new : Run) : Type 0 where
+pub record PlaysAll (d : Pair) (N : Labels) (P : Problem) (text : List ℕ) (old new : Progress) : Type 0 where
   pub lines : List Line
   pub read : plan_lines Timed text ≡ map Ok lines
   pub times : All HasValue lines
   pub ends :
       (h : List Part) → ReadiedFor d N P [] h old
-      → (h' : List Part) × Ends N P (plan_of d lines true) old.timeline.line.most (instances_of d lines) h' (account_in new)
+      → (h' : List Part) × Ends N P (plan_of d lines true) old.timeline.line.most (instances_of d lines) h' new.account

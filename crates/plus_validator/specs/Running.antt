@@ -8,18 +8,17 @@ use Rattle.plus_model.specs.Trajectory.{HasBegun, target}
 use Rattle.plus_state.specs.View.{Labels}
 use Rattle.plus_stretch.specs.Tests.{Test}
 use Rattle.plus_timeline.specs.Finish.{IsPaused}
-use Rattle.plus_validator.specs.Account.{account_in}
+use Rattle.plus_validator.specs.Account.{Progress}
 use Rattle.plus_validator.specs.Standing.{IsPlayed, CanGoOn, CanReach, IsReached, steps_left}
-use Rattle.plus_validator.specs.declared.run.Run.{Run}
 
 -- the run is on its way to the time u, by a history of the plan
-pub record IsOnWay (N : Labels) (P : Problem) (L : Plan) (instance : ℕ → List Test) (u : Fraction) (acted : ℕ) (h : List Part) (run : Run) : Type 0 where
-  pub played : IsPlayed N P L instance h run.timeline.line (account_in run)
+pub record IsOnWay (N : Labels) (P : Problem) (L : Plan) (instance : ℕ → List Test) (u : Fraction) (acted : ℕ) (h : List Part) (run : Progress) : Type 0 where
+  pub played : IsPlayed N P L instance h run.timeline.line run.account
   pub target_is : target L run.timeline.line.now ≡ u
   pub acted_is : run.timeline.line.now.acted ≡ acted
 
 -- one more step, after which the run is on its way still
-pub record StepsOn (N : Labels) (P : Problem) (u : Fraction) (old new : Run) : Type 0 where
+pub record StepsOn (N : Labels) (P : Problem) (u : Fraction) (old new : Progress) : Type 0 where
   pub can : CanReach P u new.timeline
   pub less : steps_left new.timeline.line < steps_left old.timeline.line
   pub most : new.timeline.line.most ≡ old.timeline.line.most
@@ -29,7 +28,7 @@ pub record StepsOn (N : Labels) (P : Problem) (u : Fraction) (old new : Run) : T
       → (h' : List Part) × IsOnWay N P L instance u acted h' new
 
 -- the time is reached, and nothing is due there
-pub record Reaches (N : Labels) (P : Problem) (u : Fraction) (old new : Run) : Type 0 where
+pub record Reaches (N : Labels) (P : Problem) (u : Fraction) (old new : Progress) : Type 0 where
   pub can : CanGoOn P new.timeline
   pub paused : IsPaused new.timeline.line
   pub moment : new.timeline.line.now.running ≡ None
@@ -37,8 +36,8 @@ pub record Reaches (N : Labels) (P : Problem) (u : Fraction) (old new : Run) : T
   pub ended : new.ended ≡ old.ended
   pub reached :
       (L : Plan) (instance : ℕ → List Test) (acted : ℕ) (h : List Part) → HasBegun L → IsOnWay N P L instance u acted h old
-      → (h' : List Part) × IsReached N P L instance acted u h' new.timeline.line (account_in new)
+      → (h' : List Part) × IsReached N P L instance acted u h' new.timeline.line new.account
 
-abbrev pub Steps : Labels → Problem → Fraction → Run → Run → Bool → Type 0
+abbrev pub Steps : Labels → Problem → Fraction → Progress → Progress → Bool → Type 0
 Steps N P u old new true = Reaches N P u old new
 Steps N P u old new false = StepsOn N P u old new

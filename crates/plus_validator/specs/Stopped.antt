@@ -15,13 +15,12 @@ use Rattle.plus_report.specs.declared.verdicts.Verdict.{Verdict}
 use Rattle.plus_report.specs.Report.{called_label}
 use Rattle.plus_validator.specs.declared.halt.Halt.{Halt}
 use Rattle.plus_validator.specs.declared.halt.Halt.TheVariants.{Refused, Memory}
-use Rattle.plus_validator.specs.declared.run.Run.{Run}
 use Rattle.plus_stretch.specs.Tests.{Test}
 use Rattle.plus_validator.specs.Asking.{entries_of, call_tests, instances_of, IsClear}
 use Rattle.plus_validator.specs.Plans.{Pair, line_meant, plan_of, plan_in, HasTime, HasValue}
 use Rattle.plus_tree.specs.declared.trees.Call.{Call}
 use Rattle.plus_expansion.specs.Calls.{called_of}
-use Rattle.plus_validator.specs.Account.{Account, account_of, account_in}
+use Rattle.plus_validator.specs.Account.{Account, Progress, account_of}
 use Rattle.plus_validator.specs.Standing.{IsReached}
 use Rattle.plus_validator.specs.Running.{IsOnWay}
 use Rattle.plus_validator.specs.Playing.{Readied, ReadiedFor, closed}
@@ -51,16 +50,16 @@ StopsOnWay N P L most instance account (Refused v) = IsStoppedOnWay N P L most i
 StopsOnWay N P L most instance account Memory = Unit {0}
 
 -- the run halts on its way to the time u
-pub record HaltsOnWay (N : Labels) (P : Problem) (u : Fraction) (old new : Run) (halt : Halt) : Type 0 where
+pub record HaltsOnWay (N : Labels) (P : Problem) (u : Fraction) (old new : Progress) (halt : Halt) : Type 0 where
   pub stops :
       (L : Plan) (instance : ℕ → List Test) (acted : ℕ) (h : List Part) → HasBegun L → IsOnWay N P L instance u acted h old
-      → StopsOnWay N P L old.timeline.line.most instance (account_in new) halt
+      → StopsOnWay N P L old.timeline.line.most instance new.account halt
 
 -- the run halts at the end of the text
-pub record HaltsAtEnd (N : Labels) (P : Problem) (old new : Run) (halt : Halt) : Type 0 where
+pub record HaltsAtEnd (N : Labels) (P : Problem) (old new : Progress) (halt : Halt) : Type 0 where
   pub stops :
       (L : Plan) (instance : ℕ → List Test) (h : List Part) → Readied N P L instance h old
-      → StopsOnWay N P (closed L) old.timeline.line.most instance (account_in new) halt
+      → StopsOnWay N P (closed L) old.timeline.line.most instance new.account halt
 
 -- ---- in a line
 
@@ -74,19 +73,19 @@ StopsIn N P L most instance n account (Refused v) = IsStoppedIn N P L most insta
 StopsIn N P L most instance n account Memory = Unit {0}
 
 -- the run halts at the action that is due, which line n calls
-pub record HaltsInAct (d : Pair) (N : Labels) (P : Problem) (n : ℕ) (call : Call) (old new : Run) (halt : Halt) : Type 0 where
+pub record HaltsInAct (d : Pair) (N : Labels) (P : Problem) (n : ℕ) (call : Call) (old new : Progress) (halt : Halt) : Type 0 where
   pub stops :
       (L : Plan) (instance : ℕ → List Test) (h : List Part) → HasBegun L → instance old.timeline.line.now.acted ≡ call_tests d call
-      → IsReached N P L instance old.timeline.line.now.acted old.timeline.line.now.time h old.timeline.line (account_in old)
+      → IsReached N P L instance old.timeline.line.now.acted old.timeline.line.now.time h old.timeline.line old.account
       → next_line L old.timeline.line.now ≡ Some (ActLine old.timeline.line.now.time (called_of d.domain d.problem call.name call.args))
-      → StopsIn N P L old.timeline.line.most instance n (account_in new) halt
+      → StopsIn N P L old.timeline.line.most instance n new.account halt
 
 abbrev pub TimeHalts : Problem → Plan → List Part → ℕ → model.Line → Time → Halt → Type 0
 TimeHalts P L h n meant time (Refused v) = TimeFault P L h n meant time v
 TimeHalts P L h n meant time Memory = Unit {0}
 
 -- a line with this number and this time cannot be played
-pub record HaltsAtMoment (n : ℕ) (time : Time) (run : Run) (halt : Halt) : Type 0 where
+pub record HaltsAtMoment (n : ℕ) (time : Time) (run : Progress) (halt : Halt) : Type 0 where
   pub refused :
       (N : Labels) (P : Problem) (L : Plan) (instance : ℕ → List Test) (h : List Part) (meant : model.Line) → Readied N P L instance h run
       → model.time_of meant ≡ value_of time → TimeHalts P L h n meant time halt
@@ -114,10 +113,10 @@ StopsInLine d N P ls most line account (Refused v) =
 StopsInLine d N P ls most line account Memory = Unit {0}
 
 -- the run halts at a line, or on its way to it
-pub record HaltsInLine (d : Pair) (N : Labels) (P : Problem) (line : Line) (old new : Run) (halt : Halt) : Type 0 where
+pub record HaltsInLine (d : Pair) (N : Labels) (P : Problem) (line : Line) (old new : Progress) (halt : Halt) : Type 0 where
   pub stops :
       (ls : List Line) (h : List Part) → ReadiedFor d N P ls h old
-      → StopsInLine d N P ls old.timeline.line.most line (account_in new) halt
+      → StopsInLine d N P ls old.timeline.line.most line new.account halt
 
 -- ---- in a text
 

@@ -1,16 +1,56 @@
--- A plan that is read from a shelf, and played as it comes.
-use Rattle.std.specs.Prelude.{◌≡◌, ℕ, List, length, Option}
+-- A plan that is read from a shelf, and played as it comes, while its report goes to a sink.
+use Rattle.std.specs.Prelude.{◌≡◌, ℕ, List, [], length, Option, IfSome, Result}
 use Rattle.plus_io.specs.Files.{Takes}
+use Rattle.plus_io.specs.Taken.{Took}
 use Rattle.plus_model.specs.Terms.{Problem}
 use Rattle.plus_state.specs.View.{Labels}
+use Rattle.plus_tree.specs.declared.trees.Domain.{Domain}
+use Rattle.plus_tree.specs.declared.trees.Problem as tree
 use Rattle.plus_validator.specs.declared.feed.Feed.{Feed}
+use Rattle.plus_validator.specs.declared.halt.Halt.{Halt}
 use Rattle.plus_validator.specs.declared.run.Run.{Run}
-use Rattle.plus_validator.specs.Plans.{Pair}
-use Rattle.plus_validator.specs.Feeding.{IsFed}
+use Rattle.plus_validator.specs.declared.stream.Ending.{Ending}
+use Rattle.plus_validator.specs.declared.stream.Ending.TheVariants.{Played, ReadFault, WriteFault}
+use Rattle.plus_validator.specs.Account.{Progress, progress}
+use Rattle.plus_validator.specs.Plans.{Pair, pair}
+use Rattle.plus_validator.specs.Feeding.{Course, course, IsFed, IsPlayedOut}
+use Rattle.plus_validator.specs.Leaving.{LeavesReport}
 
 -- of these bytes so many have come, and are played
-pub record HasCome (d : Pair) (N : Labels) (P : Problem) (bytes rest : Option (List ℕ)) (total : ℕ) (first : Run) (feed : Feed) : Type 0 where
+pub record HasCome (d : Pair) (N : Labels) (P : Problem) (bytes rest : Option (List ℕ)) (total : ℕ) (first : Progress) (feed : Course) : Type 0 where
   pub text : List ℕ
   pub front : Takes bytes rest text
   pub size : length text ≡ total
   pub fed : IsFed d N P text first feed
+
+-- and all of the report is out
+pub record IsOut (d : Pair) (N : Labels) (P : Problem) (bytes rest : Option (List ℕ)) (total : ℕ) (first : Progress) (feed : Feed) (old now : Option (List ℕ)) : Type 0 where
+  pub sent : List ℕ
+  pub took : Took old now sent
+  pub none_kept : feed.run.report.bytes.items ≡ []
+  pub come : HasCome d N P bytes rest total first (course sent feed)
+
+-- The plan text is played, or the run halts in it. What the sink took is the report for a beginning of the text, and the run keeps
+-- the rest of the report.
+pub record IsPlayedFrom (d : Domain) (p : tree.Problem) (N : Labels) (P : Problem) (most : ℕ) (bytes : Option (List ℕ)) (first : Progress) (new : Run) (old now : Option (List ℕ)) (played : Result (Unit {0}) Halt) : Type 0 where
+  pub sent : List ℕ
+  pub took : Took old now sent
+  pub out : IfSome bytes (λ text. IsPlayedOut (pair d p) N P text first (progress sent new) played)
+  pub so_far : LeavesReport d p most bytes old now
+
+-- ---- by how the playing ends
+
+abbrev pub OnPlayed : Ending → (Result (Unit {0}) Halt → Type 0) → Type 0
+OnPlayed (Played played) Q = Q played
+OnPlayed ReadFault Q = Unit {0}
+OnPlayed WriteFault Q = Unit {0}
+
+abbrev pub OnReadFault : Ending → Type 0 → Type 0
+OnReadFault ReadFault Q = Q
+OnReadFault (Played played) Q = Unit {0}
+OnReadFault WriteFault Q = Unit {0}
+
+abbrev pub OnWriteFault : Ending → Type 0 → Type 0
+OnWriteFault WriteFault Q = Q
+OnWriteFault (Played played) Q = Unit {0}
+OnWriteFault ReadFault Q = Unit {0}

@@ -1,21 +1,27 @@
 //! From the bytes of a plan to its report and its verdict.
-ghost use Rattle.std.specs.Prelude.{◌≡◌, ◌⊎◌, ◌≤◌, ◌+◌, [], ◌∷◌, IfSome};
+ghost use Rattle.std.specs.Prelude.{◌≡◌, ◌⊎◌, ◌≤◌, ◌+◌, [], ◌∷◌, IfErr, IfSome};
 ghost use Rattle.plus_expansion.specs.Counting.{IsGroundable};
 ghost use Rattle.plus_io.specs.Files.{KeepsFiles};
 ghost use Rattle.plus_io.specs.Picks.{ReadsInOrder};
 ghost use Rattle.plus_validator.specs.Limits.{text_limit, most_happenings};
-ghost use Rattle.plus_validator.specs.Validates.{Accepts, Refuses, BreaksOff, RefusesPair, RefusesPairInPart, IsRefusal, EndsUngrounded};
+ghost use Rattle.plus_validator.specs.Validates.{Accepts, Refuses, RefusesPair, RefusesPairInPart, IsRefusal, EndsUngrounded};
+ghost use Rattle.plus_validator.specs.Leaving.{StopsReading, StopsWriting, LeavesReport};
+ghost use Rattle.plus_validator.specs.Halts.{HaltFits};
+ghost use Rattle.plus_validator.specs.Judged.{Concludes};
 ghost use Rattle.plus_validator.specs.Playing.{IsGroundOf};
+ghost use Rattle.plus_state.specs.View.{problem_of, labels_of};
 ghost use Rattle.plus_ground.specs.Refusals.{RefusesGround};
 ghost use Rattle.plus_tree.specs.declared.trees.Domain.{Domain};
 ghost use Rattle.plus_tree.specs.declared.trees.Problem.{Problem};
-ghost use Rattle.plus_number.specs.Frac.{IsFrac64};
+ghost use Rattle.plus_number.specs.Frac.{fraction_of, IsFrac64};
 ghost use Rattle.plus_io.specs.Faults.{Rose};
 
 use crate::feed::Feed;
+use crate::halt::Halt;
 use crate::judge::Outcome;
 use crate::judgement::sum_up;
-use crate::stream::play_file;
+use crate::run::Run;
+use crate::stream::{Ending, play_file};
 use crate::ungrounded::{early_of, ground_fault};
 use plus_ground::{GroundFault, ground};
 use plus_io::{Shelf, Sink, write_all};
@@ -41,6 +47,28 @@ fn refuse<O: Sink>(out: &mut O, fault: GroundFault) -> Outcome
     }
 }
 
+// Writes what is left of the report of a plan that was played, and its verdict line.
+fn conclude<O: Sink>(
+    alloc: Global,
+    ground: &Ground<Frac64>,
+    run: Run,
+    played: Result<(), Halt>,
+    out: &mut O,
+) -> Outcome
+    requires fits { IfErr played (HaltFits (problem_of fraction_of ground.now)) }
+    ensures concludes { Concludes (labels_of ground.now) (problem_of fraction_of ground.now) run played
+        (O.faults out.old) (O.faults out.new) (O.taken out.old) (O.taken out.new) result }
+    ensures no_fall { O.faults out.old ≤ O.faults out.new }
+{
+    let Ok(judgement) = sum_up(alloc, ground, run, played) else {
+        return Outcome::NoMemory;
+    };
+    match write_all(out, &judgement.bytes) {
+        Ok(()) => judgement.outcome,
+        Err(_) => Outcome::WriteFault,
+    }
+}
+
 // Checks the plan of a ground pair.
 fn validate_ground<S: Shelf, O: Sink>(
     alloc: Global,
@@ -59,14 +87,17 @@ fn validate_ground<S: Shelf, O: Sink>(
     ensures refused { IsRefusal result → IfSome (S.bytes shelf.old plan.now) (λ text.
         Refuses numbering.now.typed.now.domain numbering.now.typed.now.problem happenings text result (O.taken out.old) (O.taken out.new)) }
 
-    // A fault is answered only where it came, and leaves a part of what was to be written.
+    // A fault is answered only where it came. It leaves a part of what was to be written: one of the shelf
+    // the report for all whole lines that were read, one of the sink not all of what was due.
     ensures read_fault { result ≡ Outcome.ReadFault →
-        Rose (S.faults shelf.old) (S.faults shelf.new) × (O.taken out.new ≡ O.taken out.old) }
+        Rose (S.faults shelf.old) (S.faults shelf.new)
+        × StopsReading numbering.now.typed.now.domain numbering.now.typed.now.problem happenings
+        (S.bytes shelf.old plan.now) (S.picked shelf.new) (S.rest shelf.new) (O.taken out.old) (O.taken out.new) }
     ensures write_fault { result ≡ Outcome.WriteFault →
         Rose (O.faults out.old) (O.faults out.new)
-        × IfSome (S.bytes shelf.old plan.now) (λ text.
-        BreaksOff numbering.now.typed.now.domain numbering.now.typed.now.problem happenings text (O.taken out.old) (O.taken out.new)) }
-    ensures no_memory { result ≡ Outcome.NoMemory → O.taken out.new ≡ O.taken out.old }
+        × StopsWriting numbering.now.typed.now.domain numbering.now.typed.now.problem happenings (S.bytes shelf.old plan.now) (O.taken out.old) (O.taken out.new) }
+    ensures no_memory { result ≡ Outcome.NoMemory → LeavesReport numbering.now.typed.now.domain numbering.now.typed.now.problem happenings
+        (S.bytes shelf.old plan.now) (O.taken out.old) (O.taken out.new) }
 
     // Of the plan's file at most one byte past its limit is read, and of no other file any.
     ensures reads { ReadsInOrder S.bytes S.picked S.rest S.picks (text_limit + 1) (plan.now ∷ []) shelf.old shelf.new }
@@ -76,15 +107,10 @@ fn validate_ground<S: Shelf, O: Sink>(
     let Ok(mut feed) = Feed::begin(alloc, &*numbering, ground, happenings) else {
         return Outcome::NoMemory;
     };
-    let Ok(played) = play_file(&mut feed, alloc, ground, shelf, plan, happenings) else {
-        return Outcome::ReadFault;
-    };
-    let Ok(judgement) = sum_up(alloc, ground, feed.run, played) else {
-        return Outcome::NoMemory;
-    };
-    match write_all(out, &judgement.bytes) {
-        Ok(()) => judgement.outcome,
-        Err(_) => Outcome::WriteFault,
+    match play_file(&mut feed, alloc, ground, shelf, plan, out, happenings) {
+        Ending::ReadFault => Outcome::ReadFault,
+        Ending::WriteFault => Outcome::WriteFault,
+        Ending::Played(played) => conclude(alloc, ground, feed.run, played, out),
     }
 }
 
@@ -107,15 +133,18 @@ fn validate_numbered<S: Shelf, O: Sink>(
         ⊎ IfSome (S.bytes shelf.old plan.now) (λ text.
         Refuses numbering.now.typed.now.domain numbering.now.typed.now.problem happenings text result (O.taken out.old) (O.taken out.new)) }
 
-    // A fault is answered only where it came, and leaves a part of what was to be written.
+    // A fault is answered only where it came. It leaves a part of what was to be written: one of the shelf
+    // the report for all whole lines that were read, one of the sink not all of what was due.
     ensures read_fault { result ≡ Outcome.ReadFault →
-        Rose (S.faults shelf.old) (S.faults shelf.new) × (O.taken out.new ≡ O.taken out.old) }
+        Rose (S.faults shelf.old) (S.faults shelf.new)
+        × StopsReading numbering.now.typed.now.domain numbering.now.typed.now.problem happenings
+        (S.bytes shelf.old plan.now) (S.picked shelf.new) (S.rest shelf.new) (O.taken out.old) (O.taken out.new) }
     ensures write_fault { result ≡ Outcome.WriteFault →
         Rose (O.faults out.old) (O.faults out.new)
         × (RefusesPairInPart numbering.now.typed.now.domain numbering.now.typed.now.problem (O.taken out.old) (O.taken out.new)
-        ⊎ IfSome (S.bytes shelf.old plan.now) (λ text.
-        BreaksOff numbering.now.typed.now.domain numbering.now.typed.now.problem happenings text (O.taken out.old) (O.taken out.new))) }
-    ensures no_memory { result ≡ Outcome.NoMemory → O.taken out.new ≡ O.taken out.old }
+        ⊎ StopsWriting numbering.now.typed.now.domain numbering.now.typed.now.problem happenings (S.bytes shelf.old plan.now) (O.taken out.old) (O.taken out.new)) }
+    ensures no_memory { result ≡ Outcome.NoMemory → LeavesReport numbering.now.typed.now.domain numbering.now.typed.now.problem happenings
+        (S.bytes shelf.old plan.now) (O.taken out.old) (O.taken out.new) }
 
     // Of the plan's file at most one byte past its limit is read, and of no other file any.
     ensures reads { ReadsInOrder S.bytes S.picked S.rest S.picks (text_limit + 1) (plan.now ∷ []) shelf.old shelf.new }
@@ -129,7 +158,7 @@ fn validate_numbered<S: Shelf, O: Sink>(
     validate_ground(alloc, numbering, &ground, shelf, plan, out, happenings)
 }
 
-/// Checks the plan under a name of the shelf, and writes its report and its verdict line.
+/// Checks the plan under a name of the shelf, and writes its report as the plan is read, and its verdict line.
 /// `happenings` is how many moments it may enter.
 pub fn validate<S: Shelf, O: Sink>(
     alloc: Global,
@@ -149,15 +178,18 @@ pub fn validate<S: Shelf, O: Sink>(
         ⊎ IfSome (S.bytes shelf.old plan.now) (λ text.
         Refuses typed.now.domain typed.now.problem happenings text result (O.taken out.old) (O.taken out.new)) }
 
-    // A fault is answered only where it came, and leaves a part of what was to be written.
+    // A fault is answered only where it came. It leaves a part of what was to be written: one of the shelf
+    // the report for all whole lines that were read, one of the sink not all of what was due.
     ensures read_fault { result ≡ Outcome.ReadFault →
-        Rose (S.faults shelf.old) (S.faults shelf.new) × (O.taken out.new ≡ O.taken out.old) }
+        Rose (S.faults shelf.old) (S.faults shelf.new)
+        × StopsReading typed.now.domain typed.now.problem happenings
+        (S.bytes shelf.old plan.now) (S.picked shelf.new) (S.rest shelf.new) (O.taken out.old) (O.taken out.new) }
     ensures write_fault { result ≡ Outcome.WriteFault →
         Rose (O.faults out.old) (O.faults out.new)
         × (RefusesPairInPart typed.now.domain typed.now.problem (O.taken out.old) (O.taken out.new)
-        ⊎ IfSome (S.bytes shelf.old plan.now) (λ text.
-        BreaksOff typed.now.domain typed.now.problem happenings text (O.taken out.old) (O.taken out.new))) }
-    ensures no_memory { result ≡ Outcome.NoMemory → O.taken out.new ≡ O.taken out.old }
+        ⊎ StopsWriting typed.now.domain typed.now.problem happenings (S.bytes shelf.old plan.now) (O.taken out.old) (O.taken out.new)) }
+    ensures no_memory { result ≡ Outcome.NoMemory → LeavesReport typed.now.domain typed.now.problem happenings
+        (S.bytes shelf.old plan.now) (O.taken out.old) (O.taken out.new) }
 
     // Of the plan's file at most one byte past its limit is read, and of no other file any.
     ensures reads { ReadsInOrder S.bytes S.picked S.rest S.picks (text_limit + 1) (plan.now ∷ []) shelf.old shelf.new }

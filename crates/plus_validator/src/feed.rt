@@ -1,14 +1,15 @@
 //! Plays a plan text as it comes, in pieces.
-ghost use Rattle.std.specs.Prelude.{◌≡◌, ◌≤◌, [], None, OnOk, IfOk, IfErr};
+ghost use Rattle.std.specs.Prelude.{◌≡◌, ℕ, ◌≤◌, List, [], None, OnOk, IfOk, IfErr};
 ghost use Rattle.plus_number.specs.Frac.{fraction_of};
 ghost use Rattle.plus_state.specs.View.{problem_of, labels_of};
 ghost use Rattle.plus_instances.specs.Made.{AreMade, StayMade};
 ghost use Rattle.plus_plan.specs.Pieces.{IsIdle};
+ghost use Rattle.plus_validator.specs.Account.{progress};
 ghost use Rattle.plus_validator.specs.Plans.{pair_in};
 ghost use Rattle.plus_validator.specs.Halts.{HaltFits};
 ghost use Rattle.plus_validator.specs.Playing.{IsGroundOf, IsResting};
 ghost use Rattle.plus_validator.specs.Standing.{CanGoOn};
-ghost use Rattle.plus_validator.specs.Feeding.{IsFresh, IsOpen, Feeds, HaltsFeeding, EndsFeeding, HaltsEnding};
+ghost use Rattle.plus_validator.specs.Feeding.{course, IsFresh, IsOpen, Feeds, HaltsFeeding, EndsFeeding, HaltsEnding};
 
 use crate::halt::{Halt, fault_halt};
 use crate::run::Run;
@@ -54,13 +55,13 @@ impl<'a> Feed<'a> {
         requires kept { AreMade self.old.instances }
         requires can { CanGoOn (problem_of fraction_of ground.now) self.old.run.timeline }
         requires moment { self.old.run.timeline.line.now.running ≡ None }
-        ensures feeds { OnOk result (Feeds (pair_in self.old.instances.numbering.now.typed.now) (labels_of ground.now)
-            (problem_of fraction_of ground.now) [] self.old self.new) }
-        ensures rests { OnOk result (IsResting (problem_of fraction_of ground.now) self.old.run.timeline.line.most self.new.run) }
+        ensures feeds { (sent : List ℕ) → OnOk result (Feeds (pair_in self.old.instances.numbering.now.typed.now) (labels_of ground.now)
+            (problem_of fraction_of ground.now) [] (course sent self.old) (course sent self.new)) }
+        ensures rests { OnOk result (IsResting (problem_of fraction_of ground.now) self.old.run.timeline.line.most self.new.run.timeline) }
         ensures idle { OnOk result (self.old.reader.fault ≡ None → IsIdle self.new.reader) }
         ensures closed { OnOk result (self.new.reader.closed ≡ self.old.reader.closed) }
-        ensures halts { IfErr result (HaltsFeeding (pair_in self.old.instances.numbering.now.typed.now) (labels_of ground.now)
-            (problem_of fraction_of ground.now) [] self.old self.new.run) }
+        ensures halts { (sent : List ℕ) → IfErr result (HaltsFeeding (pair_in self.old.instances.numbering.now.typed.now) (labels_of ground.now)
+            (problem_of fraction_of ground.now) [] (course sent self.old) (progress sent self.new.run)) }
         ensures fits { IfErr result (HaltFits (problem_of fraction_of ground.now)) }
         ensures kept { StayMade self.old.instances self.new.instances }
     {
@@ -75,11 +76,11 @@ impl<'a> Feed<'a> {
     pub fn take(&mut self, alloc: Global, ground: &Ground<Frac64>, piece: &[u8]) -> Result<(), Halt>
         requires expands { IsGroundOf self.old.instances.numbering.now.typed.now.domain self.old.instances.numbering.now.typed.now.problem ground.now }
         requires waits { IsOpen (problem_of fraction_of ground.now) self.old.run.timeline.line.most self.old.instances.numbering.now self.old }
-        ensures feeds { OnOk result (Feeds (pair_in self.old.instances.numbering.now.typed.now) (labels_of ground.now)
-            (problem_of fraction_of ground.now) piece.now self.old self.new) }
+        ensures feeds { (sent : List ℕ) → OnOk result (Feeds (pair_in self.old.instances.numbering.now.typed.now) (labels_of ground.now)
+            (problem_of fraction_of ground.now) piece.now (course sent self.old) (course sent self.new)) }
         ensures waits { OnOk result (IsOpen (problem_of fraction_of ground.now) self.old.run.timeline.line.most self.old.instances.numbering.now self.new) }
-        ensures halts { IfErr result (HaltsFeeding (pair_in self.old.instances.numbering.now.typed.now) (labels_of ground.now)
-            (problem_of fraction_of ground.now) piece.now self.old self.new.run) }
+        ensures halts { (sent : List ℕ) → IfErr result (HaltsFeeding (pair_in self.old.instances.numbering.now.typed.now) (labels_of ground.now)
+            (problem_of fraction_of ground.now) piece.now (course sent self.old) (progress sent self.new.run)) }
         ensures fits { IfErr result (HaltFits (problem_of fraction_of ground.now)) }
     {
         let mut from = 0;
@@ -97,10 +98,10 @@ impl<'a> Feed<'a> {
     pub fn end(&mut self, alloc: Global, ground: &Ground<Frac64>) -> Result<(), Halt>
         requires expands { IsGroundOf self.old.instances.numbering.now.typed.now.domain self.old.instances.numbering.now.typed.now.problem ground.now }
         requires waits { IsOpen (problem_of fraction_of ground.now) self.old.run.timeline.line.most self.old.instances.numbering.now self.old }
-        ensures ends { OnOk result (EndsFeeding (pair_in self.old.instances.numbering.now.typed.now) (labels_of ground.now)
-            (problem_of fraction_of ground.now) self.old self.new.run) }
-        ensures halts { IfErr result (HaltsEnding (pair_in self.old.instances.numbering.now.typed.now) (labels_of ground.now)
-            (problem_of fraction_of ground.now) self.old self.new.run) }
+        ensures ends { (sent : List ℕ) → OnOk result (EndsFeeding (pair_in self.old.instances.numbering.now.typed.now) (labels_of ground.now)
+            (problem_of fraction_of ground.now) (course sent self.old) (progress sent self.new.run)) }
+        ensures halts { (sent : List ℕ) → IfErr result (HaltsEnding (pair_in self.old.instances.numbering.now.typed.now) (labels_of ground.now)
+            (problem_of fraction_of ground.now) (course sent self.old) (progress sent self.new.run)) }
         ensures fits { IfErr result (HaltFits (problem_of fraction_of ground.now)) }
     {
         self.reader.close();

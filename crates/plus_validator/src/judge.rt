@@ -110,7 +110,7 @@ fn judge_ground(
     requires expands { IsGroundOf numbering.now.typed.now.domain numbering.now.typed.now.problem ground.now }
     requires groundable { IsGroundable IsFrac64 numbering.now.typed.now.domain numbering.now.typed.now.problem }
     requires some { 1 ≤ happenings }
-    ensures judged { IfOk result (IsJudged numbering.now.typed.now.domain numbering.now.typed.now.problem happenings bytes.now) }
+    ensures judged { IfOk result (λ j. IsJudged numbering.now.typed.now.domain numbering.now.typed.now.problem happenings bytes.now j.bytes.items j) }
 {
     let mut feed = Feed::begin(alloc, &*numbering, ground, happenings)?;
     let played = play_bytes(&mut feed, alloc, ground, bytes, happenings);

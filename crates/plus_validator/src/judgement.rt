@@ -14,7 +14,7 @@ use plus_report::{Verdict, write_verdict};
 use plus_state::problem::Ground;
 use std::alloc::Global;
 
-/// The report of a plan with its verdict line, and what is said of the plan.
+/// What is left of the report of a plan with its verdict line, and what is said of the plan.
 #[derive(Drop)]
 pub struct Judgement {
     pub bytes: Vec<u8>,

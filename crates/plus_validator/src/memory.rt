@@ -1,10 +1,10 @@
-//! The report, as it grows in memory.
+//! What of a report is kept in memory.
 ghost use Rattle.std.specs.Prelude.{◌≡◌, [], Some};
 
 use plus_io::{Failed, Sink};
 use std::alloc::Global;
 
-/// A report in memory. Its only faults are wants of memory.
+/// Bytes of a report that wait in memory. Their only faults are wants of memory.
 #[derive(Drop)]
 pub struct Report {
     pub bytes: Vec<u8>,

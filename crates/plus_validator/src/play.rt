@@ -1,11 +1,12 @@
 //! Plays the lines of a plan.
-ghost use Rattle.std.specs.Prelude.{◌≡◌, ◌<◌, None, OnOk, IfOk, IfErr};
+ghost use Rattle.std.specs.Prelude.{◌≡◌, ℕ, ◌<◌, List, None, OnOk, IfOk, IfErr};
 ghost use Rattle.plus_number.specs.Frac.{fraction_of};
 ghost use Rattle.plus_model.specs.Terms.{Problem};
 ghost use Rattle.plus_model.specs.Trajectory.{is_below};
 ghost use Rattle.plus_plan.specs.Answers.{HasBottom};
 ghost use Rattle.plus_state.specs.View.{problem_of, labels_of};
 ghost use Rattle.plus_timeline.specs.Finish.{IsPaused};
+ghost use Rattle.plus_validator.specs.Account.{progress};
 ghost use Rattle.plus_validator.specs.Plans.{pair_in};
 ghost use Rattle.plus_instances.specs.Made.{AreMade, StayMade};
 ghost use Rattle.plus_validator.specs.Halts.{CallHalts, HaltFits};
@@ -85,8 +86,8 @@ impl Run {
     #[tactic(auto, using(crate::proofs::Shown::in_time))]
     fn moment(&self, line: u32, time: &Time) -> Result<Frac64, Halt>
         requires { 0 < time.now.bottom }
-        ensures ok { IfOk result (IsInTime self.now time.now) }
-        ensures stops { IfErr result (HaltsAtMoment line time.now self.now) }
+        ensures ok { IfOk result (IsInTime self.now.ended self.now.timeline.line.now.time time.now) }
+        ensures stops { (sent : List ℕ) → IfErr result (HaltsAtMoment line time.now (progress sent self.now)) }
         ensures fits { IfErr result (λ halt. (P : Problem) → HaltFits P halt) }
     {
         if self.ended {
@@ -120,10 +121,10 @@ impl Run {
         requires kept { AreMade instances.old }
         requires can { CanGoOn (problem_of fraction_of ground.now) self.old.timeline }
         requires paused { IsPaused self.old.timeline.line }
-        ensures acts { OnOk result (ActsOnce (pair_in instances.old.numbering.now.typed.now) (labels_of ground.now)
-            (problem_of fraction_of ground.now) call.now self.old self.new) }
-        ensures stops { IfErr result (HaltsInAct (pair_in instances.old.numbering.now.typed.now) (labels_of ground.now)
-            (problem_of fraction_of ground.now) line call.now self.old self.new) }
+        ensures acts { (sent : List ℕ) → OnOk result (ActsOnce (pair_in instances.old.numbering.now.typed.now) (labels_of ground.now)
+            (problem_of fraction_of ground.now) call.now (progress sent self.old) (progress sent self.new)) }
+        ensures stops { (sent : List ℕ) → IfErr result (HaltsInAct (pair_in instances.old.numbering.now.typed.now) (labels_of ground.now)
+            (problem_of fraction_of ground.now) line call.now (progress sent self.old) (progress sent self.new)) }
         ensures kept { StayMade instances.old instances.new }
         ensures fits { IfErr result (HaltFits (problem_of fraction_of ground.now)) }
     {
@@ -158,10 +159,10 @@ impl Run {
         requires can { CanGoOn (problem_of fraction_of ground.now) self.old.timeline }
         requires moment { self.old.timeline.line.now.running ≡ None }
         requires bottom { HasBottom read.now }
-        ensures plays { OnOk result (PlaysLine (pair_in instances.old.numbering.now.typed.now) (labels_of ground.now)
-            (problem_of fraction_of ground.now) read.now self.old self.new) }
-        ensures stops { IfErr result (HaltsInLine (pair_in instances.old.numbering.now.typed.now) (labels_of ground.now)
-            (problem_of fraction_of ground.now) read.now self.old self.new) }
+        ensures plays { (sent : List ℕ) → OnOk result (PlaysLine (pair_in instances.old.numbering.now.typed.now) (labels_of ground.now)
+            (problem_of fraction_of ground.now) read.now (progress sent self.old) (progress sent self.new)) }
+        ensures stops { (sent : List ℕ) → IfErr result (HaltsInLine (pair_in instances.old.numbering.now.typed.now) (labels_of ground.now)
+            (problem_of fraction_of ground.now) read.now (progress sent self.old) (progress sent self.new)) }
         ensures kept { StayMade instances.old instances.new }
         ensures fits { IfErr result (HaltFits (problem_of fraction_of ground.now)) }
     {
@@ -187,10 +188,10 @@ impl Run {
     pub fn close(&mut self, ground: &Ground<Frac64>) -> Result<(), Halt>
         requires can { CanGoOn (problem_of fraction_of ground.now) self.old.timeline }
         requires moment { self.old.timeline.line.now.running ≡ None }
-        ensures closes { OnOk result (Closes (labels_of ground.now)
-            (problem_of fraction_of ground.now) self.old self.new) }
-        ensures stops { IfErr result (HaltsAtEnd (labels_of ground.now)
-            (problem_of fraction_of ground.now) self.old self.new) }
+        ensures closes { (sent : List ℕ) → OnOk result (Closes (labels_of ground.now)
+            (problem_of fraction_of ground.now) (progress sent self.old) (progress sent self.new)) }
+        ensures stops { (sent : List ℕ) → IfErr result (HaltsAtEnd (labels_of ground.now)
+            (problem_of fraction_of ground.now) (progress sent self.old) (progress sent self.new)) }
         ensures fits { IfErr result (HaltFits (problem_of fraction_of ground.now)) }
     {
         let now = self.timeline.time();

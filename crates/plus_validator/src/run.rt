@@ -1,7 +1,10 @@
-//! A plan that is played, and its report as it is written.
-ghost use Rattle.std.specs.Prelude.{◌≡◌, ◌≤◌, ◌+◌, ◌++◌, OnOk, IfOk, IfErr};
+//! A plan that is played, and its report as it goes out.
+ghost use Rattle.std.specs.Prelude.{◌≡◌, ℕ, ◌≤◌, ◌+◌, List, [], ◌++◌, OnOk, OnErr, IfOk, IfErr};
+ghost use Rattle.plus_io.specs.Faults.{Rose};
+ghost use Rattle.plus_io.specs.Taken.{Took, TookPart};
 ghost use Rattle.plus_number.specs.Frac.{fraction_of};
 ghost use Rattle.plus_state.specs.View.{problem_of, labels_of};
+ghost use Rattle.plus_validator.specs.Account.{progress};
 ghost use Rattle.plus_validator.specs.Running.{Steps, Reaches};
 ghost use Rattle.plus_validator.specs.Halts.{HaltFits};
 ghost use Rattle.plus_validator.specs.Stopped.{HaltsOnWay};
@@ -11,17 +14,18 @@ ghost use Rattle.plus_validator.specs.Standing.{CanReach, MovesThenChanges, IsSh
 use crate::halt::{Halt, halted};
 use crate::memory::Report;
 use plus_indexed::Indexed;
-use plus_io::Failed;
+use plus_io::{Failed, Sink, write_all};
 use plus_number::frac::Frac64;
 use plus_report::{write_entry_changes, write_literals_changes, write_round_changes, write_run};
 use plus_state::problem::Ground;
 use plus_timeline::Next;
 use std::alloc::{AllocError, Global};
 
-/// A plan that is played, and its report as far as it is written.
+/// A plan that is played, and its report.
 #[derive(Drop)]
 pub struct Run {
     pub timeline: Indexed<Frac64>,
+    /// What of the report is not handed on yet.
     pub report: Report,
     /// How many moments are entered.
     pub entries: u64,
@@ -82,8 +86,7 @@ fn write_next(
     }
 }
 
-// One count and more. Each that is counted has its bytes in the report, so that memory is wanting before
-// a count is too large.
+// One count and more. A count that is too large is want of memory.
 fn counted(count: u64, more: u64) -> Result<u64, AllocError>
     ensures { IfOk result (λ sum. sum ≡ count + more) }
 {
@@ -97,7 +100,8 @@ impl Run {
     /// Begins a run: the first entry, at time 0.
     pub fn begin(alloc: Global, ground: &Ground<Frac64>, happenings: u64) -> Result<Run, Halt>
         requires some { 1 ≤ happenings }
-        ensures begins { IfOk result (Begins (labels_of ground.now) (problem_of fraction_of ground.now) happenings) }
+        ensures begins { IfOk result (λ run. Begins (labels_of ground.now) (problem_of fraction_of ground.now) happenings
+            (progress [] run)) }
         ensures memory { IfErr result (λ halt. halt ≡ Halt.Memory) }
     {
         let timeline = Indexed::begin(alloc, ground, happenings)?;
@@ -135,10 +139,10 @@ impl Run {
     /// Takes one step toward a time, and says whether the time is reached and nothing is due.
     fn step(&mut self, ground: &Ground<Frac64>, until: Frac64) -> Result<bool, Halt>
         requires can { CanReach (problem_of fraction_of ground.now) (fraction_of until) self.old.timeline }
-        ensures steps { IfOk result (Steps (labels_of ground.now) (problem_of fraction_of ground.now)
-            (fraction_of until) self.old self.new) }
-        ensures stops { IfErr result (HaltsOnWay (labels_of ground.now) (problem_of fraction_of ground.now)
-            (fraction_of until) self.old self.new) }
+        ensures steps { (sent : List ℕ) → IfOk result (Steps (labels_of ground.now) (problem_of fraction_of ground.now)
+            (fraction_of until) (progress sent self.old) (progress sent self.new)) }
+        ensures stops { (sent : List ℕ) → IfErr result (HaltsOnWay (labels_of ground.now) (problem_of fraction_of ground.now)
+            (fraction_of until) (progress sent self.old) (progress sent self.new)) }
         ensures fits { IfErr result (HaltFits (problem_of fraction_of ground.now)) }
     {
         let next = match self.timeline.advance(ground, until) {
@@ -153,10 +157,10 @@ impl Run {
     /// Plays on up to a time, until nothing is due there.
     pub fn reach(&mut self, ground: &Ground<Frac64>, until: Frac64) -> Result<(), Halt>
         requires can { CanReach (problem_of fraction_of ground.now) (fraction_of until) self.old.timeline }
-        ensures reaches { OnOk result (Reaches (labels_of ground.now) (problem_of fraction_of ground.now)
-            (fraction_of until) self.old self.new) }
-        ensures stops { IfErr result (HaltsOnWay (labels_of ground.now) (problem_of fraction_of ground.now)
-            (fraction_of until) self.old self.new) }
+        ensures reaches { (sent : List ℕ) → OnOk result (Reaches (labels_of ground.now) (problem_of fraction_of ground.now)
+            (fraction_of until) (progress sent self.old) (progress sent self.new)) }
+        ensures stops { (sent : List ℕ) → IfErr result (HaltsOnWay (labels_of ground.now) (problem_of fraction_of ground.now)
+            (fraction_of until) (progress sent self.old) (progress sent self.new)) }
         ensures fits { IfErr result (HaltFits (problem_of fraction_of ground.now)) }
     {
         'steps: loop {
@@ -164,5 +168,20 @@ impl Run {
                 return Ok(());
             }
         }
+    }
+
+    /// Hands on what is kept of the report.
+    pub fn flush<O: Sink>(&mut self, out: &mut O) -> Result<(), Failed>
+        ensures took { OnOk result (Took (O.taken out.old) (O.taken out.new) self.old.report.bytes.items) }
+        ensures empty { OnOk result (self.new.report.bytes.items ≡ []) }
+        ensures stays { OnOk result ((sent : List ℕ) →
+            progress (sent ++ self.old.report.bytes.items) self.new ≡ progress sent self.old) }
+        ensures cause { OnErr result (Rose (O.faults out.old) (O.faults out.new)) }
+        ensures part { OnErr result (TookPart (O.taken out.old) (O.taken out.new) self.old.report.bytes.items) }
+        ensures no_fall { O.faults out.old ≤ O.faults out.new }
+    {
+        write_all(out, &self.report.bytes)?;
+        self.report.bytes.clear();
+        Ok(())
     }
 }

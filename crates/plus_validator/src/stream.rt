@@ -1,22 +1,26 @@
 //! Plays the plan text under a name of a shelf, and the plan text that stands in memory.
-ghost use Rattle.std.specs.Prelude.{◌≡◌, ◌≤◌, ◌+◌, length, take, OnErr, IfOk, IfErr, IfSome};
+ghost use Rattle.std.specs.Prelude.{◌≡◌, ◌≤◌, ◌+◌, [], length, take, OnErr, IfOk, IfErr, IfSome};
 ghost use Rattle.std.specs.Io.KnownBytes.{IsAtEnd};
 ghost use Rattle.plus_io.specs.Faults.{Rose};
 ghost use Rattle.plus_io.specs.Files.{KeepsFiles, Takes};
 ghost use Rattle.plus_io.specs.Picks.{ReadsOnce, with_read};
 ghost use Rattle.plus_model.specs.Terms.{Problem};
-ghost use Rattle.plus_number.specs.Frac.{fraction_of};
+ghost use Rattle.plus_expansion.specs.Counting.{IsGroundable};
+ghost use Rattle.plus_number.specs.Frac.{fraction_of, IsFrac64};
 ghost use Rattle.plus_state.specs.View.{problem_of, labels_of};
+ghost use Rattle.plus_validator.specs.Account.{progress};
 ghost use Rattle.plus_validator.specs.Limits.{text_limit};
 ghost use Rattle.plus_validator.specs.Plans.{pair_in};
 ghost use Rattle.plus_validator.specs.Halts.{HaltFits};
 ghost use Rattle.plus_validator.specs.Playing.{IsGroundOf};
 ghost use Rattle.plus_validator.specs.Feeding.{IsFresh, IsPlayedOut};
+ghost use Rattle.plus_validator.specs.Leaving.{StopsReading, BreaksOffSoFar};
+ghost use Rattle.plus_validator.specs.Streaming.{IsPlayedFrom, OnPlayed, OnReadFault, OnWriteFault};
 
 use crate::feed::Feed;
 use crate::halt::Halt;
 use crate::limits::TEXT_LIMIT;
-use plus_io::{Failed, Shelf};
+use plus_io::{Failed, Shelf, Sink};
 use plus_number::frac::Frac64;
 use plus_report::{Early, Text, Verdict};
 use plus_state::problem::Ground;
@@ -51,40 +55,70 @@ fn read_piece<S: Shelf>(shelf: &mut S, buffer: &mut [u8], total: usize) -> Resul
     shelf.read(&mut buffer[..most])
 }
 
-/// Reads the plan text under a name, and plays it as it comes. The only error is a fault of the shelf.
-pub fn play_file<S: Shelf>(
+/// How the playing of a file ends.
+#[derive(Drop)]
+pub enum Ending {
+    /// The text is played to its end, or the run halts in it.
+    Played(Result<(), Halt>),
+    /// The shelf failed.
+    ReadFault,
+    /// The sink failed.
+    WriteFault,
+}
+
+/// Reads the plan text under a name, and plays it as it comes. What a piece tells is handed on before the
+/// next is read, unless the run halts in it.
+pub fn play_file<S: Shelf, O: Sink>(
     feed: &mut Feed<'_>,
     alloc: Global,
     ground: &Ground<Frac64>,
     shelf: &mut S,
     plan: &str,
+    out: &mut O,
     happenings: u64,
-) -> Result<Result<(), Halt>, Failed>
+) -> Ending
     requires expands { IsGroundOf feed.old.instances.numbering.now.typed.now.domain feed.old.instances.numbering.now.typed.now.problem ground.now }
+    requires groundable { IsGroundable IsFrac64 feed.old.instances.numbering.now.typed.now.domain feed.old.instances.numbering.now.typed.now.problem }
     requires fresh { IsFresh (labels_of ground.now) (problem_of fraction_of ground.now) happenings feed.old.instances.numbering.now feed.old }
-    ensures played { IfOk result (λ played. IfSome (S.bytes shelf.old plan.now) (λ text.
-        IsPlayedOut (pair_in feed.old.instances.numbering.now.typed.now) (labels_of ground.now) (problem_of fraction_of ground.now)
-        text feed.old.run feed.new.run played)) }
-    ensures fits { IfOk result (λ played. IfErr played (HaltFits (problem_of fraction_of ground.now))) }
-    ensures cause { OnErr result (Rose (S.faults shelf.old) (S.faults shelf.new)) }
+    ensures plays { OnPlayed result (IsPlayedFrom feed.old.instances.numbering.now.typed.now.domain feed.old.instances.numbering.now.typed.now.problem
+        (labels_of ground.now) (problem_of fraction_of ground.now) happenings (S.bytes shelf.old plan.now) (progress [] feed.old.run) feed.new.run
+        (O.taken out.old) (O.taken out.new)) }
+    ensures fits { OnPlayed result (λ played. IfErr played (HaltFits (problem_of fraction_of ground.now))) }
+    ensures read_fault { OnReadFault result (Rose (S.faults shelf.old) (S.faults shelf.new)
+        × StopsReading feed.old.instances.numbering.now.typed.now.domain feed.old.instances.numbering.now.typed.now.problem happenings
+        (S.bytes shelf.old plan.now) (S.picked shelf.new) (S.rest shelf.new) (O.taken out.old) (O.taken out.new)) }
+    ensures write_fault { OnWriteFault result (Rose (O.faults out.old) (O.faults out.new) × IfSome (S.bytes shelf.old plan.now) (λ text.
+        BreaksOffSoFar feed.old.instances.numbering.now.typed.now.domain feed.old.instances.numbering.now.typed.now.problem happenings
+        text (O.taken out.old) (O.taken out.new))) }
     ensures reads { ReadsOnce S.bytes S.picked S.rest S.picks (text_limit + 1) plan.now shelf.old shelf.new }
     ensures keeps { KeepsFiles S.names S.bytes S.faults shelf.old shelf.new }
+    ensures no_fall { O.faults out.old ≤ O.faults out.new }
 {
-    shelf.pick(plan)?;
+    let Ok(()) = shelf.pick(plan) else {
+        return Ending::ReadFault;
+    };
+    let Ok(()) = feed.run.flush(out) else {
+        return Ending::WriteFault;
+    };
     let mut buffer = [0u8; PIECE];
     let mut total = 0;
     'pieces: loop {
-        let count = read_piece(shelf, &mut buffer, total)?;
+        let Ok(count) = read_piece(shelf, &mut buffer, total) else {
+            return Ending::ReadFault;
+        };
         if count == 0 {
-            return Ok(feed.end(alloc, ground));
+            return Ending::Played(feed.end(alloc, ground));
         }
         let within = count.min(TEXT_LIMIT - total);
         if let Err(halt) = feed.take(alloc, ground, &buffer[..within]) {
-            return Ok(Err(halt));
+            return Ending::Played(Err(halt));
         }
         if within < count {
-            return Ok(Err(too_long()));
+            return Ending::Played(Err(too_long()));
         }
+        let Ok(()) = feed.run.flush(out) else {
+            return Ending::WriteFault;
+        };
         total += count;
     }
 }
@@ -100,7 +134,7 @@ pub fn play_bytes(
     requires expands { IsGroundOf feed.old.instances.numbering.now.typed.now.domain feed.old.instances.numbering.now.typed.now.problem ground.now }
     requires fresh { IsFresh (labels_of ground.now) (problem_of fraction_of ground.now) happenings feed.old.instances.numbering.now feed.old }
     ensures played { IsPlayedOut (pair_in feed.old.instances.numbering.now.typed.now) (labels_of ground.now) (problem_of fraction_of ground.now)
-        bytes.now feed.old.run feed.new.run result }
+        bytes.now (progress [] feed.old.run) (progress [] feed.new.run) result }
     ensures fits { IfErr result (HaltFits (problem_of fraction_of ground.now)) }
 {
     let within = bytes.len().min(TEXT_LIMIT);

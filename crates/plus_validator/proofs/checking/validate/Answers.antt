@@ -1,4 +1,6 @@
-use Rattle.std.proofs.Common.{inl}
+use Rattle.std.proofs.Common.{inl, subst}
+use Rattle.plus_types.specs.declared.typed.Typed.{Typed}
+use Rattle.plus_validator.specs.Leaving.{StopsReading}
 use Rattle.plus_validator.proofs.Validating.{ungrounded_not_valid, ungrounded_reads, ungrounded_refused, ungrounded_fault, ungrounded_memory}
 use Rattle.plus_validator.proofs.checking.validate.Goals as goal
 
@@ -21,4 +23,12 @@ returns-in-Err-clause-write_fault g c = λ h.
 
 pub returns-in-Err-clause-no_memory : goal.returns-in-Err-clause-no_memory
 returns-in-Err-clause-no_memory g c = λ h.
-    ungrounded_memory c.args.typed.now.domain c.args.typed.now.problem _ _ _ _ c.refuse.result (c.refuse.ensures.refused c.args.typed.now.domain c.args.typed.now.problem (c.ground_fault.ensures c.args.typed.now.domain c.args.typed.now.problem c.in-Err.ensures.counts)) h
+    inl (ungrounded_memory c.args.typed.now.domain c.args.typed.now.problem _ _ _ _ c.refuse.result (c.refuse.ensures.refused c.args.typed.now.domain c.args.typed.now.problem (c.ground_fault.ensures c.args.typed.now.domain c.args.typed.now.problem c.in-Err.ensures.counts)) h)
+
+pub returns-in-Ok-clause-read_fault : goal.returns-in-Ok-clause-read_fault
+returns-in-Ok-clause-read_fault g c = λ h.
+    let k = c.validate_numbered.ensures.read_fault h in (
+      k.0,
+      subst (λ (t : Typed). StopsReading t.domain t.problem c.args.happenings (g.S.Shelf.bytes c.args.shelf.now c.args.plan.now)
+          (g.S.Shelf.picked c.validate_numbered.new.shelf) (g.S.Shelf.rest c.validate_numbered.new.shelf) (g.O.Sink.taken c.args.out.now) (g.O.Sink.taken c.validate_numbered.new.out)) c.in-Ok.ensures.of k.1,
+    )

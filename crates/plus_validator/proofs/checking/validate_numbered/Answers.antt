@@ -21,7 +21,7 @@ returns-in-Err-clause-write_fault g c = λ h.
 
 pub returns-in-Err-clause-no_memory : goal.returns-in-Err-clause-no_memory
 returns-in-Err-clause-no_memory g c = λ h.
-    ungrounded_memory c.args.numbering.now.typed.now.domain c.args.numbering.now.typed.now.problem _ _ _ _ c.refuse.result (c.refuse.ensures.refused c.args.numbering.now.typed.now.domain c.args.numbering.now.typed.now.problem c.in-Err.ensures.limits) h
+    inl (ungrounded_memory c.args.numbering.now.typed.now.domain c.args.numbering.now.typed.now.problem _ _ _ _ c.refuse.result (c.refuse.ensures.refused c.args.numbering.now.typed.now.domain c.args.numbering.now.typed.now.problem c.in-Err.ensures.limits) h)
 
 pub returns-clause-refused : goal.returns-clause-refused
 returns-clause-refused g c = λ h. inr (c.validate_ground.ensures.refused h)

@@ -1,7 +1,8 @@
-use Rattle.std.specs.Prelude.{IfOk, Result, Ok, Err}
+use Rattle.std.specs.Prelude.{[], IfOk, Result, Ok, Err}
 use Rattle.plus_number.specs.Frac.{fraction_of}
 use Rattle.plus_state.specs.View.{problem_of, labels_of}
 use Rattle.plus_validator.specs.declared.judgement.Judgement.{Judgement}
+use Rattle.plus_validator.specs.Account.{progress}
 use Rattle.plus_validator.specs.Judged.{SumsUp, IsJudged}
 use Rattle.plus_validator.proofs.Judging.{judged}
 use Rattle.plus_validator.proofs.StreamLemmas.{fresh_now, played_same}
@@ -24,9 +25,9 @@ returns c =
     let N = labels_of c.args.ground.now in
     let P = problem_of fraction_of c.args.ground.now in
     record {
-      judged = if_ok c.sum_up.result (SumsUp N P c.play_bytes-played.new.feed.run c.play_bytes-played.result) (IsJudged d p c.args.happenings c.args.bytes.now)
+      judged = if_ok c.sum_up.result (SumsUp N P c.play_bytes-played.new.feed.run c.play_bytes-played.result) (λ (j : Judgement). IsJudged d p c.args.happenings c.args.bytes.now j.bytes.items j)
           (λ (j : Judgement) u.
-          judged d p N P c.args.happenings c.args.bytes.now c.in_ok-feed.feed.run c.play_bytes-played.new.feed.run c.requires.groundable j c.play_bytes-played.result
+          judged d p N P c.args.happenings c.args.bytes.now (progress [] c.in_ok-feed.feed.run) [] c.play_bytes-played.new.feed.run c.requires.groundable j c.play_bytes-played.result
           c.requires.expands.expands c.requires.expands.labels c.in_ok-feed.ensures.begins.begins
           (played_same _ _ N P c.in_ok-feed.ensures.begins.same _ _ _ _ c.play_bytes-played.ensures.played) c.play_bytes-played.ensures.fits u)
           c.sum_up.ensures.sums;

@@ -1,8 +1,10 @@
-use Rattle.std.proofs.Common.{refl, ap, sym, subst, ◌∙◌}
+use Rattle.std.proofs.Common.{◌++◌, refl, ap, sym, subst, ◌∙◌, append_assoc}
 use Rattle.plus_model.specs.Terms.{State}
 use Rattle.plus_state.specs.Changes.{patched, RisesIn}
 use Rattle.plus_number.specs.Frac.{fraction_of}
 use Rattle.plus_state.specs.View.{problem_of, labels_of, action_of}
+use Rattle.plus_report.specs.Text.{act_text}
+use Rattle.plus_validator.specs.Account.{progress}
 use Rattle.plus_validator.specs.declared.run.Run.{Run}
 use Rattle.plus_validator.proofs.Shown.{act_reported}
 use Rattle.plus_validator.proofs.Played.{acts_once}
@@ -17,14 +19,15 @@ pub write_act_changes-requires-clause-changes : goal.write_act_changes-requires-
 write_act_changes-requires-clause-changes c = subst (λ (s : State). RisesIn s c.changes.result.now) (sym c.before-2.ensures.state) c.changes.ensures.rises
 
 pub returns-clause-acts : goal.returns-clause-acts
-returns-clause-acts c =
+returns-clause-acts c = λ sent.
     let N = labels_of c.args.ground.now in
     let P = problem_of fraction_of c.args.ground.now in
     let new : Run = record { timeline = c.act.new.self; report = c.write_act_changes.new.out; entries = c.args.self.now.entries; firings = c.args.self.now.firings; ended = c.args.self.now.ended } in
     acts_once (pair_in c.args.instances.now.numbering.now.typed.now) N P c.args.call.now (action_of fraction_of c.at-action.result.now)
-    c.args.self.now new c.requires.can (made_here _ _ _ _ _ _ c.in-Ok.ensures.made c.at-action.ensures).called c.in_default.ensures.told.pass c.in_default.ensures.told.does refl
-    (act_reported c.args.self.now.report.bytes.items c.write_act_changes.new.out.bytes.items N c.at-action.result.now.label c.before-2.result.now (patched c.before-2.result.now c.changes.result.now)
-    c.act.new.self.line.before c.act.new.self.line.now.state c.in_ok-write_act_changes.ensures.outcome c.before-2.ensures.state (ap (λ (s : State). patched s c.changes.result.now) c.before-2.ensures.state ∙ sym c.changes.ensures.is)) refl refl c.in_default.ensures.knows
+    (progress sent c.args.self.now) (progress sent new) c.requires.can (made_here _ _ _ _ _ _ c.in-Ok.ensures.made c.at-action.ensures).called c.in_default.ensures.told.pass c.in_default.ensures.told.does refl
+    (ap (λ x. sent ++ x) (act_reported c.args.self.now.report.bytes.items c.write_act_changes.new.out.bytes.items N c.at-action.result.now.label c.before-2.result.now (patched c.before-2.result.now c.changes.result.now)
+    c.act.new.self.line.before c.act.new.self.line.now.state c.in_ok-write_act_changes.ensures.outcome c.before-2.ensures.state (ap (λ (s : State). patched s c.changes.result.now) c.before-2.ensures.state ∙ sym c.changes.ensures.is))
+    ∙ sym (append_assoc sent c.args.self.now.report.bytes.items (act_text N c.at-action.result.now.label c.act.new.self.line.before c.act.new.self.line.now.state))) refl refl c.in_default.ensures.knows
 
 pub returns-in-Err-clause-fits : goal.returns-in-Err-clause-fits
 returns-in-Err-clause-fits c = c.refused_call.ensures.fits (problem_of fraction_of c.args.ground.now)
@@ -42,15 +45,15 @@ returns-in-Err-act-clause-fits c =
     c.halted.ensures c.in-Err-act.ensures.told
 
 pub returns-in-Err-clause-stops : goal.returns-in-Err-clause-stops
-returns-in-Err-clause-stops c =
+returns-in-Err-clause-stops c = λ sent.
     call_halts_in (pair_in c.args.instances.now.numbering.now.typed.now) (labels_of c.args.ground.now) (problem_of fraction_of c.args.ground.now) c.args.line
-    c.args.call.now c.in-Err.fault c.args.self.now c.refused_call.result c.requires.can c.in-Err.ensures.refused c.refused_call.ensures.says
+    c.args.call.now c.in-Err.fault (progress sent c.args.self.now) c.refused_call.result c.requires.can c.in-Err.ensures.refused c.refused_call.ensures.says
 
 pub returns-in-Err-act-clause-stops : goal.returns-in-Err-act-clause-stops
-returns-in-Err-act-clause-stops c =
+returns-in-Err-act-clause-stops c = λ sent.
     let d = pair_in c.args.instances.now.numbering.now.typed.now in
     let N = labels_of c.args.ground.now in
     let P = problem_of fraction_of c.args.ground.now in
     let new : Run = record { timeline = c.act.new.self; report = c.args.self.now.report; entries = c.args.self.now.entries; firings = c.args.self.now.firings; ended = c.args.self.now.ended } in
-    act_halts_in d N P c.args.line c.args.call.now (action_of fraction_of c.at-action.result.now) c.args.self.now new c.in-Err-act.stop c.halted.result c.requires.can (made_here _ _ _ _ _ _ c.in-Ok.ensures.made c.at-action.ensures).called
+    act_halts_in d N P c.args.line c.args.call.now (action_of fraction_of c.at-action.result.now) (progress sent c.args.self.now) (progress sent new) c.in-Err-act.stop c.halted.result c.requires.can (made_here _ _ _ _ _ _ c.in-Ok.ensures.made c.at-action.ensures).called
     c.halted.ensures c.in-Err-act.ensures.told refl

@@ -1,6 +1,7 @@
-use Rattle.std.proofs.Common.{refl, ap, ◌∙◌, false, ◌++◌}
+use Rattle.std.proofs.Common.{refl, ap, ◌∙◌, false, [], ◌++◌}
 use Rattle.plus_number.specs.Frac.{fraction_of}
 use Rattle.plus_state.specs.View.{problem_of, labels_of}
+use Rattle.plus_validator.specs.Account.{progress}
 use Rattle.plus_validator.specs.declared.run.Run.{Run}
 use Rattle.plus_timeline.specs.declared.next.Next.TheVariants.{Entry}
 use Rattle.plus_validator.specs.Standing.{next_text}
@@ -13,7 +14,7 @@ returns-clause-begins c =
     let N = labels_of c.args.ground.now in
     let P = problem_of fraction_of c.args.ground.now in
     let new : Run = record { timeline = c.in_ok-timeline.timeline; report = c.write_next.new.report; entries = 1; firings = 0; ended = false } in
-    begins N P c.args.happenings c.time.result new c.requires.some c.in_ok-timeline.ensures.begun c.in_ok-timeline.ensures.knows refl
+    begins N P c.args.happenings c.time.result (progress [] new) c.requires.some c.in_ok-timeline.ensures.begun c.in_ok-timeline.ensures.knows refl
     c.time.ensures
     (account_by (c.in_ok-write_next.ensures ∙ ap (λ x. x ++ next_text fraction_of N P c.in_ok-timeline.timeline.line (Entry c.time.result)) c.new-report.ensures) refl refl)
 

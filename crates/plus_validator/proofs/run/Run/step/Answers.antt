@@ -1,9 +1,10 @@
-use Rattle.std.proofs.Common.{◌+◌, refl, sym, subst}
+use Rattle.std.proofs.Common.{◌+◌, ◌++◌, refl, ap, sym, subst, ◌∙◌, append_assoc}
 use Rattle.plus_number.specs.Frac.{fraction_of}
 use Rattle.plus_state.specs.View.{problem_of, labels_of}
+use Rattle.plus_validator.specs.Account.{progress}
 use Rattle.plus_validator.specs.declared.run.Run.{Run}
 use Rattle.plus_validator.specs.Running.{Steps}
-use Rattle.plus_validator.specs.Standing.{entries_in, firings_in}
+use Rattle.plus_validator.specs.Standing.{entries_in, firings_in, next_text}
 use Rattle.plus_validator.proofs.Steps.{account_by, step_shown}
 use Rattle.plus_validator.proofs.Runs.{step_says}
 use Rattle.plus_validator.proofs.Halting.{advance_goes_on, advance_halts}
@@ -16,7 +17,7 @@ write_next-requires-clause-shown c =
     c.in-Ok.ensures.told.does
 
 pub returns-clause-steps : goal.returns-clause-steps
-returns-clause-steps c =
+returns-clause-steps c = λ sent.
     let N = labels_of c.args.ground.now in
     let P = problem_of fraction_of c.args.ground.now in
     let old = c.args.self.now in
@@ -28,10 +29,10 @@ returns-clause-steps c =
       firings = old.firings + firings_in c.advance.new.self.line c.in-Ok.next;
       ended = old.ended;
     } in
-    subst (λ (r : Run). Steps N P u old r c.is_there.result) (sym c.in_ok-count.ensures)
-    (subst (Steps N P u old new) (sym c.is_there.ensures)
-    (step_says N P u old new c.in-Ok.next c.requires.can c.in-Ok.ensures.told.does c.in-Ok.ensures.told.pass refl
-    (account_by c.in_ok-write_next.ensures refl refl) c.in-Ok.ensures.knows))
+    subst (λ (r : Run). Steps N P u (progress sent old) (progress sent r) c.is_there.result) (sym c.in_ok-count.ensures)
+    (subst (Steps N P u (progress sent old) (progress sent new)) (sym c.is_there.ensures)
+    (step_says N P u (progress sent old) (progress sent new) c.in-Ok.next c.requires.can c.in-Ok.ensures.told.does c.in-Ok.ensures.told.pass refl
+    (account_by (ap (λ x. sent ++ x) c.in_ok-write_next.ensures ∙ sym (append_assoc sent old.report.bytes.items (next_text fraction_of N P c.advance.new.self.line c.in-Ok.next))) refl refl) c.in-Ok.ensures.knows))
 
 pub halted-requires : goal.halted-requires
 halted-requires c =
@@ -44,8 +45,8 @@ returns-in-Err-clause-fits c =
     c.args.ground.now.fits c.halted.ensures c.in-Err.ensures.told
 
 pub returns-in-Err-clause-stops : goal.returns-in-Err-clause-stops
-returns-in-Err-clause-stops c =
+returns-in-Err-clause-stops c = λ sent.
     let N = labels_of c.args.ground.now in
     let P = problem_of fraction_of c.args.ground.now in
     let new : Run = record { timeline = c.advance.new.self; report = c.args.self.now.report; entries = c.args.self.now.entries; firings = c.args.self.now.firings; ended = c.args.self.now.ended } in
-    advance_halts_on N P (fraction_of c.args.until) c.args.self.now new c.in-Err.stop c.halted.result c.requires.can c.halted.ensures c.in-Err.ensures.told refl
+    advance_halts_on N P (fraction_of c.args.until) (progress sent c.args.self.now) (progress sent new) c.in-Err.stop c.halted.result c.requires.can c.halted.ensures c.in-Err.ensures.told refl

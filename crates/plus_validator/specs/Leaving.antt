@@ -1,0 +1,80 @@
+-- What the check of a plan leaves written where it stops before the plan is judged: the report of the lines read so far.
+use Rattle.std.specs.Prelude.{◌≡◌, ◌⊎◌, ℕ, ◌≤◌, false, List, map, All, Option, None, IfSome, Ok}
+use Rattle.plus_io.specs.Files.{Takes, IsPrefix}
+use Rattle.plus_io.specs.Taken.{Took, TookPart}
+use Rattle.plus_model.specs.Terms.{Problem}
+use Rattle.plus_model.specs.History.{Part}
+use Rattle.plus_model.specs.Trajectory.{Prefix}
+use Rattle.plus_number.specs.Frac.{IsFrac64}
+use Rattle.plus_state.specs.View.{Labels}
+use Rattle.plus_tree.specs.declared.trees.Domain.{Domain}
+use Rattle.plus_tree.specs.declared.trees.Problem as tree
+use Rattle.plus_plan.specs.declared.forms.Line.{Line}
+use Rattle.plus_plan.specs.declared.forms.PlanForm.TheVariants.{Timed}
+use Rattle.plus_plan.specs.Lines.{plan_lines}
+use Rattle.plus_expansion.specs.Expansion.{expanded, labels_meant}
+use Rattle.plus_expansion.specs.Counting.{IsGroundable}
+use Rattle.plus_report.specs.Report.{report_of}
+use Rattle.plus_validator.specs.Asking.{entries_of, instances_of, IsClear}
+use Rattle.plus_validator.specs.Plans.{Pair, pair, plan_of, HasValue}
+use Rattle.plus_validator.specs.Refused.{IsWaiting, IsCut}
+use Rattle.plus_validator.specs.Validates.{BreaksOff}
+
+-- All whole lines of this text are played: each is a line, all are worked in one history, nothing that is asked before fails,
+-- and this is the history's report.
+pub record IsToldSoFar (d : Pair) (N : Labels) (P : Problem) (most : ℕ) (text report : List ℕ) : Type 0 where
+  pub groundable : IsGroundable IsFrac64 d.domain d.problem
+  pub whole : List ℕ
+  pub piece : List ℕ
+  pub cut : IsCut text whole piece
+  pub lines : List Line
+  pub read : plan_lines Timed whole ≡ map Ok lines
+  pub times : All HasValue lines
+  pub history : List Part
+  pub prefix : Prefix P (plan_of d lines false) history
+  pub few : entries_of history ≤ most
+  pub clear : IsClear P (plan_of d lines false) most (instances_of d lines) history
+  pub waits : IsWaiting P (plan_of d lines false) most (instances_of d lines) history
+  pub written : report ≡ report_of N P (plan_of d lines false) history
+
+-- that of a pair
+abbrev pub TellsSoFar : Domain → tree.Problem → ℕ → List ℕ → List ℕ → Type 0
+TellsSoFar d p most text report = IsToldSoFar (pair d p) (labels_meant d p) (expanded d p) most text report
+
+-- ---- the shelf fails
+
+-- Nothing is picked, and nothing was written; or all that the lines tell is out that stand whole in what was read.
+pub data StopsReading (d : Domain) (p : tree.Problem) (most : ℕ) (bytes picked rest old new : Option (List ℕ)) : Type 0 where
+  unpicked : picked ≡ None → new ≡ old → StopsReading d p most bytes picked rest old new
+  reading :
+      (read report : List ℕ) → Takes bytes rest read → TellsSoFar d p most read report → Took old new report
+      → StopsReading d p most bytes picked rest old new
+
+-- ---- memory is wanting
+
+-- the sink took the report for a beginning of the plan text
+pub record TookSoFar (d : Domain) (p : tree.Problem) (most : ℕ) (text : List ℕ) (old new : Option (List ℕ)) : Type 0 where
+  pub read : List ℕ
+  pub begins : IsPrefix read text
+  pub report : List ℕ
+  pub told : TellsSoFar d p most read report
+  pub took : Took old new report
+
+-- or nothing
+abbrev pub LeavesReport : Domain → tree.Problem → ℕ → Option (List ℕ) → Option (List ℕ) → Option (List ℕ) → Type 0
+LeavesReport d p most bytes old new = (new ≡ old) ⊎ IfSome bytes (λ text. TookSoFar d p most text old new)
+
+-- ---- the sink fails
+
+-- it took some first bytes of the report for a beginning of the plan text, and not all
+pub record BreaksOffSoFar (d : Domain) (p : tree.Problem) (most : ℕ) (text : List ℕ) (old new : Option (List ℕ)) : Type 0 where
+  pub read : List ℕ
+  pub begins : IsPrefix read text
+  pub report : List ℕ
+  pub told : TellsSoFar d p most read report
+  pub part : TookPart old new report
+
+-- so it is, or it took all that is due before the end of the plan text, and then a part
+pub data StopsWriting (d : Domain) (p : tree.Problem) (most : ℕ) (bytes old new : Option (List ℕ)) : Type 0 where
+  on_way : IfSome bytes (λ text. BreaksOffSoFar d p most text old new) → StopsWriting d p most bytes old new
+  at_end : IfSome bytes (λ text. BreaksOff d p most text old new) → StopsWriting d p most bytes old new
