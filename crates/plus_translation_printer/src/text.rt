@@ -1,6 +1,6 @@
 //! The text of one half of a translation.
 
-ghost use Rattle.std.specs.Prelude.{◌≡◌, ◌++◌, map, IfOk, OnOk};
+ghost use Rattle.std.specs.Prelude.{◌≡◌, map};
 ghost use Rattle.std.specs.List.{flat_map};
 ghost use Rattle.plus_report.specs.Puts.{Puts};
 ghost use Rattle.plus_report.specs.Wrote.{Wrote};
@@ -10,7 +10,7 @@ use crate::own::OldText;
 use crate::put::{Waiting, flush, put, put_both};
 use crate::shared::Shared;
 use plus_io::{Failed, Sink};
-use std::alloc::{AllocError, Global};
+use std::alloc::Global;
 use std::marker::Model;
 
 fn put_old<O: Sink>(
