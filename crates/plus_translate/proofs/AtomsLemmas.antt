@@ -8,7 +8,6 @@ use Rattle.std.proofs.lemmas.List.Folds.{list_any-append}
 use Rattle.std.proofs.lemmas.Slice.Eq.{bytes_eq-Decides}
 use Rattle.plus_tree.specs.declared.terms.Use.{Use}
 use Rattle.plus_types.specs.Faults.{ground_name, same_names}
-use Rattle.plus_types.proofs.NamesLemmas.{any-same-shown}
 use Rattle.plus_translation.specs.Translated.{same_atom}
 use Rattle.plus_translate.specs.Atoms.{names_of, IsTableOf}
 
@@ -36,6 +35,20 @@ names_are (x ∷ xs) (y ∷ ys) e =
     let head : x ≡ y = (bytes_eq-Decides x y).0 (first_true (bytes_eq x y) (same_names xs ys) e) in
     let tail : xs ≡ ys = names_are xs ys (second_true (bytes_eq x y) (same_names xs ys) e) in
     ap (λ z. z ∷ xs) head ∙ ap (λ zs. y ∷ zs) tail
+
+-- names that are lent are compared as the lists of their bytes
+same-shown : (xs ys : List (Bor (List ℕ))) → pointwise (λ x z. bytes_eq x.now z.now) xs ys ≡ same_names (map (λ n. n.now) xs) (map (λ n. n.now) ys)
+same-shown [] [] = refl
+same-shown [] (y ∷ ys) = refl
+same-shown (x ∷ xs) [] = refl
+same-shown (x ∷ xs) (y ∷ ys) = ap (λ b. bytes_eq x.now y.now && b) (same-shown xs ys)
+
+any-same-shown : (k : List (Bor (List ℕ))) (keys : List Key)
+    → list_any (λ y. pointwise (λ x z. bytes_eq x.now z.now) k y.items) keys ≡ list_any (same_names (map (λ n. n.now) k)) (names_of keys)
+any-same-shown k [] = refl
+any-same-shown k (y ∷ ys) =
+    ap (λ b. b || list_any (λ z. pointwise (λ x w. bytes_eq x.now w.now) k z.items) ys) (same-shown k y.items)
+    ∙ ap (λ b. same_names (map (λ n. n.now) k) (map (λ n. n.now) y.items) || b) (any-same-shown k ys)
 
 -- whether an atom is found, by its key
 pub found : (key : Key) (keys : List Key) (atoms : List Use) (atom : Use) → map (λ n. n.now) key.items ≡ ground_name atom → IsTableOf keys atoms
