@@ -266,12 +266,7 @@ fn canonical_text(rt: HostRuntime) -> Result<(), Fail> {
 #[test]
 fn faults(rt: HostRuntime) -> Result<(), Fail> {
     let alloc = rt.alloc();
-    for (name, call, output) in [
-        ("d", 0, ""),
-        ("p", 0, ""),
-        ("l", 0, ""),
-        ("l", 1, "at 0\n"),
-    ] {
+    for (name, call, output) in [("d", 0, ""), ("p", 0, ""), ("l", 0, ""), ("l", 1, "at 0\n")] {
         let mut shelf = shelf_of(alloc, DOOR, D1, OPENED)?;
         shelf.fail(name, call)?;
         let out = MemSink::new(alloc, 64);

@@ -16,10 +16,11 @@ returns-in-Ok-clause-answers g c =
       usage = λ v. absurd (no_usage c.validate.result c.of.result c.of.ensures v);
       no_command = λ n. some_none _ n;
       read_fault = λ v.
-          let h = c.validate.ensures.read_fault (only_read c.validate.result (sym c.of.ensures ∙ v)) in
-          (rose_before _ _ _ c.in-Ok.ensures.keeps.no_fall h.0,
-          plan_stopped _ _ _ _ _ c.in-Ok.typed.domain c.in-Ok.typed.problem _ _ same c.in-Ok.ensures.read c.in-Ok.typed.well_typed
-              (reading_leaves _ _ _ _ _ _ _ _ h.1));
+          let h = c.validate.ensures.read_fault (only_read c.validate.result (sym c.of.ensures ∙ v)) in (
+            rose_before _ _ _ c.in-Ok.ensures.keeps.no_fall h.0,
+            plan_stopped _ _ _ _ _ c.in-Ok.typed.domain c.in-Ok.typed.problem _ _ same c.in-Ok.ensures.read c.in-Ok.typed.well_typed
+                (reading_leaves _ _ _ _ _ _ _ _ h.1),
+          );
       write_fault = λ v. (
         (c.validate.ensures.write_fault (only_broken c.validate.result (sym c.of.ensures ∙ v))).0,
         plan_broken _ _ _ _ _ c.in-Ok.typed.domain c.in-Ok.typed.problem _ _ _ _ _ _ same c.in-Ok.ensures.read c.in-Ok.typed.well_typed
@@ -27,7 +28,7 @@ returns-in-Ok-clause-answers g c =
       );
       no_memory = λ v.
           plan_stopped _ _ _ _ _ c.in-Ok.typed.domain c.in-Ok.typed.problem _ _ same c.in-Ok.ensures.read c.in-Ok.typed.well_typed
-              (c.validate.ensures.no_memory (only_memory c.validate.result (sym c.of.ensures ∙ v)));
+          (c.validate.ensures.no_memory (only_memory c.validate.result (sym c.of.ensures ∙ v)));
     }
 
 pub returns-in-Err-Early-clause-answers : goal.returns-in-Err-Early-clause-answers
