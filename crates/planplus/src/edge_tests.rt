@@ -15,14 +15,20 @@ const TEXT_LIMIT: usize = 1048576;
 // How many bytes one read gives at most.
 const PIECE: usize = 16;
 
-// What is out where the pick of the plan fails, or its first read, and so on: what the lines tell
-// that stand whole in what was read before.
-const TOLD: [&str; 4] = [
-    "",
-    "at 0\n",
-    "at 0\n  run\nat 1\n  act (unlock)\n    - (locked)\n",
-    "at 0\n  run\nat 1\n  act (unlock)\n    - (locked)\n  run\nat 3\n  act (open-door)\n    - (closed)\n",
-];
+// What is out where the pick of the plan `l` fails, at 0, or its first read, at 1, and so on: what the
+// lines tell that stand whole in what was read before.
+fn told_before(name: &str, call: usize) -> &'static [u8] {
+    if name != "l" {
+        return b"".as_slice();
+    }
+    match call {
+        1 => b"at 0\n".as_slice(),
+        2 => b"at 0\n  run\nat 1\n  act (unlock)\n    - (locked)\n".as_slice(),
+        3 =>
+            b"at 0\n  run\nat 1\n  act (unlock)\n    - (locked)\n  run\nat 3\n  act (open-door)\n    - (closed)\n".as_slice(),
+        _ => b"".as_slice(),
+    }
+}
 
 // How much is out where the first write fails, or the second, and so on, and where none fails. The entry
 // at the start is written alone, then what the piece of the plan tells, and then the verdict.
@@ -45,11 +51,7 @@ fn each_pick_and_read_that_fails(rt: HostRuntime) -> Result<(), Fail> {
             let answer = run(alloc, &words, &mut shelf, &mut out);
             if call <= reads {
                 assert_eq!(rt; answer, Status::ReadFault, "{name} {call}");
-                let told = match TOLD.get(call) {
-                    Some(told) if name == "l" => *told,
-                    _ => "",
-                };
-                assert_eq!(rt; out.bytes(), told.as_bytes(), "{name} {call}");
+                assert_eq!(rt; out.bytes(), told_before(name, call), "{name} {call}");
             } else {
                 assert_eq!(rt; answer, Status::Valid, "{name} {call}");
                 assert_eq!(rt; out.bytes(), OPENED_REPORT.as_bytes(), "{name} {call}");
