@@ -65,36 +65,19 @@ pub fn value<Q: Exact>(expr: &Expr<Q>, state: &State<Q>) -> Result<Option<Q>, Ov
     requires { IsIn (length (state.now.fluents)) (expression_of Q.value expr.now) }
     ensures { Tells Q.value Q.fits (nodes (expression_of Q.value expr.now) state.now) (λ o. option_map Q.value o ≡ value_of (expression_of Q.value expr.now) state.now) result }
 {
-    match expr {
-        Expr::Number(x) => Ok(Some(*x)),
-        Expr::Fluent(f) => Ok(state.fluent(*f)),
-        Expr::Add(a, b) => match value(a, state)? {
+    let (sign, left, right) = match expr {
+        Expr::Number(x) => return Ok(Some(*x)),
+        Expr::Fluent(f) => return Ok(state.fluent(*f)),
+        Expr::Add(a, b) => (Sign::Plus, a, b),
+        Expr::Sub(a, b) => (Sign::Minus, a, b),
+        Expr::Mul(a, b) => (Sign::Times, a, b),
+        Expr::Div(a, b) => (Sign::Divide, a, b),
+    };
+    match value(left, state)? {
+        None => Ok(None),
+        Some(x) => match value(right, state)? {
             None => Ok(None),
-            Some(x) => match value(b, state)? {
-                None => Ok(None),
-                Some(y) => Ok(calculate(Sign::Plus, x, y)?),
-            },
-        },
-        Expr::Sub(a, b) => match value(a, state)? {
-            None => Ok(None),
-            Some(x) => match value(b, state)? {
-                None => Ok(None),
-                Some(y) => Ok(calculate(Sign::Minus, x, y)?),
-            },
-        },
-        Expr::Mul(a, b) => match value(a, state)? {
-            None => Ok(None),
-            Some(x) => match value(b, state)? {
-                None => Ok(None),
-                Some(y) => Ok(calculate(Sign::Times, x, y)?),
-            },
-        },
-        Expr::Div(a, b) => match value(a, state)? {
-            None => Ok(None),
-            Some(x) => match value(b, state)? {
-                None => Ok(None),
-                Some(y) => Ok(calculate(Sign::Divide, x, y)?),
-            },
+            Some(y) => calculate(sign, x, y),
         },
     }
 }
