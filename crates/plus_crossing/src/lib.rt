@@ -17,8 +17,6 @@ pub mod node;
 pub mod pieces;
 pub mod rates;
 pub mod roots;
-#[cfg(test)]
-mod tests;
 
 pub use afters::just_after;
 pub use crossings::next_crossing;

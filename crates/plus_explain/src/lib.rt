@@ -10,8 +10,6 @@ pub mod marked;
 pub mod named;
 pub mod place;
 pub mod reasons;
-#[cfg(test)]
-mod tests;
 
 pub use commands::{append_commands, word_for};
 pub use ending::Ending;

@@ -11,6 +11,3 @@ pub mod strong;
 pub use graph::Graph;
 pub use search::entered_by;
 pub use strong::components;
-
-#[cfg(test)]
-mod tests;

@@ -9,8 +9,6 @@ mod quiet;
 mod shelf;
 mod sink;
 mod stored;
-#[cfg(test)]
-mod tests;
 
 pub use fault::{Failed, ReadStop};
 pub use mem_shelf::MemShelf;

@@ -12,6 +12,3 @@ pub use exact::{Exact, Outside};
 pub use frac::Frac64;
 pub use ticks::Ticks;
 pub use widening::widen;
-
-#[cfg(test)]
-mod tests;

@@ -8,8 +8,6 @@ pub mod laws;
 pub mod lines;
 mod pieces;
 mod reader;
-#[cfg(test)]
-mod tests;
 pub mod values;
 
 pub use faults::PlanFault;

@@ -9,8 +9,6 @@ mod parts;
 mod plans;
 mod put;
 mod refusals;
-#[cfg(test)]
-mod tests;
 mod verdicts;
 
 pub use parts::{

@@ -3,8 +3,6 @@
 
 mod farm;
 mod summary;
-#[cfg(test)]
-mod tests;
 mod text;
 
 pub use farm::{domain_text, plan_text, problem_text};

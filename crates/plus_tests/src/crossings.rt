@@ -4,7 +4,7 @@ ghost use Rattle.plus_fraction.specs.Fraction.{whole, ◌≤ℚ◌};
 ghost use Rattle.plus_state.specs.View.{condition_of, expression_of};
 ghost use Rattle.plus_state.specs.Fits.{Fits, IsIn, comparisons};
 
-use crate::{PieceStop, Rates, just_after, moved, moved_changes, next_crossing, piece};
+use plus_crossing::{PieceStop, Rates, just_after, moved, moved_changes, next_crossing, piece};
 use plus_number::consts::{one, zero};
 use plus_number::exact::Exact;
 use plus_number::frac::Frac64;

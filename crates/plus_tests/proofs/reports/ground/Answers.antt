@@ -4,7 +4,7 @@ use Rattle.std.proofs.lemmas.Grind.{common_steps}
 use Rattle.std.proofs.lemmas.List.Elements.{All-map}
 use Rattle.plus_state.specs.Fits.{ProcessFits, EventFits}
 use Rattle.plus_state.proofs.FitsLemmas.{untimed_fits}
-use Rattle.plus_report.proofs.tests.ground.Goals as goal
+use Rattle.plus_tests.proofs.reports.ground.Goals as goal
 
 pub invariant_of-result : goal.invariant_of-result
 invariant_of-result c = record {

@@ -1,6 +1,6 @@
 //! Tokens as the table of the language has them: each kind, each fault, and both sides of each limit.
 
-use crate::{Kind, LexFault, Op, Token, next_token};
+use plus_tokens::{Kind, LexFault, Op, Token, next_token};
 use std::test::Fail;
 
 fn number(negative: bool, digits: u128, places: u8) -> Kind {

@@ -1,6 +1,6 @@
 //! Outside vectors, made by Python's `fractions`.
-use crate::consts::is_zero;
-use crate::{Exact, Frac64, Outside, Ticks, widen};
+use plus_number::consts::is_zero;
+use plus_number::{Exact, Frac64, Outside, Ticks, widen};
 use std::cmp::Ordering;
 
 #[derive(Clone, Copy)]

@@ -1,6 +1,8 @@
 //! What no clause says: that calls succeed with ample memory, over pieces of each size.
 
-use crate::{MemShelf, MemSink, QuietShelf, QuietSink, ReadStop, Shelf, Sink, read_all, write_all};
+use plus_io::{
+    MemShelf, MemSink, QuietShelf, QuietSink, ReadStop, Shelf, Sink, read_all, write_all,
+};
 use std::test::Fail;
 
 const TEXT: &str = "(define (domain tank))";

@@ -2,7 +2,7 @@ use Rattle.std.proofs.Common.{◌≡◌, [], sym, subst, refl}
 use Rattle.plus_model.specs.Terms.{Condition}
 use Rattle.plus_state.specs.Fits.{Fits, comparisons}
 use Rattle.plus_state.proofs.TestsLemmas.{all_view}
-use Rattle.plus_report.proofs.tests.always.Goals as goal
+use Rattle.plus_tests.proofs.reports.always.Goals as goal
 
 pub returns-clause-fits : goal.returns-clause-fits
 returns-clause-fits c = subst (Fits 2 1) (all_view _ _ _ [] refl (sym c.new.ensures.items)) tt

@@ -1,12 +1,12 @@
 //! What is written beside an answer, as a person reads it.
 
-use crate::commands::{FORMS, append_commands, word_for};
-use crate::ending::{Ending, last_line};
-use crate::kept::Kept;
-use crate::marked::append_marked;
-use crate::named::{Bytes, Named};
-use crate::place::{Place, line_offset};
-use crate::reasons::{append_place, append_reasons};
+use plus_explain::commands::{FORMS, append_commands, word_for};
+use plus_explain::ending::{Ending, last_line};
+use plus_explain::kept::Kept;
+use plus_explain::marked::append_marked;
+use plus_explain::named::{Bytes, Named};
+use plus_explain::place::{Place, line_offset};
+use plus_explain::reasons::{append_place, append_reasons};
 use plus_io::{MemShelf, MemSink, Shelf, Sink, read_all, write_all};
 use std::alloc::Global;
 use std::test::Fail;

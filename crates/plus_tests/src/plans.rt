@@ -1,5 +1,5 @@
-use crate::{Line, PlanFault, PlanForm, PlanReader, Time, line_at, time_value};
 use plus_number::exact::Exact;
+use plus_plan::{Line, PlanFault, PlanForm, PlanReader, Time, line_at, time_value};
 use plus_tree::{Call, Span};
 use std::test::*;
 

@@ -1,6 +1,6 @@
 //! Components and searches of a small graph.
 
-use crate::{Graph, components, entered_by};
+use plus_graph::{Graph, components, entered_by};
 use std::alloc::{AllocError, Global};
 use std::test::Fail;
 

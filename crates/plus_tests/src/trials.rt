@@ -1,5 +1,5 @@
 //! The texts of two tanks, and the line of three.
-use crate::{Summary, Word, domain_text, plan_text, problem_text, summary_text};
+use plus_trial::{Summary, Word, domain_text, plan_text, problem_text, summary_text};
 use std::test::Fail;
 
 #[test]

@@ -4,11 +4,11 @@ ghost use Rattle.plus_state.specs.View.{condition_of, event_of, process_of, prob
 ghost use Rattle.plus_state.specs.Fits.{Fits, EventFits, ProcessFits, StateFits, comparisons};
 ghost use Rattle.plus_report.specs.Verdicts.{VerdictFits};
 
-use crate::{Early, Kinds, Text, Verdict, Word, write_early, write_verdict};
 use plus_io::{Failed, MemSink};
 use plus_number::consts::zero;
 use plus_number::exact::Exact;
 use plus_number::frac::Frac64;
+use plus_report::{Early, Kinds, Text, Verdict, Word, write_early, write_verdict};
 use plus_state::{
     Breach, Cond, Event, EventId, FluentId, Ground, Label, Limit, Overflow, Owner, Process,
     ProcessId, Sign, State,
