@@ -99,6 +99,19 @@ same_bottom-sub f g n e k = same (Is-over n f.d f.positive) (Is-sub (Is-parts (f
 pub same_bottom-compared : (f g : Frac64) → f.d ≡ g.d → compared (fraction_of f) (fraction_of g) ≡ int_cmp f.n g.n
 same_bottom-compared f g e = compared_by (pos f.d) (Is-parts (fraction_of f)) (same_bottom f g e)
 
+-- ---- an operand that is 0
+pub none-add : (f g : Frac64) → f.n ≡ pos 0 → fraction_of g ≡ fraction_of f +ℚ fraction_of g
+none-add f g e = same (Is-parts (fraction_of g)) (Is-add (Is-parts (fraction_of f)) (Is-parts (fraction_of g))) (joined f.n g.n (pos f.d) (pos g.d) e)
+  where
+    joined : (a b c d : ℤ) → a ≡ pos 0 → b *ℤ (c *ℤ d) ≡ (a *ℤ d +ℤ b *ℤ c) *ℤ d
+    joined a b c d e = rw e (simp products (omega (arith, linear)))
+
+pub less-none : (f g : Frac64) → g.n ≡ pos 0 → fraction_of f ≡ fraction_of f -ℚ fraction_of g
+less-none f g e = same (Is-parts (fraction_of f)) (Is-sub (Is-parts (fraction_of f)) (Is-parts (fraction_of g))) (joined f.n g.n (pos f.d) (pos g.d) e)
+  where
+    joined : (a b c d : ℤ) → b ≡ pos 0 → a *ℤ (c *ℤ d) ≡ (a *ℤ d -ℤ b *ℤ c) *ℤ c
+    joined a b c d e = rw e (simp products (omega (arith, linear)))
+
 -- ---- two fractions with different bottoms, whose cross products are a and b
 pub less_apart : (x y : Fraction) (a b : ℤ) → a ≡ x.top *ℤ pos y.bottom → b ≡ y.top *ℤ pos x.bottom → a <ℤ b → Less ≡ compared x y
 less_apart x y a b p q h = sym (less-compared x y (record { cross = subst (λ (c : ℤ). c <ℤ (y.top *ℤ pos x.bottom)) p (subst (λ (c : ℤ). a <ℤ c) q h) }))

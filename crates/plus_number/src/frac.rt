@@ -25,7 +25,7 @@ pub struct Frac64 {
 
 impl Frac64 {
     ghost use Rattle.plus_number.specs.Frac.{fraction_of, IsFrac64};
-    ghost use Rattle.plus_fraction.specs.Fraction.{over, whole, compared, sign_of};
+    ghost use Rattle.plus_fraction.specs.Fraction.{over, whole, ◌+ℚ◌, ◌-ℚ◌, compared, sign_of};
     ghost use Rattle.plus_number.specs.Exact.{Answers};
 
     // the whole number n
@@ -119,6 +119,28 @@ impl Frac64 {
         self.n as i128 * (other.d as i64) as i128
     }
 
+    // the sum
+    fn added(self, other: Frac64) -> Result<Frac64, Outside>
+        ensures { Answers fraction_of IsFrac64 (fraction_of self +ℚ fraction_of other) result }
+    {
+        if self.d == other.d {
+            self.over_bottom(self.n as i128 + other.n as i128)
+        } else {
+            Frac64::reduced(self.cross(other) + other.cross(self), self.bottoms(other))
+        }
+    }
+
+    // the difference
+    fn lessened(self, other: Frac64) -> Result<Frac64, Outside>
+        ensures { Answers fraction_of IsFrac64 (fraction_of self -ℚ fraction_of other) result }
+    {
+        if self.d == other.d {
+            self.over_bottom(self.n as i128 - other.n as i128)
+        } else {
+            Frac64::reduced(self.cross(other) - other.cross(self), self.bottoms(other))
+        }
+    }
+
     // the order where the bottoms differ, so that the fractions do
     fn order_apart(self, other: Frac64) -> Ordering
         requires { self.d ≢ other.d }
@@ -178,18 +200,18 @@ impl Exact for Frac64 {
     }
 
     fn add(self, other: Frac64) -> Result<Frac64, Outside> {
-        if self.d == other.d {
-            self.over_bottom(self.n as i128 + other.n as i128)
+        if self.n == 0 {
+            Ok(other)
         } else {
-            Frac64::reduced(self.cross(other) + other.cross(self), self.bottoms(other))
+            self.added(other)
         }
     }
 
     fn sub(self, other: Frac64) -> Result<Frac64, Outside> {
-        if self.d == other.d {
-            self.over_bottom(self.n as i128 - other.n as i128)
+        if other.n == 0 {
+            Ok(self)
         } else {
-            Frac64::reduced(self.cross(other) - other.cross(self), self.bottoms(other))
+            self.lessened(other)
         }
     }
 
