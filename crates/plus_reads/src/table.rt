@@ -24,7 +24,7 @@ impl Table {
     pub fn new(alloc: Global, keys: u32) -> Result<Table, AllocError>
         ensures { IfOk result (λ t. t ≡ replicate keys []) }
     {
-        let mut lists: Vec<Vec<u32>> = Vec::new(alloc);
+        let mut lists: Vec<Vec<u32>> = Vec::with_capacity(alloc, keys as usize)?;
         'keys: for _key in 0..keys {
             lists.push(Vec::new(alloc))?;
         }

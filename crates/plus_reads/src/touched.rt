@@ -13,6 +13,9 @@ use plus_state::term::{EventId, FluentId};
 use plus_state::walk::Conditional;
 use std::alloc::{AllocError, Global};
 
+// How many readers most steps wake.
+const FEW: usize = 8;
+
 // In order, each once. The numbers are a few lists that rise, one behind the other, and this sort merges such.
 fn sort_once(numbers: &mut Vec<u32>) -> Result<(), AllocError>
     ensures rises { IfOk result (λ _. IsRising 0 numbers.new.items) }
@@ -72,11 +75,11 @@ pub fn readers_by<I: Conditional>(
     Ok(members)
 }
 
-/// The numbers of these events.
+/// The numbers of these events, with room for a few more behind them.
 pub fn numbers_of(alloc: Global, events: &[EventId]) -> Result<Vec<u32>, AllocError>
     ensures { IfOk result (λ numbers. numbers.items ≡ event_numbers events.now) }
 {
-    let mut numbers = Vec::with_capacity(alloc, events.len())?;
+    let mut numbers = Vec::with_capacity(alloc, events.len().saturating_add(FEW))?;
     'each: for event in events {
         numbers.push(event.0)?;
     }
