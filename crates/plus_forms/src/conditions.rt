@@ -17,6 +17,9 @@ use plus_tokens::Kind;
 use plus_tree::{Comparison, CondNode, CondTree, Members, Span, Term, TextFault, TypedName};
 use std::alloc::Global;
 
+// The room that a list of conditions begins with: most have two members.
+const FEW: usize = 2;
+
 // The term that comes next.
 #[tactic(auto, unfolding(crate::specs::ReadingForms::term_next))]
 fn term(alloc: Global, reader: &mut Reader<'_>, room: u8) -> Result<Term, TextFault>
@@ -272,7 +275,7 @@ fn conds(
         (until_close (form_step (cond_at room)) room (length reader.old) [] reader.old) }
     ensures shorter { OnOk result (length reader.new < length reader.old) }
 {
-    let mut found = Vec::new(alloc);
+    let mut found = Vec::with_capacity(alloc, FEW)?;
     'found: loop {
         let token = reader.next(room)?;
         if is_close(token.kind) {

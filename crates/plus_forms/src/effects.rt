@@ -14,6 +14,9 @@ use plus_reading::words::{HeadWord, head_of, is_close, is_open};
 use plus_tree::{CondTree, EffectNode, EffectTree, Leaf, Members, Span, TextFault, TypedName};
 use std::alloc::Global;
 
+// The room that a list of effects begins with: most have two members.
+const FEW: usize = 2;
+
 // The effect behind an opening parenthesis, where room is left for so many more.
 #[cycle(effect)]
 #[tactic(auto, unfolding(crate::specs::ReadingForms::effect_body))]
@@ -156,7 +159,7 @@ fn effects(
         (until_close (form_step (effect_at room)) room (length reader.old) [] reader.old) }
     ensures shorter { OnOk result (length reader.new < length reader.old) }
 {
-    let mut found = Vec::new(alloc);
+    let mut found = Vec::with_capacity(alloc, FEW)?;
     'found: loop {
         let token = reader.next(room)?;
         if is_close(token.kind) {

@@ -10,7 +10,7 @@ use Rattle.plus_forms.proofs.conditions.+cond.Goals as goal
 
 pub conds-returns-in_err-token-clause-gives : goal.conds-returns-in_err-token-clause-gives
 conds-returns-in_err-token-clause-gives t c =
-    let p = err_from_is_err_and c.from_residual.result c.from_residual.ensures.1 in
+    let p = err_from_is_err_and c.from_residual-in_err-token.result c.from_residual-in_err-token.ensures.1 in
     rw (p.1, p.2) (fails_along c.in_err-token.field-0.0 (next_of c.args.room c.found.reader) _ (λ f e. stops (form_step (cond_at c.args.room)) c.args.room c.found.found.items c.found.reader _ _ f c.found.invariant e) c.in_err-token.ensures.gives)
 
 pub conds-returns-then-is_close-clause-gives : goal.conds-returns-then-is_close-clause-gives
