@@ -69,6 +69,16 @@ fn asks_all(cond: &CondTree) -> bool
     }
 }
 
+// How many members a condition has besides those of a quantifier: the room that the list of their forms
+// begins with.
+fn members_at_once(cond: &CondTree) -> usize {
+    match &cond.node {
+        CondNode::All(members) | CondNode::Any(members) => members.len(),
+        CondNode::Imply(_, _) => 2,
+        _ => 0,
+    }
+}
+
 // Whether two terms are the same object, or are not.
 fn same<Q: FromParts>(
     alloc: Global,
@@ -125,7 +135,7 @@ pub fn condition<Q: FromParts>(
         ≡ condition_meant (context numbering.now) env.now positive cond.now) }
 {
     let all = signed(positive, asks_all(cond));
-    let mut forms = Vec::new(alloc);
+    let mut forms = Vec::with_capacity(alloc, members_at_once(cond))?;
     match &cond.node {
         CondNode::All(members) | CondNode::Any(members) => {
             'members: for member in members {

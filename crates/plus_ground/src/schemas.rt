@@ -16,7 +16,7 @@ use crate::rates::rates;
 use plus_literal::FromParts;
 use plus_numbering::Numbering;
 use plus_state::{Action, Event, Label, Process};
-use plus_tree::Schema;
+use plus_tree::{EffectNode, EffectTree, Schema};
 use std::alloc::{AllocError, Global};
 
 // The label of an instance: the name of the schema, and those of its objects.
@@ -33,6 +33,15 @@ fn label(
     numbering.label(alloc, schema.name.name.bytes(), objects.as_slice())
 }
 
+// How many writes an effect has where each of its members is one: the room that their list begins with.
+fn writes_at_once(effect: &EffectTree) -> usize {
+    match &effect.node {
+        EffectNode::All(members) => members.len(),
+        EffectNode::When(_, leaves) => leaves.as_slice().len(),
+        EffectNode::ForAll(_, _) | EffectNode::Leaf(_) => 1,
+    }
+}
+
 /// The ground action of an action in an environment of its parameters.
 pub fn action<Q: FromParts>(
     alloc: Global,
@@ -46,7 +55,7 @@ pub fn action<Q: FromParts>(
 {
     let label = label(alloc, numbering, schema, env)?;
     let condition = condition(alloc, numbering, env, true, &schema.condition)?;
-    let mut writes = Vec::new(alloc);
+    let mut writes = Vec::with_capacity(alloc, writes_at_once(&schema.effect))?;
     effects(alloc, numbering, env, &schema.effect, &mut writes)?;
     Ok(Action {
         label,
@@ -67,7 +76,7 @@ fn event<Q: FromParts>(
 {
     let label = label(alloc, numbering, schema, env)?;
     let condition = condition(alloc, numbering, env, true, &schema.condition)?;
-    let mut writes = Vec::new(alloc);
+    let mut writes = Vec::with_capacity(alloc, writes_at_once(&schema.effect))?;
     effects(alloc, numbering, env, &schema.effect, &mut writes)?;
     Ok(Event {
         label,
@@ -88,7 +97,7 @@ fn process<Q: FromParts>(
 {
     let label = label(alloc, numbering, schema, env)?;
     let condition = condition(alloc, numbering, env, true, &schema.condition)?;
-    let mut slopes = Vec::new(alloc);
+    let mut slopes = Vec::with_capacity(alloc, writes_at_once(&schema.effect))?;
     rates(alloc, numbering, env, &schema.effect, &mut slopes)?;
     Ok(Process {
         label,
