@@ -13,6 +13,9 @@ use plus_state::term::ProcessId;
 use std::alloc::{AllocError, Global};
 use std::marker::Model;
 
+// How many readers most steps add.
+const FEW: usize = 8;
+
 /// The numbers of processes, in any order, each maybe more than once. So many steps take the time of what
 /// they add, and of putting all in order now and then.
 #[derive(Drop)]
@@ -74,7 +77,7 @@ impl Waiting {
     pub fn of(alloc: Global, processes: &[ProcessId]) -> Result<Waiting, AllocError>
         ensures { IfOk result (λ w. w ≡ process_numbers processes.now) }
     {
-        let mut numbers = Vec::new(alloc);
+        let mut numbers = Vec::with_capacity(alloc, processes.len().saturating_add(FEW))?;
         'each: for process in processes {
             numbers.push(process.0)?;
         }
