@@ -1,5 +1,6 @@
 -- A plan that is read from a shelf, or stands in memory.
-use Rattle.std.proofs.Common.{◌≡◌, ℕ, ◌+◌, ◌<◌, ◌≤◌, true, false, List, [], ◌++◌, length, take, drop, Option, Some, None, refl, subst, sym, ap, ◌∙◌, arith, append_assoc, length-append, length-drop}
+use Rattle.std.proofs.Common.{◌≡◌, ℕ, ◌+◌, ◌-◌, ◌<◌, ◌≤◌, true, false, List, [], ◌++◌, length, take, drop, Option, Some, None, refl, subst, sym, ap, ◌∙◌, arith, append_assoc, length-append, length-drop}
+use Rattle.std.proofs.Math.Seq.{take-add}
 use Rattle.std.proofs.lemmas.List.{length-take-le, take-append-drop, take-take}
 use Rattle.std.specs.Prelude.{IfSome, IfErr, OnOk, Result, Ok, Err}
 use Rattle.std.specs.Io.KnownBytes.{IsAtEnd}
@@ -194,31 +195,39 @@ ends_read d N P bytes rest total first feed new played come end room e s = at by
 
 -- ---- the text stands in memory
 
-module _ (d : Pair) (N : Labels) (P : Problem) (bytes : List ℕ) (first : Course) (fed : IsFed d N P [] first.run first) (within : ℕ) (w : within ≤ length bytes) (few : within ≤ text_limit) where
-  part_within : length (take within bytes) ≤ text_limit
-  part_within = let e = length-take-le within bytes w in omega arith
+-- the bytes up to a place are those up to one before it, and those between the two
+pub piece_is : (from stop : ℕ) (bytes : List ℕ) → from ≤ stop → take stop bytes ≡ take from bytes ++ take (stop - from) (drop from bytes)
+piece_is from stop bytes w =
+    let e : stop ≡ from + (stop - from) = omega arith in
+    ap (λ n. take n bytes) e ∙ take-add from (stop - from) bytes
 
-  pub bytes_halt : (new : Progress) (halt : Halt) → first.reader.closed ≡ false → HaltsFeeding d N P (take within bytes) first new halt → HaltsWith d N P bytes first.run new halt
-  bytes_halt new halt o h =
-      (h.halts [] first.run fed part_within).halts bytes (record {
-        behind = drop within bytes;
-        is = sym (take-append-drop within bytes);
-        within = part_within;
-        all = λ c. absurd (let q : true ≡ false = sym c ∙ o in cc q);
-      })
+-- so many first bytes of these are played
+module _ (d : Pair) (N : Labels) (P : Problem) (bytes : List ℕ) (first : Progress) (total : ℕ) (feed : Course) (fed : IsFed d N P (take total bytes) first feed) where
+  -- and a piece behind them comes
+  module _ (stop : ℕ) (piece : List ℕ) (piece_is : take stop bytes ≡ take total bytes ++ piece) (w : stop ≤ length bytes) (few : stop ≤ text_limit) where
+    with_piece : length (take total bytes ++ piece) ≤ text_limit
+    with_piece = let e = ap length (sym piece_is) ∙ length-take-le stop bytes w in omega arith
 
-  module _ (next : Course) (f : Feeds d N P (take within bytes) first next) where
-    next_fed : IsFed d N P (take within bytes) first.run next
-    next_fed = f.fed [] first.run fed part_within
+    pub bytes_more : (next : Course) → Feeds d N P piece feed next → IsFed d N P (take stop bytes) first next
+    bytes_more next f = subst (λ t. IsFed d N P t first next) (sym piece_is) (f.fed (take total bytes) first fed with_piece)
 
-    pub bytes_long : next.reader.closed ≡ false → IsIdle next.reader → within < length bytes → within ≡ text_limit → HaltsWith d N P bytes first.run next.run (Refused (Other (TooLong texts.Plan)))
-    bytes_long o i more full =
-        let some : 0 < length (drop within bytes) = omega (arith, length-drop within bytes) in
-        long_text_halts d N P (take within bytes) first.run next next_fed part_within (drop within bytes) bytes o i (length-take-le within bytes w ∙ full) some (sym (take-append-drop within bytes))
+    pub bytes_halt : (new : Progress) (halt : Halt) → feed.reader.closed ≡ false → HaltsFeeding d N P piece feed new halt → HaltsWith d N P bytes first new halt
+    bytes_halt new halt o h =
+        (h.halts (take total bytes) first fed with_piece).halts bytes (record {
+          behind = drop stop bytes;
+          is = sym (take-append-drop stop bytes) ∙ ap (λ z. z ++ drop stop bytes) piece_is;
+          within = with_piece;
+          all = λ c. absurd (let q : true ≡ false = sym c ∙ o in cc q);
+        })
 
-    pub bytes_end : (new : Progress) (played : Result (Unit {0}) Halt) → take within bytes ≡ bytes → OnOk played (EndsFeeding d N P next new) → IfErr played (HaltsEnding d N P next new) → IsPlayedOut d N P bytes first.run new played
-    bytes_end new played all e s =
-        subst (λ t. IsPlayedOut d N P t first.run new played) all (played_out d N P (take within bytes) first.run next new played next_fed part_within e s)
+  pub bytes_long : feed.reader.closed ≡ false → IsIdle feed.reader → total < length bytes → total ≡ text_limit → HaltsWith d N P bytes first feed.run (Refused (Other (TooLong texts.Plan)))
+  bytes_long o i more full =
+      let size = length-take-le total bytes (omega arith) in
+      let some : 0 < length (drop total bytes) = omega (arith, length-drop total bytes) in
+      long_text_halts d N P (take total bytes) first feed fed (omega (arith, size)) (drop total bytes) bytes o i (size ∙ full) some (sym (take-append-drop total bytes))
+
+  pub bytes_end : (new : Progress) (played : Result (Unit {0}) Halt) → take total bytes ≡ bytes → length bytes ≤ text_limit → OnOk played (EndsFeeding d N P feed new) → IfErr played (HaltsEnding d N P feed new) → IsPlayedOut d N P bytes first new played
+  bytes_end new played all few e s = played_out d N P bytes first feed new played (subst (λ t. IsFed d N P t first feed) all fed) few e s
 
 -- ---- what became of a file, for the same pair
 

@@ -1,5 +1,5 @@
 -- A plan that is read from a shelf, and played as it comes, while its report goes to a sink.
-use Rattle.std.specs.Prelude.{◌≡◌, ℕ, List, [], length, Option, IfSome, Result}
+use Rattle.std.specs.Prelude.{◌≡◌, ℕ, List, [], length, take, Option, IfSome, Result}
 use Rattle.plus_io.specs.Files.{Takes}
 use Rattle.plus_io.specs.Taken.{Took}
 use Rattle.plus_model.specs.Terms.{Problem}
@@ -37,6 +37,18 @@ pub record IsPlayedFrom (d : Domain) (p : tree.Problem) (N : Labels) (P : Proble
   pub took : Took old now sent
   pub out : IfSome bytes (λ text. IsPlayedOut (pair d p) N P text first (progress sent new) played)
   pub so_far : LeavesReport d p most bytes old now
+
+-- ---- a text that stands in memory
+
+-- So many first bytes of these are played, and what they told before is let go.
+pub record HasGone (d : Pair) (N : Labels) (P : Problem) (bytes : List ℕ) (total : ℕ) (first : Progress) (feed : Feed) : Type 0 where
+  pub gone : List ℕ
+  pub fed : IsFed d N P (take total bytes) first (course gone feed)
+
+-- The plan text that stands in these bytes is played, or the run halts in it. The run keeps the end of the report.
+pub record IsPlayedThrough (d : Pair) (N : Labels) (P : Problem) (bytes : List ℕ) (first : Progress) (new : Run) (played : Result (Unit {0}) Halt) : Type 0 where
+  pub gone : List ℕ
+  pub out : IsPlayedOut d N P bytes first (progress gone new) played
 
 -- ---- by how the playing ends
 

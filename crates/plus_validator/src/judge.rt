@@ -8,7 +8,6 @@ ghost use Rattle.plus_tree.specs.declared.trees.Problem.{Problem};
 ghost use Rattle.plus_validator.specs.Limits.{most_happenings};
 ghost use Rattle.plus_validator.specs.Outcomes.{outcome_of};
 ghost use Rattle.plus_validator.specs.Playing.{IsGroundOf};
-ghost use Rattle.plus_validator.specs.Judged.{IsJudged};
 ghost use Rattle.plus_validator.specs.Verdicts.{RefusesPairWith, JudgesText};
 
 use crate::feed::Feed;
@@ -110,7 +109,7 @@ fn judge_ground(
     requires expands { IsGroundOf numbering.now.typed.now.domain numbering.now.typed.now.problem ground.now }
     requires groundable { IsGroundable IsFrac64 numbering.now.typed.now.domain numbering.now.typed.now.problem }
     requires some { 1 ≤ happenings }
-    ensures judged { IfOk result (λ j. IsJudged numbering.now.typed.now.domain numbering.now.typed.now.problem happenings bytes.now j.bytes.items j) }
+    ensures judged { IfOk result (λ j. JudgesText numbering.now.typed.now.domain numbering.now.typed.now.problem happenings bytes.now j.judged) }
 {
     let mut feed = Feed::begin(alloc, &*numbering, ground, happenings)?;
     let played = play_bytes(&mut feed, alloc, ground, bytes, happenings);

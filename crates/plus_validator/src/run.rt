@@ -181,7 +181,15 @@ impl Run {
         ensures no_fall { O.faults out.old ≤ O.faults out.new }
     {
         write_all(out, &self.report.bytes)?;
-        self.report.bytes.clear();
+        self.let_go();
         Ok(())
+    }
+
+    /// Lets go what is kept of the report.
+    pub fn let_go(&mut self)
+        ensures empty { self.new.report.bytes.items ≡ [] }
+        ensures stays { (sent : List ℕ) → progress (sent ++ self.old.report.bytes.items) self.new ≡ progress sent self.old }
+    {
+        self.report.bytes.clear();
     }
 }

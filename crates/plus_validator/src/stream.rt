@@ -13,9 +13,9 @@ ghost use Rattle.plus_validator.specs.Limits.{text_limit};
 ghost use Rattle.plus_validator.specs.Plans.{pair_in};
 ghost use Rattle.plus_validator.specs.Halts.{HaltFits};
 ghost use Rattle.plus_validator.specs.Playing.{IsGroundOf};
-ghost use Rattle.plus_validator.specs.Feeding.{IsFresh, IsPlayedOut};
+ghost use Rattle.plus_validator.specs.Feeding.{IsFresh};
 ghost use Rattle.plus_validator.specs.Leaving.{StopsReading, BreaksOffSoFar};
-ghost use Rattle.plus_validator.specs.Streaming.{IsPlayedFrom, OnPlayed, OnReadFault, OnWriteFault};
+ghost use Rattle.plus_validator.specs.Streaming.{IsPlayedFrom, IsPlayedThrough, OnPlayed, OnReadFault, OnWriteFault};
 
 use crate::feed::Feed;
 use crate::halt::Halt;
@@ -26,7 +26,7 @@ use plus_report::{Early, Text, Verdict};
 use plus_state::problem::Ground;
 use std::alloc::Global;
 
-/// How many bytes are asked of a shelf at once.
+/// How many bytes are played at once.
 const PIECE: usize = 4096;
 
 // A plan text that goes on behind its limit.
@@ -123,7 +123,8 @@ pub fn play_file<S: Shelf, O: Sink>(
     }
 }
 
-/// Plays the plan text that stands in these bytes.
+/// Plays the plan text that stands in these bytes, in pieces. What a piece tells is let go before the next
+/// is played.
 pub fn play_bytes(
     feed: &mut Feed<'_>,
     alloc: Global,
@@ -133,13 +134,19 @@ pub fn play_bytes(
 ) -> Result<(), Halt>
     requires expands { IsGroundOf feed.old.instances.numbering.now.typed.now.domain feed.old.instances.numbering.now.typed.now.problem ground.now }
     requires fresh { IsFresh (labels_of ground.now) (problem_of fraction_of ground.now) happenings feed.old.instances.numbering.now feed.old }
-    ensures played { IsPlayedOut (pair_in feed.old.instances.numbering.now.typed.now) (labels_of ground.now) (problem_of fraction_of ground.now)
-        bytes.now (progress [] feed.old.run) (progress [] feed.new.run) result }
+    ensures played { IsPlayedThrough (pair_in feed.old.instances.numbering.now.typed.now) (labels_of ground.now) (problem_of fraction_of ground.now)
+        bytes.now (progress [] feed.old.run) feed.new.run result }
     ensures fits { IfErr result (HaltFits (problem_of fraction_of ground.now)) }
 {
     let within = bytes.len().min(TEXT_LIMIT);
-    if let Err(halt) = feed.take(alloc, ground, &bytes[..within]) {
-        return Err(halt);
+    let mut total = 0;
+    'pieces: while total < within {
+        let stop = total + PIECE.min(within - total);
+        if let Err(halt) = feed.take(alloc, ground, &bytes[total..stop]) {
+            return Err(halt);
+        }
+        feed.run.let_go();
+        total = stop;
     }
     if within < bytes.len() {
         return Err(too_long());

@@ -3,7 +3,8 @@ use Rattle.plus_number.specs.Frac.{fraction_of}
 use Rattle.plus_state.specs.View.{problem_of, labels_of}
 use Rattle.plus_validator.specs.declared.judgement.Judgement.{Judgement}
 use Rattle.plus_validator.specs.Account.{progress}
-use Rattle.plus_validator.specs.Judged.{SumsUp, IsJudged}
+use Rattle.plus_validator.specs.Judged.{SumsUp}
+use Rattle.plus_validator.specs.Verdicts.{JudgesText}
 use Rattle.plus_validator.proofs.Judging.{judged}
 use Rattle.plus_validator.proofs.StreamLemmas.{fresh_now, played_same}
 use Rattle.plus_validator.proofs.judge.judge_ground.Goals as goal
@@ -24,11 +25,12 @@ returns c =
     let p = c.args.numbering.now.typed.now.problem in
     let N = labels_of c.args.ground.now in
     let P = problem_of fraction_of c.args.ground.now in
+    let played = c.play_bytes-played.ensures.played in
     record {
-      judged = if_ok c.sum_up.result (SumsUp N P c.play_bytes-played.new.feed.run c.play_bytes-played.result) (λ (j : Judgement). IsJudged d p c.args.happenings c.args.bytes.now j.bytes.items j)
+      judged = if_ok c.sum_up.result (SumsUp N P c.play_bytes-played.new.feed.run c.play_bytes-played.result) (λ (j : Judgement). JudgesText d p c.args.happenings c.args.bytes.now j.judged)
           (λ (j : Judgement) u.
-          judged d p N P c.args.happenings c.args.bytes.now (progress [] c.in_ok-feed.feed.run) [] c.play_bytes-played.new.feed.run c.requires.groundable j c.play_bytes-played.result
+          (judged d p N P c.args.happenings c.args.bytes.now (progress [] c.in_ok-feed.feed.run) played.gone c.play_bytes-played.new.feed.run c.requires.groundable j c.play_bytes-played.result
           c.requires.expands.expands c.requires.expands.labels c.in_ok-feed.ensures.begins.begins
-          (played_same _ _ N P c.in_ok-feed.ensures.begins.same _ _ _ _ c.play_bytes-played.ensures.played) c.play_bytes-played.ensures.fits u)
+          (played_same _ _ N P c.in_ok-feed.ensures.begins.same _ _ _ _ played.out) c.play_bytes-played.ensures.fits u).judged)
           c.sum_up.ensures.sums;
     }

@@ -1,39 +1,83 @@
-use Rattle.std.proofs.Common.{[], sym, arith, subst}
+use Rattle.std.proofs.Common.{◌+◌, [], ◌++◌, take, sym, arith, refl, subst, ap}
 use Rattle.std.specs.Prelude.{Err}
 use Rattle.std.proofs.lemmas.List.{take_all}
 use Rattle.plus_number.specs.Frac.{fraction_of}
 use Rattle.plus_state.specs.View.{problem_of, labels_of}
 use Rattle.plus_validator.specs.Plans.{pair_in}
-use Rattle.plus_validator.specs.Account.{progress}
-use Rattle.plus_validator.specs.Feeding.{course, IsPlayedOut}
-use Rattle.plus_validator.proofs.StreamLemmas.{fresh_open, fresh_fed, open_now, bytes_halt, bytes_long, bytes_end, ends_same, ending_same}
+use Rattle.plus_validator.specs.Account.{Progress, progress}
+use Rattle.plus_validator.specs.Feeding.{course, IsFed, IsPlayedOut}
+use Rattle.plus_validator.proofs.Leaving.{flushed}
+use Rattle.plus_validator.proofs.StreamLemmas.{fresh_open, fresh_fed, open_now, open_on, open_then, piece_is, bytes_more, bytes_halt, bytes_long, bytes_end, feeds_same, halts_same, ends_same, ending_same}
 use Rattle.plus_validator.proofs.stream.play_bytes.Goals as goal
 
+pub pieces-init : goal.pieces-init
+pieces-init c = record {
+  gone = record { gone = []; fed = fresh_fed _ _ _ _ _ c.args.feed.now c.requires.fresh };
+  within = omega arith;
+  waits = fresh_open _ _ _ _ c.args.feed.now c.requires.fresh;
+}
+
+pub take-requires-clause-expands : goal.take-requires-clause-expands
+take-requires-clause-expands c = rw c.pieces.invariant.waits.same c.requires.expands
+
 pub take-requires-clause-waits : goal.take-requires-clause-waits
-take-requires-clause-waits c = fresh_open _ _ _ _ c.args.feed.now c.requires.fresh
+take-requires-clause-waits c = open_now _ _ _ c.pieces.feed c.pieces.invariant.waits
 
 pub end-requires-clause-expands : goal.end-requires-clause-expands
-end-requires-clause-expands c = rw c.in_default.ensures.waits.same c.requires.expands
+end-requires-clause-expands c = rw c.pieces.invariant.waits.same c.requires.expands
 
 pub end-requires-clause-waits : goal.end-requires-clause-waits
-end-requires-clause-waits c = open_now _ _ _ c.take.new.self c.in_default.ensures.waits
+end-requires-clause-waits c = open_now _ _ _ c.pieces.feed c.pieces.invariant.waits
+
+pub pieces-preserved : goal.pieces-preserved
+pieces-preserved c =
+    let stop = c.pieces.total + c.min.result in
+    let waits = c.pieces.invariant.waits in
+    let gone = c.pieces.invariant.gone in
+    let let_go = c.let_go.ensures.stays in
+    record {
+      gone = record {
+        gone = gone.gone ++ c.take.new.self.run.report.bytes.items;
+        fed = subst (IsFed (pair_in c.args.feed.now.instances.numbering.now.typed.now) (labels_of c.args.ground.now) (problem_of fraction_of c.args.ground.now) (take stop c.args.bytes.now) (progress [] c.args.feed.now.run))
+            (sym (flushed gone.gone c.take.new.self (record c.take.new.self { run = c.let_go.new.self }) refl (let_go gone.gone)))
+            (bytes_more _ _ _ c.args.bytes.now _ c.pieces.total (course gone.gone c.pieces.feed) gone.fed stop _ (piece_is c.pieces.total stop c.args.bytes.now (omega arith))
+            (omega (arith, c.min.ensures, c.min-within.ensures, c.pieces.invariant.within)) (omega (arith, c.min.ensures, c.min-within.ensures, c.pieces.invariant.within)) (course gone.gone c.take.new.self)
+            (feeds_same _ _ _ _ waits.same _ _ _ (c.in_default.ensures.feeds gone.gone)));
+      };
+      within = omega (arith, c.min.ensures, c.pieces.invariant.within);
+      waits = open_on _ _ _ c.take.new.self c.let_go.new.self (open_then _ _ _ c.pieces.feed c.take.new.self waits c.in_default.ensures.waits)
+          (ap (λ (r : Progress). r.timeline) (let_go []));
+    }
 
 pub returns-in-Err-clause-played : goal.returns-in-Err-clause-played
 returns-in-Err-clause-played c =
-    bytes_halt _ _ _ c.args.bytes.now (course [] c.args.feed.now) (fresh_fed _ _ _ _ _ c.args.feed.now c.requires.fresh) c.min-within.result
-    (omega (arith, c.min-within.ensures)) (omega (arith, c.min-within.ensures)) (progress [] c.take.new.self.run) c.in-Err.halt
-    (fresh_open _ _ _ _ c.args.feed.now c.requires.fresh).going (c.in-Err.ensures.halts [])
+    let stop = c.pieces.total + c.min.result in
+    let waits = c.pieces.invariant.waits in
+    let gone = c.pieces.invariant.gone in
+    record {
+      gone = gone.gone;
+      out = bytes_halt _ _ _ c.args.bytes.now _ c.pieces.total (course gone.gone c.pieces.feed) gone.fed stop _ (piece_is c.pieces.total stop c.args.bytes.now (omega arith))
+          (omega (arith, c.min.ensures, c.min-within.ensures, c.pieces.invariant.within)) (omega (arith, c.min.ensures, c.min-within.ensures, c.pieces.invariant.within)) (progress gone.gone c.take.new.self.run) c.in-Err.halt waits.going
+          (halts_same _ _ _ _ waits.same _ _ _ _ (c.in-Err.ensures.halts gone.gone));
+    }
 
 pub returns-then-within-bytes-clause-played : goal.returns-then-within-bytes-clause-played
 returns-then-within-bytes-clause-played c =
-    subst (λ h. IsPlayedOut (pair_in c.args.feed.now.instances.numbering.now.typed.now) (labels_of c.args.ground.now) (problem_of fraction_of c.args.ground.now) c.args.bytes.now (progress [] c.args.feed.now.run) (progress [] c.take.new.self.run) (Err h)) (sym c.too_long.ensures.says)
-    (bytes_long _ _ _ c.args.bytes.now (course [] c.args.feed.now) (fresh_fed _ _ _ _ _ c.args.feed.now c.requires.fresh) c.min-within.result
-    (omega (arith, c.min-within.ensures)) (omega (arith, c.min-within.ensures)) (course [] c.take.new.self) (c.in_default.ensures.feeds [])
-    c.in_default.ensures.waits.going c.in_default.ensures.waits.idle c.if-within-bytes.true (omega (arith, c.min-within.ensures)))
+    let waits = c.pieces.invariant.waits in
+    let gone = c.pieces.invariant.gone in
+    record {
+      gone = gone.gone;
+      out = subst (λ h. IsPlayedOut (pair_in c.args.feed.now.instances.numbering.now.typed.now) (labels_of c.args.ground.now) (problem_of fraction_of c.args.ground.now) c.args.bytes.now (progress [] c.args.feed.now.run) (progress gone.gone c.pieces.feed.run) (Err h)) (sym c.too_long.ensures.says)
+          (bytes_long _ _ _ c.args.bytes.now _ c.pieces.total (course gone.gone c.pieces.feed) gone.fed waits.going waits.idle (omega (arith, c.min-within.ensures)) (omega (arith, c.min-within.ensures)));
+    }
 
 pub returns-clause-played : goal.returns-clause-played
 returns-clause-played c =
-    bytes_end _ _ _ c.args.bytes.now (course [] c.args.feed.now) (fresh_fed _ _ _ _ _ c.args.feed.now c.requires.fresh) c.min-within.result
-    (omega (arith, c.min-within.ensures)) (omega (arith, c.min-within.ensures)) (course [] c.take.new.self) (c.in_default.ensures.feeds [])
-    (progress [] c.end.new.self.run) c.end.result (take_all c.min-within.result c.args.bytes.now (omega (arith, c.min-within.ensures, c.if-within-bytes.false)))
-    (ends_same _ _ _ _ c.in_default.ensures.waits.same _ _ _ (c.end.ensures.ends [])) (ending_same _ _ _ _ c.in_default.ensures.waits.same _ _ _ (c.end.ensures.halts []))
+    let waits = c.pieces.invariant.waits in
+    let gone = c.pieces.invariant.gone in
+    record {
+      gone = gone.gone;
+      out = bytes_end _ _ _ c.args.bytes.now _ c.pieces.total (course gone.gone c.pieces.feed) gone.fed (progress gone.gone c.end.new.self.run) c.end.result
+          (take_all c.pieces.total c.args.bytes.now (omega (arith, c.min-within.ensures))) (omega (arith, c.min-within.ensures))
+          (ends_same _ _ _ _ waits.same _ _ _ (c.end.ensures.ends gone.gone)) (ending_same _ _ _ _ waits.same _ _ _ (c.end.ensures.halts gone.gone));
+    }
