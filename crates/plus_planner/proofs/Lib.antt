@@ -13,6 +13,7 @@ pub mod PlaceLemmas
 pub mod TakenLemmas
 pub mod DecidingLemmas
 pub mod ForkLemmas
+pub mod Resting
 pub mod TriedLemmas
 pub mod WorldLemmas
 pub mod ListingLemmas

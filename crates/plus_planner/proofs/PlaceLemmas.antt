@@ -7,7 +7,7 @@ use Rattle.plus_model.specs.Terms.{Action}
 use Rattle.plus_search.specs.declared.spaces.Fate.{Fate}
 use Rattle.plus_search.specs.declared.spaces.Fate.TheVariants.{Alive, Broken, Beyond}
 use Rattle.plus_stretch.specs.Tests.{AllPass, IsLimit}
-use Rattle.plus_timeline.specs.Asked.{act_tests}
+use Rattle.plus_timeline.specs.Asked.{act_tests, round_tests}
 use Rattle.plus_timeline.specs.Timeline.{TimelineView}
 use Rattle.plus_timeline.specs.Act.{DoesAct}
 use Rattle.plus_timeline.specs.Finish.{IsPaused}
@@ -19,6 +19,7 @@ use Rattle.plus_timeline.specs.Advance.{IsAhead}
 use Rattle.plus_planner.specs.Standing.{HasRoom, CanReach, IsNoLimit, Carried}
 use Rattle.plus_planner.specs.Places.{StandsAt, path_of, StandFrom, now_in, base_in, StandsBehind, taken_after, Goes, ActFails, ActEnds, WaitEnds, CanTry, Walks}
 use Rattle.plus_planner.proofs.Ready.{ticks_join}
+use Rattle.plus_planner.proofs.Resting.{rest_passed}
 use Rattle.plus_planner.proofs.Ticks.{ticks_next}
 use Rattle.plus_planner.proofs.Walks.{Ends, now_of, broken_ends, halts_at, alive_more, beyond_more, waited, wait_times, later_waits, no_times, act_times, act_fails, acted_on}
 
@@ -235,6 +236,10 @@ module _ {Q : Type 0} (fits : Fraction → Type 0) (task : Task) where
       -- nothing is due there
       pub wait_paused : IsPaused (base_in (length task.actions) start taken)
       wait_paused = base_stands.stands.paused
+
+      -- and all that a round asks there passes
+      pub wait_passed : AllPass fits (round_tests task.problem (base_in (length task.actions) start taken).now.fired (base_in (length task.actions) start taken).now.state)
+      wait_passed = rest_passed fits task base_stands.front (base_in (length task.actions) start taken) base_stands.stands
 
       -- what becomes of a wait
       pub wait_walks : {E : Type 0} (start' : TimelineView) (taken' : List (Taken Q)) (r : Result Fate E) → d < suc (length task.actions) → OnOk r (start' ≡ start) → IfOk r (WaitEnds fits task.problem ((now_in start taken).now.time +ℚ task.interval) d (base_in (length task.actions) start taken) taken taken') → IfOk r (Walks fits task start start' taken taken' d)

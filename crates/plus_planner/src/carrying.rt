@@ -1,6 +1,9 @@
 //! Carries a timeline on to a time.
-ghost use Rattle.std.specs.Prelude.{◌≡◌, ◌≢◌, Some, IfOk};
+ghost use Rattle.std.specs.Prelude.{◌≡◌, ◌≢◌, Some, None, IfOk};
 ghost use Rattle.plus_state.specs.View.{problem_of};
+ghost use Rattle.plus_stretch.specs.Tests.{AllPass};
+ghost use Rattle.plus_timeline.specs.Asked.{round_tests};
+ghost use Rattle.plus_timeline.specs.Finish.{IsPaused};
 ghost use Rattle.plus_planner.specs.Standing.{CanReach, Carried, Steps, fate_by, refused_by};
 
 use plus_number::exact::Exact;
@@ -64,5 +67,43 @@ pub fn carry<Q: Exact>(
             Some(fate) => return Ok(fate),
             None => {}
         }
+    }
+}
+
+// Takes the first step from a moment at which nothing is due: no event is looked at there again.
+fn leave<Q: Exact>(
+    timeline: &mut Timeline<Q>,
+    ground: &Ground<Q>,
+    until: Q,
+) -> Result<Option<Fate>, AllocError>
+    requires reach { CanReach (problem_of Q.value ground.now) (Q.value until) timeline.old }
+    requires paused { IsPaused timeline.old }
+    requires moment { timeline.old.now.running ≡ None }
+    requires passed { AllPass Q.fits (round_tests (problem_of Q.value ground.now)
+        timeline.old.now.fired timeline.old.now.state) }
+    ensures { IfOk result (Steps Q.fits (problem_of Q.value ground.now) (Q.value until) timeline.old timeline.new) }
+{
+    match timeline.rest(ground, until) {
+        Ok(next) => Ok(done(next)),
+        Err(stop) => Ok(Some(refused(stop)?)),
+    }
+}
+
+/// Carries a timeline on to a time, as `carry` does, from a moment at which nothing is due.
+pub fn carry_on<Q: Exact>(
+    timeline: &mut Timeline<Q>,
+    ground: &Ground<Q>,
+    until: Q,
+) -> Result<Fate, AllocError>
+    requires reach { CanReach (problem_of Q.value ground.now) (Q.value until) timeline.old }
+    requires paused { IsPaused timeline.old }
+    requires moment { timeline.old.now.running ≡ None }
+    requires passed { AllPass Q.fits (round_tests (problem_of Q.value ground.now)
+        timeline.old.now.fired timeline.old.now.state) }
+    ensures { IfOk result (Carried Q.fits (problem_of Q.value ground.now) (Q.value until) timeline.old timeline.new) }
+{
+    match leave(timeline, ground, until)? {
+        Some(fate) => Ok(fate),
+        None => carry(timeline, ground, until),
     }
 }

@@ -1,13 +1,15 @@
 //! One decision more.
-ghost use Rattle.std.specs.Prelude.{◌≡◌, ◌<◌, suc, map, length, IfOk, IfSome, OnOk};
+ghost use Rattle.std.specs.Prelude.{◌≡◌, ◌<◌, suc, None, map, length, IfOk, IfSome, OnOk};
 ghost use Rattle.plus_fraction.specs.Fraction.{◌+ℚ◌};
 ghost use Rattle.plus_state.specs.View.{problem_of, action_of};
 ghost use Rattle.plus_state.specs.Fits.{ActionFits};
+ghost use Rattle.plus_stretch.specs.Tests.{AllPass};
+ghost use Rattle.plus_timeline.specs.Asked.{round_tests};
 ghost use Rattle.plus_timeline.specs.Finish.{IsPaused};
 ghost use Rattle.plus_planner.specs.Standing.{CanReach};
-ghost use Rattle.plus_planner.specs.Places.{now_in, base_in, task_from, StandsBehind, ActFails, Goes, ActEnds, WaitEnds, CanTry, Walks};
+ghost use Rattle.plus_planner.specs.Places.{now_in, base_in, task_from, taken_after, StandsBehind, ActFails, Goes, ActEnds, WaitEnds, CanTry, Walks};
 
-use crate::carrying::{carry, refused};
+use crate::carrying::{carry, carry_on, refused};
 use crate::held::Held;
 use crate::places::{Place, Taken};
 use plus_number::exact::Exact;
@@ -30,6 +32,30 @@ fn refuses<Q: Exact>(action: &Action<Q>, timeline: &Timeline<Q>) -> Option<Fate>
     }
 }
 
+// Takes a decision that leads to this timeline, where it can be taken.
+fn put<Q: Exact>(
+    alloc: Global,
+    taken: &mut Vec<Taken<Q>>,
+    timeline: Timeline<Q>,
+    decision: u32,
+    fate: Fate,
+) -> Result<(), AllocError>
+    ensures { OnOk result (taken.new.items ≡ taken_after fate taken.old.items decision timeline) }
+{
+    match fate {
+        Fate::Alive => {
+            let held = Held::new(alloc, timeline)?;
+            taken.push(Taken {
+                decision,
+                timeline: held,
+            })?;
+        }
+        Fate::Broken => {}
+        Fate::Beyond => {}
+    }
+    Ok(())
+}
+
 // Carries a timeline to a time. Where it comes there, the decision is taken.
 fn go<Q: Exact>(
     alloc: Global,
@@ -44,17 +70,29 @@ fn go<Q: Exact>(
         taken.old.items taken.new.items) }
 {
     let fate = carry(&mut timeline, ground, time)?;
-    match fate {
-        Fate::Alive => {
-            let held = Held::new(alloc, timeline)?;
-            taken.push(Taken {
-                decision,
-                timeline: held,
-            })?;
-        }
-        Fate::Broken => {}
-        Fate::Beyond => {}
-    }
+    put(alloc, taken, timeline, decision, fate)?;
+    Ok(fate)
+}
+
+// The same from a moment at which nothing is due.
+fn go_on<Q: Exact>(
+    alloc: Global,
+    ground: &Ground<Q>,
+    taken: &mut Vec<Taken<Q>>,
+    mut timeline: Timeline<Q>,
+    time: Q,
+    decision: u32,
+) -> Result<Fate, AllocError>
+    requires reach { CanReach (problem_of Q.value ground.now) (Q.value time) timeline }
+    requires paused { IsPaused timeline }
+    requires moment { timeline.now.running ≡ None }
+    requires passed { AllPass Q.fits (round_tests (problem_of Q.value ground.now)
+        timeline.now.fired timeline.now.state) }
+    ensures { IfOk result (Goes Q.fits (problem_of Q.value ground.now) (Q.value time) timeline decision
+        taken.old.items taken.new.items) }
+{
+    let fate = carry_on(&mut timeline, ground, time)?;
+    put(alloc, taken, timeline, decision, fate)?;
     Ok(fate)
 }
 
@@ -116,6 +154,9 @@ fn wait<Q: Exact>(
         ((now_in place.old.start place.old.taken.items).now.time +ℚ Q.value interval)
         (base_in decision place.old.start place.old.taken.items) }
     requires paused { IsPaused (base_in decision place.old.start place.old.taken.items) }
+    requires passed { AllPass Q.fits (round_tests (problem_of Q.value ground.now)
+        (base_in decision place.old.start place.old.taken.items).now.fired
+        (base_in decision place.old.start place.old.taken.items).now.state) }
     ensures ends { IfOk result (WaitEnds Q.fits (problem_of Q.value ground.now)
         ((now_in place.old.start place.old.taken.items).now.time +ℚ Q.value interval) decision
         (base_in decision place.old.start place.old.taken.items) place.old.taken.items place.new.taken.items) }
@@ -126,7 +167,7 @@ fn wait<Q: Exact>(
         Err(_) => Ok(Fate::Beyond),
         Ok(time) => {
             let timeline = place.base(decision).fork(alloc)?;
-            go(alloc, ground, &mut place.taken, timeline, time, decision)
+            go_on(alloc, ground, &mut place.taken, timeline, time, decision)
         }
     }
 }

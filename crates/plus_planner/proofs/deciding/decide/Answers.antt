@@ -2,10 +2,12 @@ use Rattle.std.proofs.Common.{◌≤◌, ℕ, arith, map, length, sym, subst}
 use Rattle.std.specs.Prelude.{IfOk}
 use Rattle.plus_fraction.specs.Fraction.{◌+ℚ◌}
 use Rattle.plus_state.specs.View.{problem_of, action_of}
+use Rattle.plus_stretch.specs.Tests.{AllPass}
+use Rattle.plus_timeline.specs.Asked.{round_tests}
 use Rattle.plus_timeline.specs.Finish.{IsPaused}
 use Rattle.plus_planner.specs.Standing.{CanReach}
 use Rattle.plus_planner.specs.Places.{task_from, now_in, base_in, WaitEnds}
-use Rattle.plus_planner.proofs.PlaceLemmas.{slice_none, act_can, act_walks, wait_reach, wait_paused, wait_walks}
+use Rattle.plus_planner.proofs.PlaceLemmas.{slice_none, act_can, act_walks, wait_reach, wait_paused, wait_passed, wait_walks}
 use Rattle.plus_planner.proofs.DecidingLemmas.{action_at, full, inside}
 use Rattle.plus_planner.proofs.deciding.decide.Goals as goal
 
@@ -43,6 +45,22 @@ wait-requires-clause-paused g c =
     let same = full (action_of v) c.args.actions.now c.args.decision c.if-number-actions.false c.requires.within in
     subst (λ n. IsPaused (base_in n start taken)) (sym same)
     (wait_paused g.Q.Exact.fits task start taken c.requires.stands c.args.decision
+    (slice_none actions c.args.decision (subst (λ n. length actions ≤ n) (sym same) (self_le (length actions)))))
+  where
+    self_le : (n : ℕ) → n ≤ n
+    self_le n = omega arith
+
+pub wait-requires-clause-passed : goal.wait-requires-clause-passed
+wait-requires-clause-passed g c =
+    let v = g.Q.Exact.value in
+    let P = problem_of v c.args.ground.now in
+    let actions = map (action_of v) c.args.actions.now in
+    let task = task_from P actions (v c.args.interval) in
+    let start = c.args.place.now.start in
+    let taken = c.args.place.now.taken.items in
+    let same = full (action_of v) c.args.actions.now c.args.decision c.if-number-actions.false c.requires.within in
+    subst (λ n. AllPass g.Q.Exact.fits (round_tests P (base_in n start taken).now.fired (base_in n start taken).now.state)) (sym same)
+    (wait_passed g.Q.Exact.fits task start taken c.requires.stands c.args.decision
     (slice_none actions c.args.decision (subst (λ n. length actions ≤ n) (sym same) (self_le (length actions)))))
   where
     self_le : (n : ℕ) → n ≤ n

@@ -3,19 +3,23 @@ use Rattle.std.specs.Prelude.{Some, None}
 use Rattle.plus_fraction.specs.Fraction.{Fraction, ◌+ℚ◌}
 use Rattle.plus_state.specs.View.{problem_of}
 use Rattle.plus_timeline.specs.Timeline.{TimelineView}
+use Rattle.plus_stretch.specs.Tests.{AllPass}
+use Rattle.plus_timeline.specs.Asked.{round_tests}
+use Rattle.plus_timeline.specs.Finish.{IsPaused}
 use Rattle.plus_timeline.specs.Forked.{forked}
 use Rattle.plus_timeline.specs.declared.next.Next.TheVariants.{There}
 use Rattle.plus_planner.specs.Standing.{CanReach}
 use Rattle.plus_planner.specs.Places.{now_in, base_in}
 use Rattle.plus_planner.proofs.DecidingLemmas.{wait_told}
 use Rattle.plus_planner.proofs.ForkLemmas.{reach_forked, waits_forked}
+use Rattle.plus_planner.proofs.Resting.{fork_paused}
 use Rattle.plus_planner.proofs.deciding.wait.Goals as goal
 
 pub fork-requires : goal.fork-requires
 fork-requires g c = subst (λ (t : TimelineView). t.answer ≡ Some There) (sym c.base.ensures) c.requires.paused.there
 
-pub go-requires : goal.go-requires
-go-requires g c =
+pub go_on-requires-clause-reach : goal.go_on-requires-clause-reach
+go_on-requires-clause-reach g c =
     let P = problem_of g.Q.Exact.value c.args.ground.now in
     let start = c.args.place.now.start in
     let taken = c.args.place.now.taken.items in
@@ -26,6 +30,20 @@ go-requires g c =
     (subst (λ u. CanReach P u (forked base)) (sym (c.in-Ok.ensures ∙ ap (λ (x : Fraction). x +ℚ q) (c.time.ensures ∙ ap (λ v. v.now.time) c.now.ensures)))
     (reach_forked P ((now_in start taken).now.time +ℚ q) base moment c.requires.reach))
 
+pub go_on-requires-clause-paused : goal.go_on-requires-clause-paused
+go_on-requires-clause-paused g c =
+    let base = base_in c.args.decision c.args.place.now.start c.args.place.now.taken.items in
+    subst IsPaused (sym (c.in_ok-timeline-in-Ok.ensures.forked ∙ ap forked c.base.ensures)) (fork_paused base c.requires.paused)
+
+pub go_on-requires-clause-moment : goal.go_on-requires-clause-moment
+go_on-requires-clause-moment g c =
+    ap (λ (t : TimelineView). t.now.running) c.in_ok-timeline-in-Ok.ensures.forked ∙ c.in_ok-timeline-in-Ok.ensures.moment
+
+pub go_on-requires-clause-passed : goal.go_on-requires-clause-passed
+go_on-requires-clause-passed g c =
+    let P = problem_of g.Q.Exact.value c.args.ground.now in
+    subst (λ (t : TimelineView). AllPass g.Q.Exact.fits (round_tests P t.now.fired t.now.state)) (sym (c.in_ok-timeline-in-Ok.ensures.forked ∙ ap forked c.base.ensures)) c.requires.passed
+
 pub returns-in_ok-timeline-in-Ok-clause-ends : goal.returns-in_ok-timeline-in-Ok-clause-ends
 returns-in_ok-timeline-in-Ok-clause-ends g c =
     let P = problem_of g.Q.Exact.value c.args.ground.now in
@@ -33,10 +51,10 @@ returns-in_ok-timeline-in-Ok-clause-ends g c =
     let taken = c.args.place.now.taken.items in
     let q = g.Q.Exact.value c.args.interval in
     let base = base_in c.args.decision start taken in
-    waits_forked g.Q.Exact.fits P ((now_in start taken).now.time +ℚ q) c.args.decision base taken c.go.new.taken.items c.go.result
+    waits_forked g.Q.Exact.fits P ((now_in start taken).now.time +ℚ q) c.args.decision base taken c.go_on.new.taken.items c.go_on.result
     (wait_told g.Q.Exact.fits P (g.Q.Exact.value c.in-Ok.time) ((now_in start taken).now.time +ℚ q) c.args.decision
-    (forked base) c.in_ok-timeline-in-Ok.timeline taken c.go.new.taken.items c.go.result
+    (forked base) c.in_ok-timeline-in-Ok.timeline taken c.go_on.new.taken.items c.go_on.result
     (c.in-Ok.ensures ∙ ap (λ (x : Fraction). x +ℚ q) (c.time.ensures ∙ ap (λ v. v.now.time) c.now.ensures))
     (g.met.Q.Exact.value_fits c.in-Ok.time)
     (c.in_ok-timeline-in-Ok.ensures.forked ∙ ap forked c.base.ensures)
-    c.go.ensures)
+    c.go_on.ensures)

@@ -1,0 +1,17 @@
+use Rattle.std.proofs.Common.{sym, subst}
+use Rattle.plus_state.specs.View.{problem_of}
+use Rattle.plus_planner.specs.Standing.{Steps}
+use Rattle.plus_planner.proofs.Carries.{step_says, refusal_says}
+use Rattle.plus_planner.proofs.carrying.leave.Goals as goal
+
+pub returns-in-Ok : goal.returns-in-Ok
+returns-in-Ok g c =
+    let P = problem_of g.Q.Exact.value c.args.ground.now in
+    let u = g.Q.Exact.value c.args.until in
+    subst (Steps g.Q.Exact.fits P u c.args.timeline.now c.rest.new.self) (sym c.done.ensures)
+    (step_says g.Q.Exact.value g.Q.Exact.fits P u c.args.timeline.now c.rest.new.self c.in-Ok.next c.requires.reach c.in-Ok.ensures.told.does c.in-Ok.ensures.told.pass)
+
+pub returns-in_ok-refused-in-Err : goal.returns-in_ok-refused-in-Err
+returns-in_ok-refused-in-Err g c =
+    refusal_says g.Q.Exact.value g.Q.Exact.fits (problem_of g.Q.Exact.value c.args.ground.now) (g.Q.Exact.value c.args.until) c.args.timeline.now c.rest.new.self
+    c.in-Err.stop c.in_ok-refused-in-Err.field-0 c.in_ok-refused-in-Err.ensures c.in-Err.ensures.told
