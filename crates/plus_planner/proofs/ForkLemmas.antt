@@ -11,7 +11,6 @@ use Rattle.plus_search.specs.declared.spaces.Fate.TheVariants.{Alive, Broken, Be
 use Rattle.plus_stretch.specs.Tests.{Test, IsLimit}
 use Rattle.plus_timeline.specs.Timeline.{TimelineView}
 use Rattle.plus_timeline.specs.Forked.{forked}
-use Rattle.plus_timeline.specs.Act.{DoesAct}
 use Rattle.plus_planner.specs.declared.places.Taken.{Taken}
 use Rattle.plus_planner.specs.Grid.{IsClearIn}
 use Rattle.plus_planner.specs.Standing.{CanGoOn, CanReach, IsOnWay, FailsAt, FailsOnWay, IsNoLimit, Carried}

@@ -8,7 +8,7 @@ use Rattle.plus_model.specs.History.{View}
 use Rattle.plus_model.specs.Trajectory.{until, view_of}
 use Rattle.plus_search.specs.declared.spaces.Fate.{Fate}
 use Rattle.plus_state.proofs.Testing.{pass_left}
-use Rattle.plus_stretch.specs.Tests.{Test, Passes, AllPass}
+use Rattle.plus_stretch.specs.Tests.{Passes, AllPass}
 use Rattle.plus_timeline.specs.Timeline.{TimelineView}
 use Rattle.plus_timeline.specs.Forked.{forked}
 use Rattle.plus_timeline.specs.Finish.{IsPaused}
