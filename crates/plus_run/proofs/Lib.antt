@@ -9,3 +9,4 @@ pub mod ReplyLemmas
 pub mod Deciding
 pub mod RunLemmas
 pub mod ShowLemmas
+pub mod StopLemmas

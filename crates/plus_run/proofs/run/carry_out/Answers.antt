@@ -2,6 +2,7 @@ use Rattle.std.proofs.Common.{◌≡◌, ◌∙◌, ap, sym, subst, option_map, 
 use Rattle.plus_run.specs.Command.{Command}
 use Rattle.plus_run.specs.Meant.{meant}
 use Rattle.plus_run.specs.Headline.{IsAnswer}
+use Rattle.plus_run.proofs.StopLemmas.{stops_as, other_stops, usage_no_read}
 use Rattle.plus_run.proofs.run.carry_out.Goals as goal
 
 pub returns-in-Some-Trial-clause-answers : goal.returns-in-Some-Trial-clause-answers
@@ -12,3 +13,49 @@ returns-in-Some-Trial-clause-answers g c =
     (λ (o : Option Command). IsAnswer o (g.S.Shelf.bytes c.args.shelf.now) (g.O.Sink.taken c.args.out.now) (g.O.Sink.taken c.trial.new.out) faults faults
     (g.O.Sink.faults c.args.out.now) (g.O.Sink.faults c.trial.new.out) c.trial.result) is
     (c.trial.ensures.answers (g.S.Shelf.bytes c.args.shelf.now) faults faults)
+
+-- ---- what is out where a file failed
+
+pub returns-in-None-clause-stops : goal.returns-in-None-clause-stops
+returns-in-None-clause-stops g c = usage_no_read _ _ _ _ _ _ c.usage.ensures.writes
+
+pub returns-in-Some-Check-clause-stops : goal.returns-in-Some-Check-clause-stops
+returns-in-Some-Check-clause-stops g c =
+    let is = sym (ap (option_map meant) (c.in-Some-Check.is ∙ ap Some c.in-Some-Check.field-0-is)) ∙ c.parse.ensures in
+    stops_as _ _ _ _ _ _ _ _ _ _ _ is c.check.ensures.stops
+
+pub returns-in-Some-ShowDomain-clause-stops : goal.returns-in-Some-ShowDomain-clause-stops
+returns-in-Some-ShowDomain-clause-stops g c =
+    let is = sym (ap (option_map meant) (c.in-Some-ShowDomain.is ∙ ap Some c.in-Some-ShowDomain.field-0-is)) ∙ c.parse.ensures in
+    other_stops _ _ _ _ _ _ _ _ _ _ _ _ _ _ _ _ c.show_domain.ensures.answers is tt
+
+pub returns-in-Some-ShowProblem-clause-stops : goal.returns-in-Some-ShowProblem-clause-stops
+returns-in-Some-ShowProblem-clause-stops g c =
+    let is = sym (ap (option_map meant) (c.in-Some-ShowProblem.is ∙ ap Some c.in-Some-ShowProblem.field-0-is)) ∙ c.parse.ensures in
+    other_stops _ _ _ _ _ _ _ _ _ _ _ _ _ _ _ _ c.show_problem.ensures.answers is tt
+
+pub returns-in-Some-Numeric-clause-stops : goal.returns-in-Some-Numeric-clause-stops
+returns-in-Some-Numeric-clause-stops g c =
+    let is = sym (ap (option_map meant) (c.in-Some-Numeric.is ∙ ap Some c.in-Some-Numeric.field-0-is)) ∙ c.parse.ensures in
+    other_stops _ _ _ _ _ _ _ _ _ _ _ _ _ _ _ _ c.numeric.ensures.answers is tt
+
+pub returns-in-Some-Translate-clause-stops : goal.returns-in-Some-Translate-clause-stops
+returns-in-Some-Translate-clause-stops g c =
+    let is = sym (ap (option_map meant) (c.in-Some-Translate.is ∙ ap Some c.in-Some-Translate.field-0-is)) ∙ c.parse.ensures in
+    other_stops _ _ _ _ _ _ _ _ _ _ _ _ _ _ _ _ c.translate.ensures.answers is tt
+
+pub returns-in-Some-Lift-clause-stops : goal.returns-in-Some-Lift-clause-stops
+returns-in-Some-Lift-clause-stops g c =
+    let is = sym (ap (option_map meant) (c.in-Some-Lift.is ∙ ap Some c.in-Some-Lift.field-0-is)) ∙ c.parse.ensures in
+    other_stops _ _ _ _ _ _ _ _ _ _ _ _ _ _ _ _ c.lift.ensures.answers is tt
+
+pub returns-in-Some-Plan-clause-stops : goal.returns-in-Some-Plan-clause-stops
+returns-in-Some-Plan-clause-stops g c =
+    let is = sym (ap (option_map meant) (c.in-Some-Plan.is ∙ ap Some c.in-Some-Plan.field-0-is)) ∙ c.parse.ensures in
+    other_stops _ _ _ _ _ _ _ _ _ _ _ _ _ _ _ _ c.plan.ensures.answers is tt
+
+pub returns-in-Some-Trial-clause-stops : goal.returns-in-Some-Trial-clause-stops
+returns-in-Some-Trial-clause-stops g c =
+    let is = sym (ap (option_map meant) (c.in-Some-Trial.is ∙ ap Some c.in-Some-Trial.field-0-is)) ∙ c.parse.ensures in
+    let faults = g.S.Shelf.faults c.args.shelf.now in
+    other_stops _ _ _ _ _ _ _ _ _ _ _ _ _ _ _ _ (c.trial.ensures.answers (g.S.Shelf.bytes c.args.shelf.now) faults faults) is tt

@@ -1,8 +1,10 @@
-use Rattle.std.proofs.Common.{[], ◌∷◌, ap, sym, ◌∙◌}
+use Rattle.std.proofs.Common.{[], ◌∷◌, ap, sym, ◌∙◌, refl}
 use Rattle.plus_io.proofs.Pieces.{KeepsFiles-trans}
 use Rattle.plus_io.proofs.Readings.{each_then, of_more}
 use Rattle.plus_run.proofs.RunLemmas.{only_broken, only_read, only_memory, no_usage, rose_before, valid_run, plan_refused, plan_broken, plan_stopped, reading_leaves, pair_refused, pair_broken}
 use Rattle.plus_run.proofs.AnswerLemmas.{some_none, line_answer}
+use Rattle.plus_run.specs.Stopping.{in_pair}
+use Rattle.plus_run.proofs.StopLemmas.{line_no_read, plan_stops}
 use Rattle.plus_run.proofs.run.check.Goals as goal
 
 pub returns-in-Ok-clause-answers : goal.returns-in-Ok-clause-answers
@@ -56,3 +58,17 @@ returns-in-Err-ReadFault-clause-reads g c =
 pub returns-in-Err-NoMemory-clause-reads : goal.returns-in-Err-NoMemory-clause-reads
 returns-in-Err-NoMemory-clause-reads g c =
     of_more _ _ _ _ _ (c.args.files.domain.now ∷ c.args.files.problem.now ∷ []) (c.args.files.plan.now ∷ []) _ _ c.in-Err-NoMemory.ensures.reads
+
+pub returns-in-Ok-clause-stops : goal.returns-in-Ok-clause-stops
+returns-in-Ok-clause-stops g c = λ v.
+    plan_stops _ _ _ _ _ _ _ _ _ _ _ _ _ c.in-Ok.typed.domain c.in-Ok.typed.problem c.in-Ok.ensures.both c.in-Ok.ensures.read c.in-Ok.typed.well_typed
+    c.validate.ensures.reads (ap (λ f. f c.args.files.plan.now) c.in-Ok.ensures.keeps.same_bytes)
+    (c.validate.ensures.read_fault (only_read c.validate.result (sym c.of.ensures ∙ v))).1
+
+pub returns-in-Err-Early-clause-stops : goal.returns-in-Err-Early-clause-stops
+returns-in-Err-Early-clause-stops g c =
+    let line = rw c.in-Err-Early.early-is at c.refuse.ensures.writes in
+    line_no_read c.in-Err-Early.early _ _ _ _ _ line
+
+pub returns-in-Err-ReadFault-clause-stops : goal.returns-in-Err-ReadFault-clause-stops
+returns-in-Err-ReadFault-clause-stops g c = λ v. in_pair c.in-Err-ReadFault.ensures.reads refl
