@@ -3,7 +3,7 @@ use Rattle.std.proofs.Common.{◌≡◌, ℕ, suc, true, List, [], ◌∷◌, �
 use Rattle.std.specs.Prelude.{codes, map}
 use Rattle.plus_tokens.specs.declared.token.Kind.TheVariants as kinds
 use Rattle.plus_tokens.specs.declared.token.Op.TheVariants as ops
-use Rattle.plus_tree.specs.declared.names.Span.{Span}
+use Rattle.plus_tokens.specs.declared.span.Span.{Span}
 use Rattle.plus_tree.specs.declared.terms.Term.{Term}
 use Rattle.plus_tree.specs.declared.terms.TypedName.{TypedName}
 use Rattle.plus_tree.specs.declared.terms.Use.{Use}
@@ -12,7 +12,7 @@ use Rattle.plus_tree.specs.declared.terms.Comparison.TheVariants as comparisons
 use Rattle.plus_tree.specs.Expr.{Expr}
 use Rattle.plus_tree.specs.Cond.{Cond, Conds, c_all, c_any, c_not, c_imply, c_forall, c_exists, c_atom, c_same, c_compare, no_conds, more_conds}
 use Rattle.plus_reading.specs.declared.words.Allowed.TheVariants.{Terms}
-use Rattle.plus_reading.specs.Items.{Piece}
+use Rattle.plus_tokens.specs.Items.{Piece}
 use Rattle.plus_reading.specs.Spells.{Wrapped, room_after, sign_of, SpellsExpr}
 use Rattle.plus_forms.specs.SpellsForms.{SpellsCond, SpellsConds}
 use Rattle.plus_printer.specs.Words.{word, use_text, term_text, variables_text}

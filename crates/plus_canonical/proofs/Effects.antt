@@ -2,7 +2,7 @@
 use Rattle.std.proofs.Common.{◌≡◌, ℕ, suc, List, [], ◌∷◌, ◌++◌, refl, sym, ap, ◌∙◌, subst, inl, inr}
 use Rattle.std.specs.Prelude.{codes, map}
 use Rattle.plus_tokens.specs.declared.token.Kind.TheVariants as kinds
-use Rattle.plus_tree.specs.declared.names.Span.{Span}
+use Rattle.plus_tokens.specs.declared.span.Span.{Span}
 use Rattle.plus_tree.specs.declared.terms.TypedName.{TypedName}
 use Rattle.plus_tree.specs.declared.terms.Use.{Use}
 use Rattle.plus_tree.specs.declared.trees.Leaf.{Leaf}
@@ -12,7 +12,7 @@ use Rattle.plus_tree.specs.Expr.{Expr}
 use Rattle.plus_tree.specs.Cond.{Cond}
 use Rattle.plus_tree.specs.Effect.{Effect, Effects, e_all, e_forall, e_when, e_leaf, no_effects, more_effects}
 use Rattle.plus_reading.specs.declared.words.Allowed.TheVariants.{Terms}
-use Rattle.plus_reading.specs.Items.{Piece}
+use Rattle.plus_tokens.specs.Items.{Piece}
 use Rattle.plus_reading.specs.Spells.{Wrapped, Chain, room_after, SpellsUse, SpellsExpr}
 use Rattle.plus_forms.specs.SpellsForms.{SpellsChange, SpellsLeafNode, SpellsLeaf, SpellsSimple, SpellsEffect, SpellsEffects}
 use Rattle.plus_printer.specs.Words.{word, spaced, use_text, variables_text}

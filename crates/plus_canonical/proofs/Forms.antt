@@ -4,10 +4,10 @@ use Rattle.std.specs.Prelude.{map}
 use Rattle.plus_tokens.specs.declared.token.Kind.{Kind}
 use Rattle.plus_tokens.specs.declared.token.Kind.TheVariants as kinds
 use Rattle.plus_tokens.specs.declared.token.Op.{Op}
-use Rattle.plus_spelling.specs.Spelling.{op_bytes}
-use Rattle.plus_tree.specs.declared.names.Span.{Span}
-use Rattle.plus_tree.specs.Lowered.{lowered}
-use Rattle.plus_reading.specs.Items.{Piece}
+use Rattle.plus_tokens.specs.Spelling.{op_bytes}
+use Rattle.plus_tokens.specs.declared.span.Span.{Span}
+use Rattle.plus_tokens.specs.Lowered.{lowered}
+use Rattle.plus_tokens.specs.Items.{Piece}
 use Rattle.plus_reading.specs.Grammar.{around}
 use Rattle.plus_reading.specs.Spells.{Wrapped, Chain, room_after}
 use Rattle.plus_printer.specs.Words.{word, spaced}

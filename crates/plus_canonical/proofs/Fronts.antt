@@ -5,12 +5,12 @@ use Rattle.std.proofs.lemmas.List.{append-nil}
 use Rattle.std.proofs.Math.Seq.{drop-length}
 use Rattle.plus_tokens.specs.declared.token.Kind.TheVariants as kinds
 use Rattle.plus_tokens.specs.First.{first_token}
-use Rattle.plus_spelling.proofs.Read as spelling
-use Rattle.plus_spelling.specs.Spelling.{IsGapToEnd}
-use Rattle.plus_tree.specs.declared.names.Span.{Span}
-use Rattle.plus_reading.specs.Items.{Piece, tok, items_at, items_of}
+use Rattle.plus_tokens.proofs.Read as spelling
+use Rattle.plus_tokens.specs.Spelling.{IsGapToEnd}
+use Rattle.plus_tokens.specs.declared.span.Span.{Span}
+use Rattle.plus_tokens.specs.Items.{Piece, tok, items_at, items_of}
 use Rattle.plus_reading.specs.Grammar.{around}
-use Rattle.plus_reading.proofs.Stream.{at_none}
+use Rattle.plus_tokens.proofs.Items.{at_none}
 use Rattle.plus_reading.proofs.Tokens.{toks, toks_all}
 use Rattle.plus_parser.specs.SpellsDomain.{Framed}
 use Rattle.plus_canonical.proofs.Lexes.{Ended, at_close, Any, Read, Reads, Both, both, turn, join, piece, IsToken}

@@ -6,7 +6,7 @@ use Rattle.plus_tree.specs.declared.trees.Head.{Head}
 use Rattle.plus_tree.specs.declared.trees.Schema.{Schema}
 use Rattle.plus_tree.specs.declared.trees.Domain.{Domain}
 use Rattle.plus_reading.specs.declared.words.Allowed.TheVariants.{Names}
-use Rattle.plus_reading.specs.Items.{Piece}
+use Rattle.plus_tokens.specs.Items.{Piece}
 use Rattle.plus_parser.specs.declared.parts.DomainParts.{DomainParts}
 use Rattle.plus_parser.specs.ReadingDomain.{no_parts, domain_made}
 use Rattle.plus_parser.specs.SpellsDomain.{DomainPart, d_requirements, d_types, d_constants, d_predicates, d_functions, d_action, d_process, d_event, SpellsRequirement, SpellsHead, SpellsDomainPart, with_domain_part, DomainTokens}

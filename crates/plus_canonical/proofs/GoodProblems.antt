@@ -7,7 +7,7 @@ use Rattle.plus_tree.specs.declared.trees.Init.{Init}
 use Rattle.plus_tree.specs.declared.trees.Problem.{Problem}
 use Rattle.plus_tree.specs.Cond.{Cond}
 use Rattle.plus_reading.specs.declared.words.Allowed.TheVariants.{Names}
-use Rattle.plus_reading.specs.Items.{Piece}
+use Rattle.plus_tokens.specs.Items.{Piece}
 use Rattle.plus_parser.specs.declared.parts.ProblemParts.{ProblemParts}
 use Rattle.plus_parser.specs.ReadingProblem.{no_problem_parts, problem_made}
 use Rattle.plus_parser.specs.SpellsDomain.{SpellsRequirement}

@@ -7,7 +7,7 @@ use Rattle.plus_tree.specs.declared.names.Spelled.{Spelled}
 use Rattle.plus_tree.specs.declared.terms.TypedName.{TypedName}
 use Rattle.plus_tree.specs.declared.trees.Head.{Head}
 use Rattle.plus_reading.specs.declared.words.Allowed.TheVariants.{Variables}
-use Rattle.plus_reading.specs.Items.{Piece}
+use Rattle.plus_tokens.specs.Items.{Piece}
 use Rattle.plus_reading.specs.Words.{is_plain_head, word_head}
 use Rattle.plus_reading.specs.Spells.{Chain, added}
 use Rattle.plus_parser.specs.declared.parts.Functions.{Functions}

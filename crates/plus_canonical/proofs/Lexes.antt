@@ -10,13 +10,13 @@ use Rattle.plus_tokens.specs.declared.token.Token.{Token}
 use Rattle.plus_tokens.specs.declared.token.LexFault.{LexFault}
 use Rattle.plus_tokens.specs.Bytes.{is_blank, is_letter, is_digit, is_name_byte}
 use Rattle.plus_tokens.specs.First.{token_start, first_token}
-use Rattle.plus_spelling.specs.Spelling.{begins, EndsOp, Ends, Spells, IsFirst}
-use Rattle.plus_spelling.proofs.Runs.{behind, inside_at}
-use Rattle.plus_spelling.proofs.Found.{found}
-use Rattle.plus_tree.specs.declared.names.Span.{Span}
-use Rattle.plus_tree.specs.Lowered.{lowered}
-use Rattle.plus_reading.specs.Items.{Piece, piece_of, items_at}
-use Rattle.plus_reading.proofs.Stream.{at_token, at_none, at_fault}
+use Rattle.plus_tokens.specs.Spelling.{begins, EndsOp, Ends, Spells, IsFirst}
+use Rattle.plus_tokens.proofs.Runs.{behind, inside_at}
+use Rattle.plus_tokens.proofs.Found.{found}
+use Rattle.plus_tokens.specs.declared.span.Span.{Span}
+use Rattle.plus_tokens.specs.Lowered.{lowered}
+use Rattle.plus_tokens.specs.Items.{Piece, piece_of, items_at}
+use Rattle.plus_tokens.proofs.Items.{at_token, at_none, at_fault}
 use Rattle.plus_reading.proofs.Tokens.{toks, toks-append}
 
 -- ---- what may stand behind

@@ -9,11 +9,11 @@ use Rattle.std.proofs.Math.Nat.{pow-le-pow_right, mul-le-mul, pow-succ'}
 use Rattle.plus_tokens.specs.declared.token.Kind.{Kind}
 use Rattle.plus_tokens.specs.declared.token.Kind.TheVariants as kinds
 use Rattle.plus_tokens.specs.Bytes.{is_digit, decimal as read_decimal}
-use Rattle.plus_spelling.specs.Spelling.{Each, sign_of, point_and, IsNumber, Spells}
-use Rattle.plus_tree.specs.declared.names.Span.{Span}
+use Rattle.plus_tokens.specs.Spelling.{Each, sign_of, point_and, IsNumber, Spells}
+use Rattle.plus_tokens.specs.declared.span.Span.{Span}
 use Rattle.plus_tree.specs.declared.terms.Literal.{Literal}
-use Rattle.plus_tree.specs.Lowered.{lowered}
-use Rattle.plus_reading.specs.Items.{Piece}
+use Rattle.plus_tokens.specs.Lowered.{lowered}
+use Rattle.plus_tokens.specs.Items.{Piece}
 use Rattle.plus_reading.specs.Literals.{trimmed, kind_literal}
 use Rattle.plus_reading.specs.Words.{is_time}
 use Rattle.plus_reading.specs.Spells as spells

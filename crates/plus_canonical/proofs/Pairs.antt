@@ -1,8 +1,8 @@
 -- Forms with a word or a sign and two parts behind it.
 use Rattle.std.proofs.Common.{◌≡◌, ℕ, suc, true, List, [], ◌∷◌, ◌++◌, subst, append_assoc}
 use Rattle.plus_tokens.specs.declared.token.Kind.{Kind}
-use Rattle.plus_tree.specs.declared.names.Span.{Span}
-use Rattle.plus_reading.specs.Items.{Piece}
+use Rattle.plus_tokens.specs.declared.span.Span.{Span}
+use Rattle.plus_tokens.specs.Items.{Piece}
 use Rattle.plus_reading.specs.Spells.{Wrapped}
 use Rattle.plus_canonical.proofs.Lexes.{Ended, at_space, Any, Reads, Both, both, turn, join, piece, IsToken}
 use Rattle.plus_reading.proofs.Level.{Even, is_flat, even_append}

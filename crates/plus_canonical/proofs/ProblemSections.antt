@@ -7,7 +7,7 @@ use Rattle.plus_tree.specs.declared.terms.TypedName.{TypedName}
 use Rattle.plus_tree.specs.declared.trees.Init.{Init}
 use Rattle.plus_tree.specs.Cond.{Cond}
 use Rattle.plus_reading.specs.declared.words.Allowed.TheVariants.{Names}
-use Rattle.plus_reading.specs.Items.{Piece}
+use Rattle.plus_tokens.specs.Items.{Piece}
 use Rattle.plus_reading.specs.Spells.{Wrapped, Chain}
 use Rattle.plus_parser.specs.declared.parts.ProblemParts.{ProblemParts}
 use Rattle.plus_forms.specs.SpellsForms.{SpellsCond}

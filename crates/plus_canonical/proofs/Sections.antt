@@ -2,9 +2,9 @@
 use Rattle.std.proofs.Common.{◌≡◌, ℕ, suc, List, [], ◌∷◌, ◌++◌, Option, Some, None, refl, sym, ap, ◌∙◌, subst, append_assoc, true, arith}
 use Rattle.std.specs.Prelude.{map, unwrap_or, option_and_then}
 use Rattle.plus_tokens.specs.declared.token.Kind.TheVariants as kinds
-use Rattle.plus_tree.specs.declared.names.Span.{Span}
+use Rattle.plus_tokens.specs.declared.span.Span.{Span}
 use Rattle.plus_tree.specs.declared.names.Spelled.{Spelled}
-use Rattle.plus_reading.specs.Items.{Piece}
+use Rattle.plus_tokens.specs.Items.{Piece}
 use Rattle.plus_reading.specs.Spells.{room_after, Wrapped, Chain, added}
 use Rattle.plus_parser.specs.SpellsDomain.{SpellsRequirement}
 use Rattle.plus_printer.specs.Words.{word, spaced}

@@ -11,12 +11,12 @@ use Rattle.plus_tokens.specs.declared.token.Token.{Token}
 use Rattle.plus_tokens.specs.declared.token.LexFault.{LexFault}
 use Rattle.plus_tokens.specs.Bytes.{is_letter, is_name_byte}
 use Rattle.plus_tokens.specs.First.{first_token}
-use Rattle.plus_spelling.specs.Spelling.{Each, IsName, Spells}
-use Rattle.plus_spelling.proofs.Runs.{behind}
-use Rattle.plus_spelling.proofs.Read.{read}
-use Rattle.plus_tree.specs.declared.names.Span.{Span}
-use Rattle.plus_tree.specs.Lowered.{lowered}
-use Rattle.plus_reading.specs.Items.{Piece, Item, tok, piece_of, items_step, items_from}
+use Rattle.plus_tokens.specs.Spelling.{Each, IsName, Spells}
+use Rattle.plus_tokens.proofs.Runs.{behind}
+use Rattle.plus_tokens.proofs.Read.{read}
+use Rattle.plus_tokens.specs.declared.span.Span.{Span}
+use Rattle.plus_tokens.specs.Lowered.{lowered}
+use Rattle.plus_tokens.specs.Items.{Piece, Item, tok, piece_of, items_step, items_from}
 use Rattle.plus_reading.specs.Spells.{Wrapped, room_step, room_after}
 use Rattle.plus_reading.proofs.Level.{Even, Level, is_flat, after_flat, level_flat, split_append, split_wrapped, even_wrapped, even_append}
 

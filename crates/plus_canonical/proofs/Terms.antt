@@ -12,10 +12,10 @@ use Rattle.plus_tree.specs.declared.names.Spelled.{Spelled}
 use Rattle.plus_tree.specs.declared.terms.Term.{Term}
 use Rattle.plus_tree.specs.declared.terms.Term.TheVariants.{Object, Variable}
 use Rattle.plus_tree.specs.declared.terms.Use.{Use}
-use Rattle.plus_tree.specs.Lowered.{lowered}
+use Rattle.plus_tokens.specs.Lowered.{lowered}
 use Rattle.plus_reading.specs.declared.words.Allowed.{Allowed}
 use Rattle.plus_reading.specs.declared.words.Allowed.TheVariants as allows
-use Rattle.plus_reading.specs.Items.{Piece}
+use Rattle.plus_tokens.specs.Items.{Piece}
 use Rattle.plus_reading.specs.Words.{is_name, is_variable, is_allowed, is_plain, is_plain_head, kind_head, word_head, op_head}
 use Rattle.plus_reading.specs.Grammar.{spelled_of, bare_of, named_of, term_of}
 use Rattle.plus_reading.specs.Spells.{Chain, SpellsArgument, SpellsUse}

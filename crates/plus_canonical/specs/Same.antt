@@ -2,7 +2,7 @@
 -- and one place in all its spans; two trees are equal but for spans where their bare forms are equal. The place itself means
 -- nothing.
 use Rattle.std.specs.Prelude.{◌≡◌, map}
-use Rattle.plus_tree.specs.declared.names.Span.{Span}
+use Rattle.plus_tokens.specs.declared.span.Span.{Span}
 use Rattle.plus_tree.specs.declared.names.Spelled.{Spelled}
 use Rattle.plus_tree.specs.declared.terms.Term.{Term}
 use Rattle.plus_tree.specs.declared.terms.Term.TheVariants.{Object, Variable}

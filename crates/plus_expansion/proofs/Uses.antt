@@ -1,6 +1,6 @@
 -- A use without a fault names a ground atom or fluent that is there.
 use Rattle.std.proofs.Common.{◌≡◌, ℕ, ◌<◌, Bool, true, false, not, ◌==◌, ◌&&◌, List, [], ◌∷◌, map, ap, sym, refl, ◌∙◌, subst, Option, Some, None, length, arith, eqb-true}
-use Rattle.plus_tree.specs.declared.names.Span.{Span}
+use Rattle.plus_tokens.specs.declared.span.Span.{Span}
 use Rattle.plus_tree.specs.declared.terms.Term.{Term}
 use Rattle.plus_tree.specs.declared.terms.Term.TheVariants.{Object, Variable}
 use Rattle.plus_tree.specs.declared.terms.TypedName.{TypedName}

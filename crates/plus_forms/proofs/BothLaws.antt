@@ -1,7 +1,7 @@
 -- One form after another: what is taken is spelled so, and what is spelled so is read.
 use Rattle.std.proofs.Common.{◌≡◌, ℕ, suc, true, List, [], ◌∷◌, ◌++◌, Ok, refl, sym, ap, ◌∙◌, subst, arith}
-use Rattle.plus_tree.specs.declared.names.Span.{Span}
-use Rattle.plus_reading.specs.Items.{Piece, Item, tok}
+use Rattle.plus_tokens.specs.declared.span.Span.{Span}
+use Rattle.plus_tokens.specs.Items.{Piece, Item, tok}
 use Rattle.plus_reading.specs.Reading.{◌>>=◌, Read}
 use Rattle.plus_reading.specs.Words.{is_close}
 use Rattle.plus_reading.specs.Grammar.{around, open_of, close_of, Former}

@@ -1,7 +1,7 @@
 -- The tokens of a condition or a leaf close as many parentheses as they open.
 use Rattle.std.proofs.Common.{ℕ, List, [], ◌∷◌, ◌++◌, refl, ap, inl, ⊎_elim}
 use Rattle.std.specs.Prelude.{codes}
-use Rattle.plus_tree.specs.declared.names.Span.{Span}
+use Rattle.plus_tokens.specs.declared.span.Span.{Span}
 use Rattle.plus_tree.specs.declared.terms.Term.{Term}
 use Rattle.plus_tree.specs.declared.terms.Use.{Use}
 use Rattle.plus_tree.specs.declared.trees.LeafNode.{LeafNode}
@@ -9,7 +9,7 @@ use Rattle.plus_tree.specs.declared.trees.LeafNode.TheVariants.{Add, Delete, Ass
 use Rattle.plus_tree.specs.Expr.{Expr}
 use Rattle.plus_tree.specs.Cond.{Cond, c_all, c_any, c_not, c_imply, c_forall, c_exists, c_atom, c_same, c_compare, Conds, no_conds, more_conds}
 use Rattle.plus_reading.specs.declared.words.Allowed.TheVariants.{Terms}
-use Rattle.plus_reading.specs.Items.{Piece}
+use Rattle.plus_tokens.specs.Items.{Piece}
 use Rattle.plus_reading.specs.Spells.{SpellsArgument}
 use Rattle.plus_forms.specs.SpellsForms.{SpellsChange, SpellsCond, SpellsConds, SpellsLeafNode}
 use Rattle.plus_reading.proofs.Level.{Level, is_flat, level_at, level_name, level_flat, level_append, level_wrapped, level_use, level_expr, level_none, allowed_flat}

@@ -1,7 +1,7 @@
 -- A leaf of an effect, and leaves where a condition holds: what is read is spelled so, and what is spelled is read.
 use Rattle.std.proofs.Common.{◌≡◌, ℕ, suc, ◌-◌, ◌<◌, true, List, [], ◌∷◌, ◌++◌, length, Ok, refl, sym, ap, ◌∙◌, subst, inl, inr, ⊎_elim, arith}
 use Rattle.std.specs.Prelude.{codes}
-use Rattle.plus_tree.specs.declared.names.Span.{Span}
+use Rattle.plus_tokens.specs.declared.span.Span.{Span}
 use Rattle.plus_tree.specs.declared.terms.Use.{Use}
 use Rattle.plus_tree.specs.declared.trees.Leaf.{Leaf}
 use Rattle.plus_tree.specs.declared.trees.LeafNode.{LeafNode}
@@ -12,7 +12,7 @@ use Rattle.plus_reading.specs.declared.words.HeadWord.{HeadWord}
 use Rattle.plus_reading.specs.declared.words.HeadWord.TheVariants.{Nothing, And, Not, Change, Plain}
 use Rattle.plus_reading.specs.declared.words.Change as words
 use Rattle.plus_reading.specs.declared.words.Change.TheVariants as changes
-use Rattle.plus_reading.specs.Items.{Piece, Item, tok}
+use Rattle.plus_tokens.specs.Items.{Piece, Item, tok}
 use Rattle.plus_reading.specs.Reading.{◌>>=◌, Read, next_of, is_open}
 use Rattle.plus_reading.specs.Words.{head_of, is_close}
 use Rattle.plus_reading.specs.Grammar.{around, close_of, until_close, Former, form_step, use_of, use_end, use_form, expr_next, expr_at}

@@ -1,7 +1,7 @@
 -- A form inside a form.
 use Rattle.std.proofs.Common.{◌≡◌, ℕ, zero, suc, ◌-◌, ◌<◌, List, ap, arith}
-use Rattle.plus_tree.specs.declared.names.Span.{Span}
-use Rattle.plus_reading.specs.Items.{Item}
+use Rattle.plus_tokens.specs.declared.span.Span.{Span}
+use Rattle.plus_tokens.specs.Items.{Item}
 use Rattle.plus_forms.specs.ReadingForms.{cond_at, cond_body, effect_at, effect_body}
 
 pub cond_at-inside : (room : ℕ) (front : Span) (items : List Item) → 0 < room → cond_at room front items ≡ cond_body (room - 1) (cond_at (room - 1)) front items

@@ -1,4 +1,4 @@
-pub use Rattle.plus_reading.specs.Items
+pub use Rattle.plus_tokens.specs.Items
 pub use Rattle.plus_reading.specs.Reading
 pub use Rattle.plus_reading.specs.Words
 pub use Rattle.plus_reading.specs.Grammar

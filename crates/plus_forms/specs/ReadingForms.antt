@@ -1,6 +1,6 @@
 -- Reading conditions and effects from tokens.
 use Rattle.std.specs.Prelude.{ℕ, zero, suc, ◌-◌, if◌then◌else◌, Bool, true, false, ◌&&◌, List, [], ◌∷◌, length, Ok, Err}
-use Rattle.plus_tree.specs.declared.names.Span.{Span}
+use Rattle.plus_tokens.specs.declared.span.Span.{Span}
 use Rattle.plus_tree.specs.declared.terms.Term.{Term}
 use Rattle.plus_tree.specs.declared.terms.Use.{Use}
 use Rattle.plus_tree.specs.declared.terms.Comparison.{Comparison}
@@ -18,7 +18,7 @@ use Rattle.plus_reading.specs.declared.words.HeadWord.{HeadWord}
 use Rattle.plus_reading.specs.declared.words.HeadWord.TheVariants.{Nothing, And, Or, Not, Imply, ForAll, Exists, When, Change, Compare, Plain}
 use Rattle.plus_reading.specs.declared.words.Change as words
 use Rattle.plus_reading.specs.declared.words.Change.TheVariants as changes
-use Rattle.plus_reading.specs.Items.{Piece, Item}
+use Rattle.plus_tokens.specs.Items.{Piece, Item}
 use Rattle.plus_reading.specs.Reading.{◌>>=◌, Read, next_of}
 use Rattle.plus_reading.specs.Words.{head_of, is_term}
 use Rattle.plus_reading.specs.Grammar.{around, term_of, open_of, close_of, until_close, Former, form_step, variables_of, use_end, use_form, expr_from, expr_next, expr_at}

@@ -1,6 +1,6 @@
 -- Which tokens spell a condition or an effect: the grammar as a relation, with no word on reading.
 use Rattle.std.specs.Prelude.{◌≡◌, ℕ, ◌⊎◌, List, [], ◌∷◌, ◌++◌, codes}
-use Rattle.plus_tree.specs.declared.names.Span.{Span}
+use Rattle.plus_tokens.specs.declared.span.Span.{Span}
 use Rattle.plus_tree.specs.declared.terms.Use.{Use}
 use Rattle.plus_tokens.specs.declared.token.Op.TheVariants.{Equal}
 use Rattle.plus_tree.specs.declared.trees.Leaf.{Leaf}
@@ -10,7 +10,7 @@ use Rattle.plus_tree.specs.Expr.{Expr}
 use Rattle.plus_tree.specs.Cond.{Cond, c_all, c_any, c_not, c_imply, c_forall, c_exists, c_atom, c_same, c_compare, Conds, no_conds, more_conds}
 use Rattle.plus_tree.specs.Effect.{Effect, e_all, e_forall, e_when, e_leaf, Effects, no_effects, more_effects}
 use Rattle.plus_reading.specs.declared.words.Allowed.TheVariants.{Terms}
-use Rattle.plus_reading.specs.Items.{Piece}
+use Rattle.plus_tokens.specs.Items.{Piece}
 use Rattle.plus_reading.specs.Spells.{IsWord, IsSign, Wrapped, Chain, sign_of, SpellsArgument, SpellsVariables, SpellsUse, SpellsExpr}
 
 -- `()`, `(and ..)`, `(or ..)`, `(not ..)`, `(imply ..)`, `(forall (..) ..)`, `(exists (..) ..)`, an atom, `(= ..)` of two terms and a comparison

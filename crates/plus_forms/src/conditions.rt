@@ -5,15 +5,16 @@ ghost use Rattle.plus_tree.specs.CondView.{cond_view};
 ghost use Rattle.plus_reading.specs.Reading.{Gives, is_open};
 ghost use Rattle.plus_reading.specs.Words.{head_of, is_term};
 ghost use Rattle.plus_reading.specs.Grammar.{around, until_close, form_step, variables_of};
-ghost use Rattle.plus_reading.specs.Seen.{seen};
+ghost use Rattle.plus_tokens.specs.Seen.{seen};
 ghost use Rattle.plus_forms.specs.ReadingForms.{may_be_same, term_next, same_of, compared_of, plain_cond_with, form_next, both_of, cond_at, cond_body};
 
 use plus_reading::expressions;
 use plus_reading::lists::variables;
-use plus_reading::reader::{Reader, Seen};
+use plus_reading::reader::Reader;
+use plus_reading::spelled::term_of;
 use plus_reading::uses::{around, use_end};
 use plus_reading::words::{Allowed, HeadWord, head_of, is_close, is_open, is_term};
-use plus_tokens::Kind;
+use plus_tokens::{Kind, Seen};
 use plus_tree::{Comparison, CondNode, CondTree, Members, Span, Term, TextFault, TypedName};
 use std::alloc::Global;
 
@@ -28,7 +29,7 @@ fn term(alloc: Global, reader: &mut Reader<'_>, room: u8) -> Result<Term, TextFa
 {
     let token = reader.next(room)?;
     if is_term(token.kind) {
-        Ok(token.term(alloc)?)
+        Ok(term_of(alloc, &token)?)
     } else {
         Err(TextFault::Form { span: token.span })
     }
@@ -63,7 +64,7 @@ fn same(
 {
     let second = term(alloc, reader, room)?;
     let last = reader.close(room)?;
-    let first = Box::new(alloc, first.term(alloc)?)?;
+    let first = Box::new(alloc, term_of(alloc, first)?)?;
     let second = Box::new(alloc, second)?;
     Ok(CondTree {
         node: CondNode::Same(first, second),

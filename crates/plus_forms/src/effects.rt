@@ -3,14 +3,15 @@
 ghost use Rattle.std.specs.Prelude.{◌≡◌, true, ◌<◌, ◌≤◌, [], length, OnOk};
 ghost use Rattle.plus_reading.specs.Reading.{Gives, is_open};
 ghost use Rattle.plus_reading.specs.Grammar.{around, until_close, form_step, variables_of};
-ghost use Rattle.plus_reading.specs.Seen.{seen};
+ghost use Rattle.plus_tokens.specs.Seen.{seen};
 ghost use Rattle.plus_forms.specs.ReadingForms.{both_of, form_next, cond_at, simple_at, effect_at, effect_body};
 
 use crate::{conditions, leaves};
 use plus_reading::lists::variables;
-use plus_reading::reader::{Reader, Seen};
+use plus_reading::reader::Reader;
 use plus_reading::uses::around;
 use plus_reading::words::{HeadWord, head_of, is_close, is_open};
+use plus_tokens::Seen;
 use plus_tree::{CondTree, EffectNode, EffectTree, Leaf, Members, Span, TextFault, TypedName};
 use std::alloc::Global;
 

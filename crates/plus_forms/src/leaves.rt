@@ -5,13 +5,14 @@ ghost use Rattle.plus_reading.specs.Reading.{Gives, is_open};
 ghost use Rattle.plus_reading.specs.Words.{head_of};
 ghost use Rattle.plus_reading.specs.Grammar.{around, until_close, form_step, use_form, expr_next, expr_at};
 ghost use Rattle.plus_reading.specs.declared.words.Allowed.TheVariants.{Terms};
-ghost use Rattle.plus_reading.specs.Seen.{seen};
+ghost use Rattle.plus_tokens.specs.Seen.{seen};
 ghost use Rattle.plus_forms.specs.ReadingForms.{both_of, form_next, change_node, leaf_with, leaf_behind, leaf_at, simple_at};
 
 use plus_reading::expressions;
-use plus_reading::reader::{Reader, Seen};
+use plus_reading::reader::Reader;
 use plus_reading::uses::{around, use_end, use_form};
 use plus_reading::words::{Allowed, Change, HeadWord, head_of, is_close, is_open};
+use plus_tokens::Seen;
 use plus_tree::{ExprTree, Leaf, LeafNode, Members, Span, TextFault, Use};
 use std::alloc::Global;
 

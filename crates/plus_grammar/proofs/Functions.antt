@@ -3,7 +3,7 @@ use Rattle.std.proofs.Common.{◌≡◌, ◌≢◌, Bool, true, false, List, [],
 use Rattle.std.specs.Prelude.{◌↔◌}
 use Rattle.plus_tree.specs.declared.trees.Head.{Head}
 use Rattle.plus_reading.specs.declared.words.Allowed.TheVariants.{Variables}
-use Rattle.plus_reading.specs.Items.{Piece}
+use Rattle.plus_tokens.specs.Items.{Piece}
 use Rattle.plus_reading.specs.Grammar.{spelled_of}
 use Rattle.plus_reading.specs.Spells.{Chain, added}
 use Rattle.plus_reading.proofs.Forms.{some_is}

@@ -2,7 +2,7 @@
 use Rattle.std.proofs.Common.{◌≡◌, ◌≢◌, true, List, [], ◌∷◌, ◌++◌, refl, ap, sym, subst, ◌∙◌, append_assoc}
 use Rattle.plus_tree.specs.declared.names.Spelled.{Spelled}
 use Rattle.plus_reading.specs.declared.words.Allowed.TheVariants.{Names}
-use Rattle.plus_reading.specs.Items.{Piece}
+use Rattle.plus_tokens.specs.Items.{Piece}
 use Rattle.plus_reading.specs.Words.{is_allowed}
 use Rattle.plus_reading.specs.Grammar.{spelled_of, named_of}
 use Rattle.plus_reading.specs.Spells.{Chain, IsAllowed}

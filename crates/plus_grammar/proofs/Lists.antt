@@ -6,7 +6,7 @@ use Rattle.plus_tree.specs.declared.names.Spelled.{Spelled}
 use Rattle.plus_tree.specs.declared.terms.TypedName.{TypedName}
 use Rattle.plus_reading.specs.declared.words.Allowed.{Allowed}
 use Rattle.plus_reading.specs.declared.words.Allowed.TheVariants.{Names}
-use Rattle.plus_reading.specs.Items.{Piece}
+use Rattle.plus_tokens.specs.Items.{Piece}
 use Rattle.plus_reading.specs.Grammar.{Listing, no_names, of_type, object_type, typed_by}
 use Rattle.plus_reading.specs.Spells.{Chain, added, ListPart, l_name, l_type, SpellsListPart, with_list_part, SpellsListing, SpellsList}
 use Rattle.plus_reading.proofs.Forms.{some_is}

@@ -5,7 +5,7 @@ use Rattle.std.specs.List.{sum_by}
 use Rattle.std.proofs.lemmas.List.Sums.{sum_by-cons}
 use Rattle.plus_tokens.specs.declared.token.Kind.{Kind}
 use Rattle.plus_tokens.specs.declared.token.Kind.TheVariants as kinds
-use Rattle.plus_reading.specs.Items.{Piece}
+use Rattle.plus_tokens.specs.Items.{Piece}
 use Rattle.plus_reading.specs.Reading.{is_open}
 use Rattle.plus_reading.specs.Words.{is_close}
 use Rattle.plus_reading.specs.Spells.{room_step, room_after, FitsDepth}

@@ -4,13 +4,13 @@ use Rattle.std.specs.Prelude.{◌↔◌}
 use Rattle.plus_tokens.specs.declared.token.Token.{Token}
 use Rattle.plus_tokens.specs.declared.token.LexFault.{LexFault}
 use Rattle.plus_tokens.specs.First.{first_token}
-use Rattle.plus_spelling.specs.Spelling.{IsGapToEnd}
-use Rattle.plus_spelling.proofs.Found.{found}
-use Rattle.plus_spelling.proofs.Read.{none, read}
+use Rattle.plus_tokens.specs.Spelling.{IsGapToEnd}
+use Rattle.plus_tokens.proofs.Found.{found}
+use Rattle.plus_tokens.proofs.Read.{none, read}
 use Rattle.plus_tree.specs.declared.trees.Domain.{Domain}
 use Rattle.plus_tree.specs.declared.trees.Problem.{Problem}
-use Rattle.plus_reading.specs.Items.{Piece, tok, piece_of, items_at, items_of}
-use Rattle.plus_reading.proofs.Stream.{stands, at_token, at_none, at_fault}
+use Rattle.plus_tokens.specs.Items.{Piece, tok, piece_of, items_at, items_of}
+use Rattle.plus_tokens.proofs.Items.{stands, at_token, at_none, at_fault}
 use Rattle.plus_parser.specs.SpellsDomain.{SpellsWithin}
 use Rattle.plus_parser.specs.SpellsProblem.{SpellsProblemWithin}
 use Rattle.plus_grammar.specs.Texts.{AreTokens, IsDomainText, IsProblemText}

@@ -5,7 +5,7 @@ use Rattle.plus_tree.specs.declared.trees.Schema.{Schema}
 use Rattle.plus_tree.specs.declared.trees.Domain.{Domain}
 use Rattle.plus_tree.specs.declared.trees.Problem.{Problem}
 use Rattle.plus_reading.specs.declared.words.Allowed.TheVariants.{Names}
-use Rattle.plus_reading.specs.Items.{Piece}
+use Rattle.plus_tokens.specs.Items.{Piece}
 use Rattle.plus_reading.specs.Grammar.{spelled_of}
 use Rattle.plus_reading.specs.Spells.{Wrapped}
 use Rattle.plus_parser.specs.ReadingDomain.{schema_made}

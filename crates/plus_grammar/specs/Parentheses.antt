@@ -1,6 +1,6 @@
 -- Parentheses, by their counts in front of each place.
 use Rattle.std.specs.Prelude.{◌≡◌, ℕ, ◌+◌, ◌≤◌, List, ◌++◌, count_by}
-use Rattle.plus_reading.specs.Items.{Piece}
+use Rattle.plus_tokens.specs.Items.{Piece}
 use Rattle.plus_reading.specs.Reading.{is_open}
 use Rattle.plus_reading.specs.Words.{is_close}
 

@@ -3,7 +3,7 @@ use Rattle.std.specs.Prelude.{◌≡◌, ℕ, ◌+◌, List, [], ◌∷◌, leng
 use Prim.Native.String.{String}
 use Rattle.plus_tokens.specs.declared.token.Kind.TheVariants as kinds
 use Rattle.plus_tokens.specs.declared.token.Op.TheVariants as ops
-use Rattle.plus_tree.specs.declared.names.Span.{Span}
+use Rattle.plus_tokens.specs.declared.span.Span.{Span}
 use Rattle.plus_tree.specs.declared.names.Spelled.{Spelled}
 use Rattle.plus_tree.specs.declared.terms.TypedName.{TypedName}
 use Rattle.plus_tree.specs.declared.trees.Schema.{Schema}
@@ -12,7 +12,7 @@ use Rattle.plus_tree.specs.declared.trees.Problem.{Problem}
 use Rattle.plus_tree.specs.Cond.{Cond, c_all, no_conds}
 use Rattle.plus_tree.specs.Effect.{e_all, no_effects}
 use Rattle.plus_reading.specs.declared.words.Allowed.TheVariants.{Names}
-use Rattle.plus_reading.specs.Items.{Piece}
+use Rattle.plus_tokens.specs.Items.{Piece}
 use Rattle.plus_reading.specs.Grammar.{nowhere, spelled_of, of_type, object_type}
 use Rattle.plus_parser.specs.SpellsDomain.{k_parameters, k_condition, d_types, d_action}
 use Rattle.plus_parser.specs.SpellsProblem.{p_domain, p_init, p_goal, p_metric}

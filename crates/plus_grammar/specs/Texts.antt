@@ -1,10 +1,10 @@
 -- Which texts spell a domain and a problem: by tokens that stand one behind the other.
 use Rattle.std.specs.Prelude.{◌≡◌, ℕ, List, [], ◌∷◌, drop}
 use Rattle.plus_tokens.specs.declared.token.Token.{Token}
-use Rattle.plus_spelling.specs.Spelling.{IsFirst, IsGapToEnd}
+use Rattle.plus_tokens.specs.Spelling.{IsFirst, IsGapToEnd}
 use Rattle.plus_tree.specs.declared.trees.Domain.{Domain}
 use Rattle.plus_tree.specs.declared.trees.Problem.{Problem}
-use Rattle.plus_reading.specs.Items.{Piece, piece_of}
+use Rattle.plus_tokens.specs.Items.{Piece, piece_of}
 use Rattle.plus_grammar.specs.Parentheses.{IsWithin}
 use Rattle.plus_grammar.specs.Wholes.{IsDomain, IsProblem}
 

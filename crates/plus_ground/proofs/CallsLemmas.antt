@@ -28,7 +28,7 @@ use Rattle.plus_expansion.specs.Calls.{called_of, bound_by}
 use Rattle.plus_expansion.specs.Literals.{in_file, literals_of, init_literals, condition_literals, schema_literals, call_literals}
 use Rattle.plus_state.specs.Fits.{ProblemFits, ActionFits}
 use Rattle.plus_types.specs.Faults.{is_well_typed}
-use Rattle.plus_tree.specs.declared.names.Span.{Span}
+use Rattle.plus_tokens.specs.declared.span.Span.{Span}
 use Rattle.plus_expansion.specs.Nodes.{action_nodes}
 use Rattle.plus_expansion.specs.Counting.{IsGroundable}
 use Rattle.plus_expansion.proofs.Fitting.{expansion_fits, instances_fit}

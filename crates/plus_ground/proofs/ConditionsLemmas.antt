@@ -11,7 +11,7 @@ use Rattle.plus_state.specs.Tests.{joined}
 use Rattle.plus_state.proofs.TestsLemmas.{all_view, any_view}
 use Rattle.plus_tree.specs.Cond as tree
 use Rattle.plus_tree.specs.Cond.{conds_of, cond_size, conds_size, c_all, c_any, c_forall, c_exists}
-use Rattle.plus_tree.specs.declared.names.Span.{Span}
+use Rattle.plus_tokens.specs.declared.span.Span.{Span}
 use Rattle.plus_tree.specs.declared.terms.TypedName.{TypedName}
 use Rattle.plus_model.specs.Value.{signed}
 use Rattle.plus_types.specs.Faults.{Context}

@@ -7,7 +7,7 @@ use Rattle.plus_fraction.specs.Fraction.{Fraction}
 use Rattle.plus_literal.specs.Value.{LiteralFits}
 use Rattle.plus_tree.specs.declared.terms.TypedName.{TypedName}
 use Rattle.plus_tree.specs.declared.terms.Literal.{Literal}
-use Rattle.plus_tree.specs.declared.names.Span.{Span}
+use Rattle.plus_tokens.specs.declared.span.Span.{Span}
 use Rattle.plus_tree.specs.Effect as tree
 use Rattle.plus_tree.specs.Effect.{effects_of, effect_size, effects_size, e_all, e_forall}
 use Rattle.plus_model.specs.Terms.{Effect}

@@ -2,7 +2,7 @@
 use Rattle.std.proofs.Common.{◌≡◌, ℕ, ◌≤◌, List, [], ◌∷◌, ◌++◌, ◌∙◌, ap, refl, sym, length, take, pos, get_or, cond, false, arith}
 use Rattle.std.specs.List.{flat_map}
 use Rattle.plus_fraction.specs.Fraction.{whole}
-use Rattle.plus_tree.specs.declared.names.Span.{Span}
+use Rattle.plus_tokens.specs.declared.span.Span.{Span}
 use Rattle.plus_tree.specs.Expr.{Expr, exprs_of}
 use Rattle.plus_tree.specs.Effect as tree
 use Rattle.plus_tree.specs.Effect.{effects_of, e_all, e_forall}

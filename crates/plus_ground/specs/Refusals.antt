@@ -4,7 +4,7 @@ use Rattle.plus_fraction.specs.Fraction.{Fraction}
 use Rattle.plus_model.specs.Terms.{Action}
 use Rattle.plus_model.specs.Plan as plan
 use Rattle.plus_model.specs.Plan.{Called, Instance}
-use Rattle.plus_tree.specs.declared.names.Span.{Span}
+use Rattle.plus_tokens.specs.declared.span.Span.{Span}
 use Rattle.plus_tree.specs.declared.trees.Domain.{Domain}
 use Rattle.plus_tree.specs.declared.trees.Problem as tree
 use Rattle.plus_literal.specs.Value.{LiteralFits}

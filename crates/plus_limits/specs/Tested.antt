@@ -1,7 +1,7 @@
 -- What a walk over forms tells of the literals in them.
 use Rattle.std.specs.Prelude.{List, Result, MatchResult, All}
 use Rattle.plus_fraction.specs.Fraction.{Fraction}
-use Rattle.plus_tree.specs.declared.names.Span.{Span}
+use Rattle.plus_tokens.specs.declared.span.Span.{Span}
 use Rattle.plus_tree.specs.declared.terms.Literal.{Literal}
 use Rattle.plus_literal.specs.Value.{LiteralFits}
 use Rattle.plus_limits.specs.Unfit.{IsFirstUnfitAt}

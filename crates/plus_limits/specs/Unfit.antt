@@ -1,7 +1,7 @@
 -- The first literal of a text that is no value of the type of numbers.
 use Rattle.std.specs.Prelude.{◌≡◌, List, ◌∷◌, ◌++◌, None, All}
 use Rattle.plus_fraction.specs.Fraction.{Fraction}
-use Rattle.plus_tree.specs.declared.names.Span.{Span}
+use Rattle.plus_tokens.specs.declared.span.Span.{Span}
 use Rattle.plus_tree.specs.declared.terms.Literal.{Literal}
 use Rattle.plus_tree.specs.declared.trees.Domain.{Domain}
 use Rattle.plus_tree.specs.declared.trees.Problem as tree

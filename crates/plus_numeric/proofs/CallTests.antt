@@ -7,7 +7,7 @@ use Rattle.plus_model.specs.Plan.{Called, Instance, UnknownAction, WrongArgument
 use Rattle.plus_state.specs.Tested.{Carries}
 use Rattle.plus_state.proofs.Testing.{pass_none, pass_append, fail_here, fail_left, fail_right, carry_pass, carry_fail}
 use Rattle.plus_number.specs.Frac.{IsFrac64}
-use Rattle.plus_tree.specs.declared.names.Span.{Span}
+use Rattle.plus_tokens.specs.declared.span.Span.{Span}
 use Rattle.plus_tree.specs.declared.terms.Literal.{Literal}
 use Rattle.plus_tree.specs.declared.trees.Domain.{Domain}
 use Rattle.plus_tree.specs.declared.trees.Problem as tree

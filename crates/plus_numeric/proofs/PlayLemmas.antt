@@ -13,7 +13,7 @@ use Rattle.plus_tree.specs.declared.trees.Domain.{Domain}
 use Rattle.plus_tree.specs.declared.trees.Problem as tree
 use Rattle.plus_tree.specs.declared.trees.Call.{Call}
 use Rattle.plus_types.specs.declared.faults.File.TheVariants as files
-use Rattle.plus_tree.specs.declared.names.Span.{Span}
+use Rattle.plus_tokens.specs.declared.span.Span.{Span}
 use Rattle.plus_plan.specs.declared.forms.Line.{Line}
 use Rattle.plus_plan.specs.declared.forms.Line.TheVariants.{Blank, Act, End, Step}
 use Rattle.plus_expansion.specs.Expansion.{expanded}

@@ -11,7 +11,7 @@ use Rattle.plus_state.specs.declared.outcome.Breach.{Breach}
 use Rattle.plus_state.specs.declared.outcome.Breach.TheVariants as breaches
 use Rattle.plus_state.specs.declared.outcome.Limit.{Limit}
 use Rattle.plus_state.specs.declared.outcome.Limit.TheVariants as limits
-use Rattle.plus_tree.specs.declared.names.Span.{Span}
+use Rattle.plus_tokens.specs.declared.span.Span.{Span}
 use Rattle.plus_tree.specs.declared.trees.Domain.{Domain}
 use Rattle.plus_tree.specs.declared.trees.Problem as tree
 use Rattle.plus_tree.specs.declared.trees.Call.{Call}

@@ -6,10 +6,10 @@ use Rattle.std.proofs.lemmas.List.Elements.{All-head, All-tail}
 use Rattle.std.specs.List.{All}
 use Rattle.plus_tree.specs.declared.faults.TextFault.{TextFault}
 use Rattle.plus_tree.specs.declared.faults.TextFault.TheVariants as faults
-use Rattle.plus_tree.specs.declared.names.Span.{Span}
+use Rattle.plus_tokens.specs.declared.span.Span.{Span}
 use Rattle.plus_tree.specs.declared.trees.Domain.{Domain}
 use Rattle.plus_tree.specs.declared.trees.Problem.{Problem}
-use Rattle.plus_reading.specs.Items.{Piece, Item}
+use Rattle.plus_tokens.specs.Items.{Piece, Item}
 use Rattle.plus_parser.specs.SpellsDomain.{DomainTokens}
 use Rattle.plus_parser.specs.SpellsProblem.{ProblemTokens}
 use Rattle.plus_places.specs.Place.{Begins, RefusedBehind, IsPlace}

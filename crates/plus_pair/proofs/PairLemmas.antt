@@ -17,7 +17,7 @@ use Rattle.plus_types.specs.Faults.{type_faults, IsFirstFault}
 use Rattle.plus_types.specs.declared.faults.File.{File}
 use Rattle.plus_types.specs.declared.faults.Wrong.{Wrong}
 use Rattle.plus_typing.proofs.First.{first_fault_is_first_unmet}
-use Rattle.plus_tree.specs.declared.names.Span.{Span}
+use Rattle.plus_tokens.specs.declared.span.Span.{Span}
 use Rattle.plus_parser.specs.SpellsDomain.{SpellsWithin}
 use Rattle.plus_parser.specs.SpellsProblem.{SpellsProblemWithin}
 use Rattle.plus_grammar.proofs.Texts.{domain_texts, problem_texts}

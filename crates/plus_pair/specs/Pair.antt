@@ -6,7 +6,7 @@ use Rattle.plus_tree.specs.declared.faults.TextFault.{TextFault}
 use Rattle.plus_tree.specs.declared.faults.TextFault.TheVariants as faults
 use Rattle.plus_tree.specs.declared.trees.Domain.{Domain}
 use Rattle.plus_tree.specs.declared.trees.Problem.{Problem}
-use Rattle.plus_tree.specs.declared.names.Span.{Span}
+use Rattle.plus_tokens.specs.declared.span.Span.{Span}
 use Rattle.plus_grammar.specs.Wholes.{IsDomain, IsProblem}
 use Rattle.plus_grammar.specs.Texts.{IsDomainText, IsProblemText}
 use Rattle.plus_places.specs.Place.{IsPlace}

@@ -2,7 +2,7 @@
 use Rattle.std.proofs.Common.{◌≡◌, ℕ, suc, ◌-◌, Bool, true, false, List, [], ◌∷◌, ◌++◌, length, Option, Some, None, Result, Ok, Err, refl, sym, ap, ◌∙◌, subst, inl, arith, ◌+◌}
 use Rattle.std.specs.Prelude.{◌&&◌, map, is_some, unwrap_or, option_and_then, codes}
 use Rattle.std.proofs.lemmas.Bool.{cond-false, and_parts, and_right}
-use Rattle.plus_tree.specs.declared.names.Span.{Span}
+use Rattle.plus_tokens.specs.declared.span.Span.{Span}
 use Rattle.plus_tree.specs.declared.names.Spelled.{Spelled}
 use Rattle.plus_tree.specs.declared.terms.TypedName.{TypedName}
 use Rattle.plus_tree.specs.declared.terms.Use.{Use}
@@ -20,7 +20,7 @@ use Rattle.plus_tree.specs.Cond.{Cond}
 use Rattle.plus_parser.specs.declared.parts.ProblemParts.{ProblemParts}
 use Rattle.plus_parser.specs.declared.keywords.ProblemWord.{ProblemWord}
 use Rattle.plus_parser.specs.declared.keywords.ProblemWord.TheVariants as problems
-use Rattle.plus_reading.specs.Items.{Piece, Item, tok}
+use Rattle.plus_tokens.specs.Items.{Piece, Item, tok}
 use Rattle.plus_reading.specs.Reading.{◌>>=◌, Read, next_of, is_open}
 use Rattle.plus_reading.specs.Words.{is_keyword, head_of, is_word, is_time, word_head, kind_head}
 use Rattle.plus_parser.specs.Keywords.{problem_part_of}

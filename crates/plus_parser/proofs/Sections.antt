@@ -2,10 +2,10 @@
 use Rattle.std.proofs.Common.{◌≡◌, ℕ, suc, ◌+◌, ◌-◌, ◌<◌, ◌≤◌, Bool, true, false, cond, List, [], ◌∷◌, ◌++◌, length, Option, Some, None, Ok, Err, refl, sym, ap, ◌∙◌, subst, ⊎_elim, length-append, arith, add-one}
 use Rattle.std.specs.Prelude.{codes}
 use Rattle.std.proofs.lemmas.Bool.{cond-false, cond-true}
-use Rattle.plus_tree.specs.declared.names.Span.{Span}
+use Rattle.plus_tokens.specs.declared.span.Span.{Span}
 use Rattle.plus_tree.specs.declared.names.Spelled.{Spelled}
 use Rattle.plus_tree.specs.declared.faults.TextFault.TheVariants as faults
-use Rattle.plus_reading.specs.Items.{Piece, Item, tok, bad}
+use Rattle.plus_tokens.specs.Items.{Piece, Item, tok, bad}
 use Rattle.plus_reading.specs.Reading.{◌>>=◌, Read, next_of, is_open}
 use Rattle.plus_reading.specs.Words.{is_close, is_name, is_word}
 use Rattle.plus_reading.specs.Grammar.{around, spelled_of, open_of, close_of, name_of, word_of}

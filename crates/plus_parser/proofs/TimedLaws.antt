@@ -1,7 +1,7 @@
 -- Numbers and timed literals of `:init`: what is read is spelled so, and what is spelled so is read.
 use Rattle.std.proofs.Common.{◌≡◌, ℕ, ◌-◌, ◌<◌, true, false, List, [], ◌∷◌, ◌++◌, Option, Some, None, Ok, refl, sym, ap, ◌∙◌, subst, arith}
 use Rattle.std.specs.Prelude.{codes}
-use Rattle.plus_tree.specs.declared.names.Span.{Span}
+use Rattle.plus_tokens.specs.declared.span.Span.{Span}
 use Rattle.plus_tree.specs.declared.terms.Term.{Term}
 use Rattle.plus_tree.specs.declared.terms.Use.{Use}
 use Rattle.plus_tree.specs.declared.terms.Literal.{Literal}
@@ -12,7 +12,7 @@ use Rattle.plus_reading.specs.declared.words.Allowed.TheVariants as allows
 use Rattle.plus_reading.specs.declared.words.HeadWord.{HeadWord}
 use Rattle.plus_reading.specs.declared.words.HeadWord.TheVariants.{Not, Plain}
 use Rattle.plus_reading.specs.Literals.{literal_of}
-use Rattle.plus_reading.specs.Items.{Piece, Item, tok}
+use Rattle.plus_tokens.specs.Items.{Piece, Item, tok}
 use Rattle.plus_reading.specs.Reading.{◌>>=◌, Read, next_of, is_open}
 use Rattle.plus_reading.specs.Words.{head_of, is_time}
 use Rattle.plus_reading.specs.Grammar.{around, time_ahead, is_time_read, open_of, close_of, use_of, use_end, use_form}

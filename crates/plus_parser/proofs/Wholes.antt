@@ -5,7 +5,7 @@ use Rattle.plus_tree.specs.declared.trees.Domain.{Domain}
 use Rattle.plus_tree.specs.declared.trees.Problem.{Problem}
 use Rattle.plus_tree.specs.declared.faults.TextFault.{TextFault}
 use Rattle.plus_tree.specs.declared.faults.TextFault.TheVariants as faults
-use Rattle.plus_reading.specs.Items.{items_of}
+use Rattle.plus_tokens.specs.Items.{items_of}
 use Rattle.plus_reading.specs.Reading.{Fails}
 use Rattle.plus_parser.specs.ReadingDomain.{domain_in, domain_of}
 use Rattle.plus_parser.specs.ReadingProblem.{problem_in, problem_of}

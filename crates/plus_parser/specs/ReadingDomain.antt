@@ -1,6 +1,6 @@
 -- Reading a domain from tokens.
 use Rattle.std.specs.Prelude.{ℕ, suc, ◌-◌, Bool, true, false, not, ◌&&◌, List, [], ◌∷◌, ◌++◌, length, filter, Option, Some, None, is_some, unwrap_or, Result, Ok, Err, if◌then◌else◌, codes}
-use Rattle.plus_tree.specs.declared.names.Span.{Span}
+use Rattle.plus_tokens.specs.declared.span.Span.{Span}
 use Rattle.plus_tree.specs.declared.names.Spelled.{Spelled}
 use Rattle.std.specs.Str.{bytes_eq}
 use Rattle.plus_tree.specs.declared.terms.TypedName.{TypedName}
@@ -18,7 +18,7 @@ use Rattle.plus_parser.specs.declared.keywords.KeyWord.{KeyWord}
 use Rattle.plus_parser.specs.declared.keywords.KeyWord.TheVariants as keys
 use Rattle.plus_parser.specs.declared.keywords.DomainWord.{DomainWord}
 use Rattle.plus_parser.specs.declared.keywords.DomainWord.TheVariants as domains
-use Rattle.plus_reading.specs.Items.{Piece, Item, tok, bad}
+use Rattle.plus_tokens.specs.Items.{Piece, Item, tok, bad}
 use Rattle.plus_reading.specs.Reading.{◌>>=◌, Read, next_of, is_open}
 use Rattle.plus_reading.specs.Words.{is_keyword, is_minus}
 use Rattle.plus_parser.specs.Keywords.{key_of, domain_part_of}

@@ -1,7 +1,7 @@
 -- Which texts spell a domain.
 use Rattle.std.specs.Prelude.{◌≡◌, ℕ, true, false, List, [], ◌∷◌, ◌++◌, map, Option, Some, None, is_some, if◌then◌else◌, codes}
 use Rattle.plus_tokens.specs.declared.token.Kind.TheVariants as kinds
-use Rattle.plus_tree.specs.declared.names.Span.{Span}
+use Rattle.plus_tokens.specs.declared.span.Span.{Span}
 use Rattle.plus_tree.specs.declared.names.Spelled.{Spelled}
 use Rattle.plus_tree.specs.declared.terms.TypedName.{TypedName}
 use Rattle.plus_tree.specs.declared.trees.Head.{Head}
@@ -15,7 +15,7 @@ use Rattle.plus_parser.specs.declared.parts.Functions.{Functions}
 use Rattle.plus_tokens.specs.declared.token.Op.TheVariants.{Minus}
 use Rattle.plus_parser.specs.declared.keywords.KeyWord.TheVariants as keys
 use Rattle.plus_parser.specs.declared.keywords.DomainWord.TheVariants as domains
-use Rattle.plus_reading.specs.Items.{Piece, tok, items_of}
+use Rattle.plus_tokens.specs.Items.{Piece, tok, items_of}
 use Rattle.plus_parser.specs.Keywords.{key_of, domain_part_of}
 use Rattle.plus_reading.specs.declared.words.Allowed.TheVariants.{Names, Variables}
 use Rattle.plus_reading.specs.Grammar.{around, spelled_of, bare_of, Listing}

@@ -1,6 +1,6 @@
 -- Which texts spell a problem.
 use Rattle.std.specs.Prelude.{◌≡◌, ℕ, List, [], ◌∷◌, ◌++◌, map, Option, Some, None, is_some, if◌then◌else◌, codes, true}
-use Rattle.plus_tree.specs.declared.names.Span.{Span}
+use Rattle.plus_tokens.specs.declared.span.Span.{Span}
 use Rattle.plus_tree.specs.declared.names.Spelled.{Spelled}
 use Rattle.plus_tree.specs.declared.terms.TypedName.{TypedName}
 use Rattle.plus_tree.specs.declared.trees.Init.{Init}
@@ -12,7 +12,7 @@ use Rattle.plus_tree.specs.declared.trees.Problem.{Problem}
 use Rattle.plus_tree.specs.Cond.{Cond}
 use Rattle.plus_parser.specs.declared.parts.ProblemParts.{ProblemParts}
 use Rattle.plus_parser.specs.declared.keywords.ProblemWord.TheVariants as problems
-use Rattle.plus_reading.specs.Items.{Piece, tok, items_of}
+use Rattle.plus_tokens.specs.Items.{Piece, tok, items_of}
 use Rattle.plus_parser.specs.Keywords.{problem_part_of}
 use Rattle.plus_reading.specs.declared.words.Allowed.{Allowed}
 use Rattle.plus_reading.specs.declared.words.Allowed.TheVariants.{Names, Terms}

@@ -2,20 +2,21 @@
 
 ghost use Rattle.std.specs.Prelude.{◌≡◌, ◌&&◌, not, true, ◌<◌, ◌≤◌, [], filter, length, OnOk, IfOk, List, codes};
 ghost use Rattle.std.specs.Str.{bytes_eq};
-ghost use Rattle.plus_reading.specs.Items.{Item};
+ghost use Rattle.plus_tokens.specs.Items.{Item};
 ghost use Rattle.plus_reading.specs.Reading.{Gives, is_open};
 ghost use Rattle.plus_reading.specs.Words.{is_minus};
 ghost use Rattle.plus_reading.specs.Grammar.{until_close, form_step};
 ghost use Rattle.plus_reading.specs.Listings.{listing};
-ghost use Rattle.plus_reading.specs.Seen.{seen};
+ghost use Rattle.plus_tokens.specs.Seen.{seen};
 ghost use Rattle.plus_parser.specs.ReadingDomain.{requirement_step, is_own_type, types_of, predicate_at, no_functions, number_type, function_step};
 
 use crate::parts::Functions;
 use plus_reading::lists::{Listed, list};
-use plus_reading::reader::{Reader, Seen};
+use plus_reading::reader::Reader;
+use plus_reading::spelled::{bare_of, spelled_of};
 use plus_reading::uses::around;
 use plus_reading::words::{Allowed, is_close, is_minus, is_open};
-use plus_tokens::Kind;
+use plus_tokens::{Kind, Seen};
 use plus_tree::{Head, Members, Span, Spelled, TextFault, TypedName};
 use std::alloc::{AllocError, Global};
 
@@ -32,7 +33,7 @@ fn requirement(
 {
     match token.kind {
         Kind::Keyword => {
-            found.push(token.bare(alloc)?)?;
+            found.push(bare_of(alloc, token)?)?;
             Ok(())
         }
         _ => Err(TextFault::Form { span: token.span }),
@@ -97,7 +98,7 @@ fn predicate(
     let head = reader.plain(room - 1)?;
     let (params, last) = list(alloc, reader, Allowed::Variables, room - 1)?;
     Ok(Head {
-        name: head.spelled(alloc)?,
+        name: spelled_of(alloc, &head)?,
         params,
         span: around(front, last),
     })

@@ -1,10 +1,10 @@
 //! Reads a domain.
 
 ghost use Rattle.std.specs.Prelude.{◌≡◌, true, ◌<◌, ◌≤◌, ◌-◌, ◌+◌, [], length, OnOk, Ok, MatchResult, codes};
-ghost use Rattle.plus_tree.specs.Lowered.{lowered};
+ghost use Rattle.plus_tokens.specs.Lowered.{lowered};
 ghost use Rattle.plus_reading.specs.Reading.{Gives, Fails, is_open};
 ghost use Rattle.plus_reading.specs.Grammar.{around, until_close, spelled_of};
-ghost use Rattle.plus_reading.specs.Seen.{seen};
+ghost use Rattle.plus_tokens.specs.Seen.{seen};
 ghost use Rattle.plus_parser.specs.ReadingDomain.{section_step, schema_part_with, declared_part_with, domain_part, never_full, domain_step, no_parts, front_of, end_of, domain_of, domain_in};
 
 use crate::declarations::{functions, predicates, requirements, types_of};
@@ -12,9 +12,11 @@ use crate::keywords::{DomainWord, domain_part_of};
 use crate::parts::DomainParts;
 use crate::schemas::{or_none, schema};
 use plus_reading::lists::{list, names};
-use plus_reading::reader::{Reader, Seen};
+use plus_reading::reader::Reader;
+use plus_reading::spelled::spelled_of;
 use plus_reading::uses::around;
 use plus_reading::words::{Allowed, is_close, is_open};
+use plus_tokens::Seen;
 use plus_tree::{Domain, Members, Span, Spelled, TextFault};
 use std::alloc::Global;
 
@@ -182,7 +184,7 @@ pub fn front(
     reader.word(word, 62)?;
     let name = reader.name(62)?;
     reader.close(62)?;
-    Ok((name.spelled(alloc)?, start.span))
+    Ok((spelled_of(alloc, &name)?, start.span))
 }
 
 /// Nothing is left.

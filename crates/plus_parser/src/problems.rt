@@ -5,7 +5,7 @@ ghost use Rattle.plus_reading.specs.Reading.{Gives, Fails, is_open};
 ghost use Rattle.plus_reading.specs.Grammar.{around, until_close, form_step};
 ghost use Rattle.plus_parser.specs.ReadingDomain.{section_step};
 ghost use Rattle.plus_parser.specs.ReadingProblem.{literal_next, timed_of, init_at, problem_part, all_found, problem_step, no_problem_parts, problem_made, or_early, problem_of, problem_in};
-ghost use Rattle.plus_reading.specs.Seen.{seen};
+ghost use Rattle.plus_tokens.specs.Seen.{seen};
 
 use crate::declarations::requirements;
 use crate::domains::{end, front};
@@ -16,9 +16,11 @@ use crate::schemas::or_none;
 use plus_forms::conditions;
 use plus_reading::expressions::literal_of;
 use plus_reading::lists::list;
-use plus_reading::reader::{Reader, Seen};
+use plus_reading::reader::Reader;
+use plus_reading::spelled::spelled_of;
 use plus_reading::uses::{around, use_end, use_form};
 use plus_reading::words::{Allowed, HeadWord, head_of, is_close, is_open, is_word};
+use plus_tokens::Seen;
 use plus_tree::{Comparison, CondTree, Init, Literal, Members, Problem, Span, Spelled, TextFault};
 use std::alloc::Global;
 
@@ -151,7 +153,7 @@ fn part(
         ProblemWord::Domain if found.domain.is_none() => {
             let name = reader.name(room)?;
             reader.close(room)?;
-            found.domain = Some(name.spelled(alloc)?);
+            found.domain = Some(spelled_of(alloc, &name)?);
             Ok(())
         }
         ProblemWord::Requirements if found.requirements.is_none() => {

@@ -4,7 +4,7 @@ ghost use Rattle.std.specs.Prelude.{◌≡◌, List, ℕ, Ok, IfOk, MatchResult}
 ghost use Rattle.plus_tree.specs.declared.faults.TextFault.{TextFault};
 ghost use Rattle.plus_tree.specs.declared.trees.Domain.{Domain as DomainTree};
 ghost use Rattle.plus_tree.specs.declared.trees.Problem.{Problem as ProblemTree};
-ghost use Rattle.plus_reading.specs.Items.{items_of};
+ghost use Rattle.plus_tokens.specs.Items.{items_of};
 ghost use Rattle.plus_reading.specs.Reading.{Fails};
 ghost use Rattle.plus_parser.specs.ReadingDomain.{domain_of};
 ghost use Rattle.plus_parser.specs.ReadingProblem.{problem_of};

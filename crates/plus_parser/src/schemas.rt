@@ -3,16 +3,18 @@
 ghost use Rattle.std.specs.Prelude.{◌≡◌, ◌<◌, length, OnOk, unwrap_or, []};
 ghost use Rattle.plus_reading.specs.Reading.{Gives};
 ghost use Rattle.plus_reading.specs.Grammar.{until_close};
-ghost use Rattle.plus_reading.specs.Seen.{seen};
+ghost use Rattle.plus_tokens.specs.Seen.{seen};
 ghost use Rattle.plus_parser.specs.ReadingDomain.{key_step, no_keys, or_all, or_nothing, schema_of};
 
 use crate::keywords::{KeyWord, key_of};
 use crate::parts::{Kept, Keys};
 use plus_forms::{conditions, effects};
 use plus_reading::lists::variables;
-use plus_reading::reader::{Reader, Seen};
+use plus_reading::reader::Reader;
+use plus_reading::spelled::spelled_of;
 use plus_reading::uses::around;
 use plus_reading::words::is_close;
+use plus_tokens::Seen;
 use plus_tree::{CondNode, CondTree, EffectNode, EffectTree, Members, Schema, Span, TextFault};
 use std::alloc::Global;
 
@@ -136,7 +138,7 @@ pub fn schema(
     let name = reader.name(room)?;
     let (keys, last) = keys(alloc, reader, room)?;
     Ok(Schema {
-        name: name.spelled(alloc)?,
+        name: spelled_of(alloc, &name)?,
         params: or_none(alloc, keys.parameters),
         condition: or_all(alloc, keys.condition),
         effect: or_nothing(alloc, keys.effect),

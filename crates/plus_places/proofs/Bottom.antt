@@ -9,7 +9,7 @@ use Rattle.plus_parser.specs.declared.keywords.ProblemWord.TheVariants as proble
 use Rattle.plus_parser.specs.declared.keywords.DomainWord.{DomainWord}
 use Rattle.plus_parser.specs.declared.keywords.DomainWord.TheVariants as domains
 use Rattle.plus_parser.specs.Keywords.{problem_part_of, domain_part_of}
-use Rattle.plus_reading.specs.Items.{Piece}
+use Rattle.plus_tokens.specs.Items.{Piece}
 use Rattle.plus_reading.specs.Reading.{is_open}
 use Rattle.plus_reading.specs.Words.{is_close}
 use Rattle.plus_reading.specs.Spells.{IsClose, room_step, room_after}

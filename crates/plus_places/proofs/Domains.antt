@@ -3,7 +3,7 @@ use Rattle.std.proofs.Common.{◌≡◌, ℕ, suc, ◌-◌, ◌<◌, ◌≤◌, 
 use Rattle.std.specs.Prelude.{◌&&◌, is_some, map, codes, IfErr, MatchResult, ◌⊎◌}
 use Rattle.std.specs.Str.{bytes_eq}
 use Rattle.std.proofs.lemmas.Bool.{and_parts}
-use Rattle.plus_tree.specs.declared.names.Span.{Span}
+use Rattle.plus_tokens.specs.declared.span.Span.{Span}
 use Rattle.plus_tree.specs.declared.names.Spelled.{Spelled}
 use Rattle.plus_tree.specs.declared.terms.TypedName.{TypedName}
 use Rattle.plus_tree.specs.declared.trees.Head.{Head}
@@ -12,7 +12,7 @@ use Rattle.plus_tree.specs.declared.trees.Domain.{Domain}
 use Rattle.plus_tree.specs.declared.faults.TextFault.{TextFault}
 use Rattle.plus_tree.specs.declared.faults.TextFault.TheVariants as faults
 use Rattle.plus_reading.specs.declared.words.Allowed.TheVariants as allows
-use Rattle.plus_reading.specs.Items.{Piece, Item, tok, items_of}
+use Rattle.plus_tokens.specs.Items.{Piece, Item, tok, items_of}
 use Rattle.plus_reading.specs.Reading.{◌>>=◌, Read, next_of, is_open, Fails}
 use Rattle.plus_reading.specs.Words.{is_plain, is_word, is_minus, look}
 use Rattle.plus_reading.specs.Grammar.{around, spelled_of, open_of, name_of, word_of, until_close, Former, form_step, no_names, list_step, list_of, variables_of}

@@ -1,12 +1,12 @@
 -- The table against leaves and effects.
 use Rattle.std.proofs.Common.{◌≡◌, ℕ, zero, suc, ◌-◌, List, [], ◌∷◌, ◌++◌, length, Ok, refl, sym, ap, ◌∙◌, arith}
-use Rattle.plus_tree.specs.declared.names.Span.{Span}
+use Rattle.plus_tokens.specs.declared.span.Span.{Span}
 use Rattle.plus_tree.specs.declared.trees.Leaf.{Leaf}
 use Rattle.plus_tree.specs.Effect.{Effect, e_all, e_forall, e_when, e_leaf, effects_of}
 use Rattle.plus_reading.specs.declared.words.Allowed.TheVariants as allows
 use Rattle.plus_reading.specs.declared.words.HeadWord.{HeadWord}
 use Rattle.plus_reading.specs.declared.words.HeadWord.TheVariants.{Nothing, And, Not, ForAll, When, Change, Plain, Other}
-use Rattle.plus_reading.specs.Items.{Piece, Item}
+use Rattle.plus_tokens.specs.Items.{Piece, Item}
 use Rattle.plus_reading.specs.Reading.{◌>>=◌, Read, next_of}
 use Rattle.plus_reading.specs.Words.{head_of}
 use Rattle.plus_reading.specs.Grammar.{around, close_of, until_close, Former, form_step, variables_of, use_end, use_form, expr_next, expr_at}

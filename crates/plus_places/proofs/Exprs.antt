@@ -3,13 +3,13 @@ use Rattle.std.proofs.Common.{◌≡◌, ℕ, zero, suc, ◌-◌, ◌<◌, ◌�
 use Rattle.std.specs.Prelude.{is_some}
 use Rattle.plus_tokens.specs.declared.token.Kind.{Kind}
 use Rattle.plus_tokens.specs.declared.token.Kind.TheVariants as kinds
-use Rattle.plus_tree.specs.declared.names.Span.{Span}
+use Rattle.plus_tokens.specs.declared.span.Span.{Span}
 use Rattle.plus_tree.specs.declared.terms.Literal.{Literal}
 use Rattle.plus_tree.specs.Expr.{Expr, x_fluent, x_sum, x_product, x_difference, x_quotient, exprs_of}
 use Rattle.plus_reading.specs.declared.words.Allowed.TheVariants as allows
 use Rattle.plus_reading.specs.declared.words.ExprWord.{ExprWord}
 use Rattle.plus_reading.specs.declared.words.ExprWord.TheVariants as exprs
-use Rattle.plus_reading.specs.Items.{Piece, Item}
+use Rattle.plus_tokens.specs.Items.{Piece, Item}
 use Rattle.plus_reading.specs.Literals.{kind_literal, literal_of}
 use Rattle.plus_reading.specs.Reading.{◌>>=◌, Read, next_of, is_open}
 use Rattle.plus_reading.specs.Words.{is_close, kind_expr, expr_head}

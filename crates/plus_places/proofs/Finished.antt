@@ -4,8 +4,8 @@ use Rattle.std.specs.Prelude.{◌&&◌, codes}
 use Rattle.std.specs.List.{list_all}
 use Rattle.std.proofs.lemmas.Bool.{and_parts}
 use Rattle.plus_tokens.specs.Bytes.{is_letter, is_name_byte}
-use Rattle.plus_spelling.specs.Spelling.{IsName}
-use Rattle.plus_reading.specs.Items.{Piece}
+use Rattle.plus_tokens.specs.Spelling.{IsName}
+use Rattle.plus_tokens.specs.Items.{Piece}
 use Rattle.plus_places.specs.declared.symbols.Met.{Met}
 use Rattle.plus_places.specs.declared.symbols.Symbol.{Symbol}
 use Rattle.plus_places.specs.declared.symbols.Symbol.TheVariants as sy

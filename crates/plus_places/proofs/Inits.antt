@@ -3,7 +3,7 @@ use Rattle.std.proofs.Common.{◌≡◌, ℕ, suc, ◌-◌, ◌<◌, Bool, true,
 use Rattle.std.specs.Prelude.{◌&&◌, is_some, codes}
 use Rattle.plus_tokens.specs.declared.token.Kind.{Kind}
 use Rattle.plus_tokens.specs.declared.token.Kind.TheVariants as kinds
-use Rattle.plus_tree.specs.declared.names.Span.{Span}
+use Rattle.plus_tokens.specs.declared.span.Span.{Span}
 use Rattle.plus_tree.specs.declared.terms.Literal.{Literal}
 use Rattle.plus_tree.specs.declared.terms.Comparison.TheVariants.{Equal}
 use Rattle.plus_tree.specs.declared.trees.Init.{Init}
@@ -11,7 +11,7 @@ use Rattle.plus_tree.specs.declared.trees.Init.TheVariants.{Holds, Absent, Value
 use Rattle.plus_reading.specs.declared.words.Allowed.TheVariants as allows
 use Rattle.plus_reading.specs.declared.words.HeadWord.{HeadWord}
 use Rattle.plus_reading.specs.declared.words.HeadWord.TheVariants.{Nothing, Not, Compare, Plain, Other}
-use Rattle.plus_reading.specs.Items.{Piece, Item}
+use Rattle.plus_tokens.specs.Items.{Piece, Item}
 use Rattle.plus_reading.specs.Literals.{kind_literal, literal_of}
 use Rattle.plus_reading.specs.Reading.{◌>>=◌, Read, next_of}
 use Rattle.plus_reading.specs.Words.{head_of, is_word, is_time, is_allowed}

@@ -7,7 +7,7 @@ use Rattle.plus_tree.specs.declared.terms.TypedName.{TypedName}
 use Rattle.plus_tree.specs.declared.faults.TextFault.TheVariants as faults
 use Rattle.plus_reading.specs.declared.words.Allowed.{Allowed}
 use Rattle.plus_reading.specs.declared.words.Allowed.TheVariants as allows
-use Rattle.plus_reading.specs.Items.{Piece, Item}
+use Rattle.plus_tokens.specs.Items.{Piece, Item}
 use Rattle.plus_reading.specs.Reading.{◌>>=◌, Read}
 use Rattle.plus_reading.specs.Words.{is_name, is_minus, is_allowed}
 use Rattle.plus_reading.specs.Grammar.{spelled_of, named_of, name_of, until_close, Listing, no_names, typed_by, type_of_waiting, list_step, all_typed, list_of, variables_of}

@@ -6,7 +6,7 @@ use Rattle.std.proofs.Math.Seq.{drop-append_seam}
 use Rattle.plus_tokens.specs.declared.token.LexFault.{LexFault}
 use Rattle.plus_tree.specs.declared.faults.TextFault.{TextFault}
 use Rattle.plus_tree.specs.declared.faults.TextFault.TheVariants as faults
-use Rattle.plus_reading.specs.Items.{Piece, Item, tok, bad, items_of}
+use Rattle.plus_tokens.specs.Items.{Piece, Item, tok, bad, items_of}
 use Rattle.plus_reading.specs.Reading.{◌>>=◌, is_open, Fails}
 use Rattle.plus_reading.specs.Spells.{IsOpen, room_after, FitsDepth}
 use Rattle.plus_parser.specs.ReadingDomain.{end_of}

@@ -1,13 +1,13 @@
 -- The table against a whole problem, and the place of a refusal.
 use Rattle.std.proofs.Common.{◌≡◌, ℕ, suc, ◌-◌, ◌≤◌, Bool, true, false, cond, List, [], ◌∷◌, length, Option, Some, None, Result, Ok, Err, refl, sym, ap, ◌∙◌, arith}
 use Rattle.std.specs.Prelude.{◌&&◌, is_some, unwrap_or, option_and_then, map, codes, IfErr, MatchResult, ◌⊎◌}
-use Rattle.plus_tree.specs.declared.names.Span.{Span}
+use Rattle.plus_tokens.specs.declared.span.Span.{Span}
 use Rattle.plus_tree.specs.declared.names.Spelled.{Spelled}
 use Rattle.plus_tree.specs.declared.trees.Init.{Init}
 use Rattle.plus_tree.specs.declared.trees.Problem.{Problem}
 use Rattle.plus_tree.specs.Cond.{Cond}
 use Rattle.plus_tree.specs.declared.faults.TextFault.{TextFault}
-use Rattle.plus_reading.specs.Items.{Piece, Item, tok, bad, items_of}
+use Rattle.plus_tokens.specs.Items.{Piece, Item, tok, bad, items_of}
 use Rattle.plus_reading.specs.Reading.{◌>>=◌, is_open, Fails}
 use Rattle.plus_reading.specs.Words.{is_close, is_name, is_word}
 use Rattle.plus_reading.specs.Grammar.{around, spelled_of, open_of, close_of, name_of, word_of, until_close}

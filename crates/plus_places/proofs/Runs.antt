@@ -6,7 +6,7 @@ use Rattle.plus_tokens.specs.declared.token.Kind.{Kind}
 use Rattle.plus_tokens.specs.declared.token.Kind.TheVariants as kinds
 use Rattle.plus_tree.specs.declared.faults.TextFault.{TextFault}
 use Rattle.plus_tree.specs.declared.faults.TextFault.TheVariants as faults
-use Rattle.plus_reading.specs.Items.{Piece, Item, tok, bad}
+use Rattle.plus_tokens.specs.Items.{Piece, Item, tok, bad}
 use Rattle.plus_reading.specs.Reading.{is_open}
 use Rattle.plus_reading.specs.Spells.{IsOpen, room_step, room_after}
 use Rattle.plus_reading.proofs.Tokens.{ok_is, open_kind}

@@ -3,8 +3,8 @@ use Rattle.std.proofs.Common.{◌≡◌, ℕ, ◌+◌, List, [], ◌∷◌, ◌+
 use Rattle.std.specs.Prelude.{◌&&◌, is_some, if◌then◌else◌}
 use Rattle.plus_tokens.specs.declared.token.Kind.{Kind}
 use Rattle.plus_tokens.specs.declared.token.Kind.TheVariants as kinds
-use Rattle.plus_tree.specs.declared.names.Span.{Span}
-use Rattle.plus_reading.specs.Items.{Piece}
+use Rattle.plus_tokens.specs.declared.span.Span.{Span}
+use Rattle.plus_tokens.specs.Items.{Piece}
 use Rattle.plus_reading.specs.Literals.{kind_literal}
 use Rattle.plus_reading.specs.Words.{is_term}
 use Rattle.plus_places.specs.declared.symbols.Symbol.{Symbol}

@@ -10,13 +10,13 @@ use Rattle.plus_tokens.specs.declared.token.Token.{Token}
 use Rattle.plus_tokens.specs.declared.token.LexFault.{LexFault}
 use Rattle.plus_tokens.specs.Bytes.{is_letter, is_digit, is_name_byte}
 use Rattle.plus_tokens.specs.First.{first_token}
-use Rattle.plus_spelling.specs.Spelling.{begins, EndsOp, Ends, Spells, IsGapToEnd, IsFirst}
-use Rattle.plus_spelling.proofs.Runs.{behind}
-use Rattle.plus_spelling.proofs.Found.{found}
-use Rattle.plus_spelling.proofs.Read.{read, none}
-use Rattle.plus_tree.specs.Lowered.{lowered}
-use Rattle.plus_reading.specs.Items.{Piece, Item, tok, bad, piece_of, items_at}
-use Rattle.plus_reading.proofs.Stream.{stands, at_token, at_none, at_fault}
+use Rattle.plus_tokens.specs.Spelling.{begins, EndsOp, Ends, Spells, IsGapToEnd, IsFirst}
+use Rattle.plus_tokens.proofs.Runs.{behind}
+use Rattle.plus_tokens.proofs.Found.{found}
+use Rattle.plus_tokens.proofs.Read.{read, none}
+use Rattle.plus_tokens.specs.Lowered.{lowered}
+use Rattle.plus_tokens.specs.Items.{Piece, Item, tok, bad, piece_of, items_at}
+use Rattle.plus_tokens.proofs.Items.{stands, at_token, at_none, at_fault}
 
 -- ---- where a token may end
 

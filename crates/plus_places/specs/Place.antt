@@ -3,7 +3,7 @@
 use Rattle.std.specs.Prelude.{◌≡◌, ℕ, ◌<◌, List, [], ◌∷◌, ◌++◌, map, Some}
 use Rattle.plus_tree.specs.declared.faults.TextFault.{TextFault}
 use Rattle.plus_tree.specs.declared.faults.TextFault.TheVariants as faults
-use Rattle.plus_reading.specs.Items.{Piece, Item, tok, bad, items_of}
+use Rattle.plus_tokens.specs.Items.{Piece, Item, tok, bad, items_of}
 use Rattle.plus_reading.specs.Spells.{IsOpen, room_after}
 
 module _ {Tree : Type 0} (Tokens : Tree → List Piece → Type 0) where

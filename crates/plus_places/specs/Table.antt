@@ -11,7 +11,7 @@ use Rattle.plus_reading.specs.declared.words.HeadWord.{HeadWord}
 use Rattle.plus_reading.specs.declared.words.HeadWord.TheVariants.{Nothing, And, Or, Not, Imply, ForAll, Exists, When, Change, Compare, Plain}
 use Rattle.plus_reading.specs.declared.words.ExprWord.{ExprWord}
 use Rattle.plus_reading.specs.declared.words.ExprWord.TheVariants as exprs
-use Rattle.plus_reading.specs.Items.{Piece}
+use Rattle.plus_tokens.specs.Items.{Piece}
 use Rattle.plus_reading.specs.Reading.{is_open}
 use Rattle.plus_reading.specs.Literals.{literal_of}
 use Rattle.plus_reading.specs.Words.{head_of, expr_head, is_close, is_name, is_plain, is_word, is_keyword, is_term, is_allowed, is_time, is_minus}

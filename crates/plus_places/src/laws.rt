@@ -4,7 +4,7 @@ ghost use Rattle.std.specs.Prelude.{◌≡◌, ◌⊎◌, ℕ, List, [], ◌≤�
 ghost use Rattle.plus_tree.specs.declared.trees.Domain.{Domain as DomainTree};
 ghost use Rattle.plus_tree.specs.declared.trees.Problem.{Problem as ProblemTree};
 ghost use Rattle.plus_tree.specs.declared.faults.TextFault.{TextFault as Fault};
-ghost use Rattle.plus_reading.specs.Items.{Piece};
+ghost use Rattle.plus_tokens.specs.Items.{Piece};
 ghost use Rattle.plus_parser.specs.SpellsDomain.{DomainTokens, SpellsWithin};
 ghost use Rattle.plus_parser.specs.SpellsProblem.{ProblemTokens, SpellsProblemWithin};
 ghost use Rattle.plus_places.specs.Table.{run, domain_symbols, problem_symbols};

@@ -6,14 +6,14 @@ use Rattle.std.proofs.lemmas.Bool.{cond-true, lt-ltb}
 use Rattle.std.proofs.lemmas.List.Elements.{All-head, All-tail}
 use Rattle.plus_tokens.specs.declared.token.Kind.{Kind}
 use Rattle.plus_tokens.specs.declared.token.Kind.TheVariants as kinds
-use Rattle.plus_tree.specs.declared.names.Span.{Span}
+use Rattle.plus_tokens.specs.declared.span.Span.{Span}
 use Rattle.plus_tree.specs.declared.trees.Call.{Call}
 use Rattle.plus_plan.specs.declared.forms.Time.{Time}
 use Rattle.plus_plan.specs.declared.forms.Line.{Line}
 use Rattle.plus_plan.specs.declared.forms.Line.TheVariants as lines
 use Rattle.plus_plan.specs.declared.forms.PlanForm.{PlanForm}
 use Rattle.plus_plan.specs.declared.forms.PlanForm.TheVariants.{Timed, Untimed}
-use Rattle.plus_plan.specs.Items.{Piece, Item, tok}
+use Rattle.plus_tokens.specs.Items.{Piece, Item, tok}
 use Rattle.plus_plan.specs.Reading.{◌>>=◌, Read, next_of}
 use Rattle.plus_plan.specs.Grammar.{around, time, as_colon, colon_of, as_divisor, divisor_of, quotient_of, time_with, time_behind, time_of, as_name, name_of, with_name, args_with, args_of, call_of, end_of, as_number, number_of, as_close_square, close_square_of, duration_with, duration_of, timed_with, timed_line, untimed_with, untimed_line, line_of}
 use Rattle.plus_plan.specs.Spells.{SpellsDecimal, SpellsQuotient, SpellsTime, IsName, SpellsCall, SpellsDuration, SpellsTimed, SpellsUntimed, SpellsTokens}

@@ -1,26 +1,22 @@
--- What comes next, where it is of one kind: how the tokens of a line tell it, and what reading makes of it.
-use Rattle.std.proofs.Common.{◌≡◌, ℕ, ◌<◌, ◌≤◌, Bool, true, false, cond, List, [], ◌∷◌, ◌++◌, length, Option, Some, None, Result, Ok, Err, refl, sym, ap, ◌∙◌, arith, subst}
-use Rattle.std.specs.Prelude.{slice_range, IfSome, MatchResult}
+-- What comes next, where it is of one kind: what reading makes of it.
+use Rattle.std.proofs.Common.{◌≡◌, ℕ, ◌<◌, Bool, true, false, cond, List, [], ◌∷◌, ◌++◌, length, Option, Some, Result, Ok, Err, refl, sym, ap, ◌∙◌, arith, subst}
+use Rattle.std.specs.Prelude.{MatchResult}
 use Rattle.std.proofs.lemmas.Bool.{false≢true}
 use Rattle.plus_tokens.specs.declared.token.Kind.{Kind}
 use Rattle.plus_tokens.specs.declared.token.Kind.TheVariants as kinds
-use Rattle.plus_tokens.specs.declared.token.Token.{Token}
-use Rattle.plus_tokens.specs.declared.token.LexFault.{LexFault}
-use Rattle.plus_tokens.specs.Ahead.{is_name, is_open, is_close, is_colon, place_if, end_if, finds_none}
-use Rattle.plus_tokens.specs.First.{first_token}
-use Rattle.plus_tree.specs.Lowered.{lowered}
-use Rattle.plus_tree.specs.declared.names.Span.{Span}
+use Rattle.plus_tokens.specs.Ahead.{is_name, is_open, is_close, is_colon}
+use Rattle.plus_tokens.specs.declared.span.Span.{Span}
 use Rattle.plus_plan.specs.declared.forms.Time.{Time}
 use Rattle.plus_plan.specs.declared.forms.Line.{Line}
 use Rattle.plus_plan.specs.declared.forms.Line.TheVariants as lines
 use Rattle.plus_plan.specs.declared.reader.Refusal.{Refusal}
 use Rattle.plus_plan.specs.declared.reader.Refusal.TheVariants as refusals
-use Rattle.plus_plan.specs.Ahead.{comes, without, word_ahead, is_done, refusal_ahead}
-use Rattle.plus_plan.specs.Items.{Piece, Item, tok, bad, piece_of, items_at}
+use Rattle.plus_tokens.specs.Coming.{comes, without, word_ahead, is_done}
+use Rattle.plus_plan.specs.Ahead.{refusal_ahead}
+use Rattle.plus_tokens.specs.Items.{Piece, Item, tok, bad}
 use Rattle.plus_plan.specs.Reading.{◌>>=◌, Read, Fails, Gives, next_of}
 use Rattle.plus_plan.specs.Grammar.{colon_of, as_colon, name_of, as_name, args_of, args_with, end_of, duration_of, duration_with, brackets_of, time_of, act_of, timed_with, last_with, last_of, entry_of, timed_from, timed_line, step_of, untimed_with, untimed_line, next_or_none}
 use Rattle.plus_plan.proofs.Names.{with_front, one_more, at_close}
-use Rattle.plus_plan.proofs.Stream.{stands, at_token, at_none, at_fault}
 
 yes : {A : Type 0} {b : Bool} (x y : A) → b ≡ true → cond b x y ≡ x
 yes x y e = ap (λ (t : Bool). cond t x y) e
@@ -28,142 +24,9 @@ yes x y e = ap (λ (t : Bool). cond t x y) e
 no : {A : Type 0} {b : Bool} (x y : A) → b ≡ false → cond b x y ≡ y
 no x y e = ap (λ (t : Bool). cond t x y) e
 
--- ---- the tokens of a line
-
--- a token of this kind was found, or none
-pub record IsFound (q : Kind → Bool) (line : List ℕ) (from : ℕ) (t : Token) : Type 0 where
-  pub first : first_token line from ≡ Ok (Some t)
-  pub is : q t.kind ≡ true
-
-found_comes : (q : Kind → Bool) (line : List ℕ) (from : ℕ) (t : Token) → from ≤ length line → IsFound q line from t → comes q (items_at line from) ≡ true
-found_comes q line from t le f = ap (comes q) (at_token line from t le f.first) ∙ f.is
-
-found_leaves : (q : Kind → Bool) (line : List ℕ) (from : ℕ) (t : Token) → from ≤ length line → IsFound q line from t → items_at line t.«end» ≡ without q (items_at line from)
-found_leaves q line from t le f = sym (ap (without q) (at_token line from t le f.first) ∙ yes _ _ f.is)
-
-found_word : (q : Kind → Bool) (line : List ℕ) (from : ℕ) (t : Token) → from ≤ length line → IsFound q line from t → lowered (slice_range line t.start t.«end») ≡ word_ahead (items_at line from)
-found_word q line from t le f = sym (ap word_ahead (at_token line from t le f.first))
-
-place_found : (q : Kind → Bool) (line : List ℕ) (from : ℕ) (x : ℕ × ℕ) → Some x ≡ place_if q (first_token line from) → (t : Token) × IsFound q line from t × (t.start ≡ x.0) × (t.«end» ≡ x.1)
-place_found q line from x e = told (first_token line from) refl e
-  where
-    told : (r : Result (Option Token) LexFault) → first_token line from ≡ r → Some x ≡ place_if q r → (t : Token) × IsFound q line from t × (t.start ≡ x.0) × (t.«end» ≡ x.1)
-    told (Ok None) is e = absurd cc
-    told (Err f) is e = absurd cc
-    told (Ok (Some t)) is e = chosen (q t.kind) refl e
-      where
-        chosen : (b : Bool) → q t.kind ≡ b → Some x ≡ cond b (Some (t.start, t.«end»)) None → (t : Token) × IsFound q line from t × (t.start ≡ x.0) × (t.«end» ≡ x.1)
-        chosen false k e = absurd cc
-        chosen true k e = let same : x ≡ (t.start, t.«end») = cc in (t, record { first = is; is = k }, sym (ap (λ (y : ℕ × ℕ). y.0) same), sym (ap (λ (y : ℕ × ℕ). y.1) same))
-
-end_found : (q : Kind → Bool) (line : List ℕ) (from : ℕ) (x : ℕ) → Some x ≡ end_if q (first_token line from) → (t : Token) × IsFound q line from t × (t.«end» ≡ x)
-end_found q line from x e = told (first_token line from) refl e
-  where
-    told : (r : Result (Option Token) LexFault) → first_token line from ≡ r → Some x ≡ end_if q r → (t : Token) × IsFound q line from t × (t.«end» ≡ x)
-    told (Ok None) is e = absurd cc
-    told (Err f) is e = absurd cc
-    told (Ok (Some t)) is e = chosen (q t.kind) refl e
-      where
-        chosen : (b : Bool) → q t.kind ≡ b → Some x ≡ cond b (Some t.«end») None → (t : Token) × IsFound q line from t × (t.«end» ≡ x)
-        chosen false k e = absurd cc
-        chosen true k e = let same : x ≡ t.«end» = cc in (t, record { first = is; is = k }, sym same)
-
--- nothing of this kind was found
-pub record IsOther (q : Kind → Bool) (items : List Item) : Type 0 where
-  pub comes_not : comes q items ≡ false
-  pub stays : items ≡ without q items
-
-other_for : (q : Kind → Bool) (line : List ℕ) (from : ℕ) (r : Result (Option Token) LexFault) → from ≤ length line → first_token line from ≡ r → ((t : Token) → r ≡ Ok (Some t) → q t.kind ≡ false) → IsOther q (items_at line from)
-other_for q line from (Ok None) le is e = let a = at_none line from le is in record { comes_not = ap (comes q) a; stays = a ∙ sym (ap (without q) a) }
-other_for q line from (Err f) le is e = let a = at_fault line from f le is in record { comes_not = ap (comes q) a; stays = a ∙ sym (ap (without q) a) }
-other_for q line from (Ok (Some t)) le is e =
-    let a = at_token line from t le is in
-    let k = e t refl in
-    record { comes_not = ap (comes q) a ∙ k; stays = a ∙ sym (no _ _ k) ∙ sym (ap (without q) a) }
-
-place_other : (q : Kind → Bool) (line : List ℕ) (from : ℕ) → from ≤ length line → None ≡ place_if q (first_token line from) → IsOther q (items_at line from)
-place_other q line from le e =
-    other_for q line from (first_token line from) le refl (λ t is. chosen t (q t.kind) refl (e ∙ ap (place_if q) is))
-  where
-    chosen : (t : Token) (b : Bool) → q t.kind ≡ b → ◌≡◌ {A = Option (ℕ × ℕ)} None (cond b (Some (t.start, t.«end»)) None) → q t.kind ≡ false
-    chosen t false k e = k
-    chosen t true k e = absurd cc
-
-end_other : (q : Kind → Bool) (line : List ℕ) (from : ℕ) → from ≤ length line → None ≡ end_if q (first_token line from) → IsOther q (items_at line from)
-end_other q line from le e =
-    other_for q line from (first_token line from) le refl (λ t is. chosen t (q t.kind) refl (e ∙ ap (end_if q) is))
-  where
-    chosen : (t : Token) (b : Bool) → q t.kind ≡ b → None ≡ cond b (Some t.«end») None → q t.kind ≡ false
-    chosen t false k e = k
-    chosen t true k e = absurd cc
-
--- the same of the tokens under another name: the offset goes behind the token, or nothing changes
-pub record IsTaken (q : Kind → Bool) (line : List ℕ) (last : ℕ) (items : List Item) : Type 0 where
-  pub comes_is : comes q items ≡ true
-  pub leaves : items_at line last ≡ without q items
-  pub inside : last ≤ length line
-
-taken : (q : Kind → Bool) (line : List ℕ) (from last : ℕ) (items : List Item) (t : Token) → from ≤ length line → items_at line from ≡ items → IsFound q line from t → t.«end» ≡ last → IsTaken q line last items
-taken q line from last items t le is f e =
-    let s = stands line from t f.first in
-    record {
-      comes_is = ap (comes q) (sym is) ∙ found_comes q line from t le f;
-      leaves = ap (items_at line) (sym e) ∙ found_leaves q line from t le f ∙ ap (without q) is;
-      inside = omega (arith, s.ends, e);
-    }
-
-pub end_taken : (q : Kind → Bool) (line : List ℕ) (from last : ℕ) (items : List Item) → from ≤ length line → items_at line from ≡ items → Some last ≡ end_if q (first_token line from) → IsTaken q line last items
-end_taken q line from last items le is e =
-    let f = end_found q line from last e in
-    taken q line from last items f.0 le is f.1 f.2
-
-moved : (q : Kind → Bool) (from items : List Item) → from ≡ items → IsOther q from → IsOther q items
-moved q from items is o = record { comes_not = ap (comes q) (sym is) ∙ o.comes_not; stays = sym is ∙ o.stays ∙ ap (without q) is }
-
-pub end_kept : (q : Kind → Bool) (line : List ℕ) (from : ℕ) (items : List Item) → from ≤ length line → items_at line from ≡ items → None ≡ end_if q (first_token line from) → IsOther q items
-end_kept q line from items le is e = moved q (items_at line from) items is (end_other q line from le e)
-
-pub place_kept : (q : Kind → Bool) (line : List ℕ) (from : ℕ) → from ≤ length line → None ≡ place_if q (first_token line from) → IsOther q (items_at line from)
-place_kept q line from le e = place_other q line from le e
-
-pub place_taken : (q : Kind → Bool) (line : List ℕ) (from : ℕ) (x : ℕ × ℕ) → from ≤ length line → Some x ≡ place_if q (first_token line from) → IsTaken q line x.1 (items_at line from)
-place_taken q line from x le e =
-    let f = place_found q line from x e in
-    taken q line from x.1 (items_at line from) f.0 le refl f.1 f.3
-
-pub place_word : (q : Kind → Bool) (line : List ℕ) (from : ℕ) (x : ℕ × ℕ) → from ≤ length line → Some x ≡ place_if q (first_token line from) → lowered (slice_range line x.0 x.1) ≡ word_ahead (items_at line from)
-place_word q line from x le e =
-    let f = place_found q line from x e in
-    ap (λ (i : ℕ). lowered (slice_range line i x.1)) (sym f.2) ∙ ap (λ (i : ℕ). lowered (slice_range line f.0.start i)) (sym f.3) ∙ found_word q line from f.0 le f.1
-
-pub place_order : (q : Kind → Bool) (line : List ℕ) (from : ℕ) (x : ℕ × ℕ) → Some x ≡ place_if q (first_token line from) → x.0 ≤ x.1
-place_order q line from x e =
-    let f = place_found q line from x e in
-    let s = stands line from f.0 f.1.first in
-    omega (arith, s.some, f.2, f.3)
-
-pub placed_order : (q : Kind → Bool) (line : List ℕ) (from : ℕ) (r : Option (ℕ × ℕ)) → r ≡ place_if q (first_token line from) → IfSome r (λ x. x.0 ≤ x.1)
-placed_order q line from None e = tt
-placed_order q line from (Some x) e = place_order q line from x e
-
-pub placed_inside : (q : Kind → Bool) (line : List ℕ) (from : ℕ) (r : Option (ℕ × ℕ)) → from ≤ length line → r ≡ place_if q (first_token line from) → IfSome r (λ x. x.1 ≤ length line)
-placed_inside q line from None le e = tt
-placed_inside q line from (Some x) le e = (place_taken q line from x le e).inside
-
-pub done_told : (line : List ℕ) (from : ℕ) → from ≤ length line → finds_none (first_token line from) ≡ is_done (items_at line from)
-done_told line from le = told (first_token line from) refl
-  where
-    told : (r : Result (Option Token) LexFault) → first_token line from ≡ r → finds_none r ≡ is_done (items_at line from)
-    told (Ok None) is = sym (ap is_done (at_none line from le is))
-    told (Ok (Some t)) is = sym (ap is_done (at_token line from t le is))
-    told (Err f) is = sym (ap is_done (at_fault line from f le is))
-
-pub refusal_token : (line : List ℕ) (from : ℕ) (t : Token) (rest : List Item) → items_at line from ≡ tok (piece_of line t) ∷ rest → refusals.At (record { start = t.start; «end» = t.«end» }) ≡ refusal_ahead (items_at line from)
-refusal_token line from t rest e = sym (ap refusal_ahead e)
-
 pub refusal_fault : (items : List Item) (e : Refusal) → next_of items ≡ Err e → e ≡ refusal_ahead items
 refusal_fault [] e h = cc
-refusal_fault (bad s ∷ rest) e h = cc
+refusal_fault (bad f ∷ rest) e h = cc
 refusal_fault (tok p ∷ rest) e h = absurd cc
 
 -- ---- what reading makes of it
@@ -192,12 +55,12 @@ colon_kind _ e = absurd cc
 -- the token that comes, and those behind it
 comes_as : (q : Kind → Bool) (items : List Item) → comes q items ≡ true → (p : Piece) × (next_of items ≡ Ok (p, without q items)) × (q p.kind ≡ true) × (word_ahead items ≡ p.word)
 comes_as q [] e = absurd (false≢true e)
-comes_as q (bad s ∷ rest) e = absurd (false≢true e)
+comes_as q (bad f ∷ rest) e = absurd (false≢true e)
 comes_as q (tok p ∷ rest) e = (p, ap (λ (is : List Item). Ok (p, is)) (sym (yes _ _ e)), e, refl)
 
 pub without_shorter : (q : Kind → Bool) (items : List Item) → comes q items ≡ true → length (without q items) < length items
 without_shorter q [] e = absurd (false≢true e)
-without_shorter q (bad s ∷ rest) e = absurd (false≢true e)
+without_shorter q (bad f ∷ rest) e = absurd (false≢true e)
 without_shorter q (tok p ∷ rest) e = let l = ap length (yes rest (tok p ∷ rest) e) in omega (arith, l)
 
 -- a colon
@@ -214,7 +77,7 @@ colon_no p rest _ e = refl
 colon_refused : (items : List Item) → comes is_colon items ≡ false → colon_of items ≡ Err (refusal_ahead items)
 unfolding colon_of
 colon_refused [] e = refl
-colon_refused (bad s ∷ rest) e = refl
+colon_refused (bad f ∷ rest) e = refl
 colon_refused (tok p ∷ rest) e = colon_no p rest p.kind e
 
 -- a name
@@ -231,7 +94,7 @@ name_no p rest _ e = refl
 name_refused : (items : List Item) → comes is_name items ≡ false → name_of items ≡ Err (refusal_ahead items)
 unfolding name_of
 name_refused [] e = refl
-name_refused (bad s ∷ rest) e = refl
+name_refused (bad f ∷ rest) e = refl
 name_refused (tok p ∷ rest) e = name_no p rest p.kind e
 
 -- names up to a parenthesis
@@ -254,7 +117,7 @@ args_no p rest more _ name close = refl
 args_stop : (items : List Item) → comes is_name items ≡ false → comes is_close items ≡ false → args_of items ≡ Err (refusal_ahead items)
 unfolding args_of
 args_stop [] name close = refl
-args_stop (bad s ∷ rest) name close = refl
+args_stop (bad f ∷ rest) name close = refl
 args_stop (tok p ∷ rest) name close = args_no p rest (args_of rest) p.kind name close
 
 args_refused : (front : List (List ℕ)) (items : List Item) (total : Read (List (List ℕ))) → with_front front (args_of items) ≡ total → comes is_name items ≡ false → comes is_close items ≡ false → total ≡ Err (refusal_ahead items)
@@ -264,25 +127,25 @@ args_refused front items total h name close = sym h ∙ ap (with_front front) (a
 end_read : (items : List Item) → is_done items ≡ true → end_of items ≡ Ok (tt, items)
 unfolding end_of
 end_read [] e = refl
-end_read (bad s ∷ rest) e = absurd cc
+end_read (bad f ∷ rest) e = absurd cc
 end_read (tok p ∷ rest) e = absurd cc
 
 end_refused : (items : List Item) → is_done items ≡ false → end_of items ≡ Err (refusal_ahead items)
 unfolding end_of
 end_refused [] e = absurd cc
-end_refused (bad s ∷ rest) e = refl
+end_refused (bad f ∷ rest) e = refl
 end_refused (tok p ∷ rest) e = refl
 
 duration_none : (items : List Item) → is_done items ≡ true → duration_of items ≡ Ok (tt, items)
 unfolding duration_of
 duration_none [] e = refl
-duration_none (bad s ∷ rest) e = absurd cc
+duration_none (bad f ∷ rest) e = absurd cc
 duration_none (tok p ∷ rest) e = absurd cc
 
 duration_next : (items : List Item) → is_done items ≡ false → duration_of items ≡ (next_of items >>= λ p. duration_with p.0.span p.1 p.0.kind)
 unfolding duration_of
 duration_next [] e = absurd cc
-duration_next (bad s ∷ rest) e = refl
+duration_next (bad f ∷ rest) e = refl
 duration_next (tok p ∷ rest) e = refl
 
 -- ---- the line
@@ -299,13 +162,13 @@ last_not n t s rest _ e = refl
 
 entry_last : (n : ℕ) (t : Time) (items : List Item) → comes is_open items ≡ false → entry_of n t items ≡ last_of n t items
 entry_last n t [] e = refl
-entry_last n t (bad s ∷ rest) e = refl
+entry_last n t (bad f ∷ rest) e = refl
 entry_last n t (tok p ∷ rest) e = last_not n t p.span rest p.kind e
 
 untimed_step : (n : ℕ) (items : List Item) → comes is_open items ≡ true → untimed_line n items ≡ step_of n (without is_open items)
 unfolding untimed_line
 untimed_step n [] e = absurd (false≢true e)
-untimed_step n (bad s ∷ rest) e = absurd (false≢true e)
+untimed_step n (bad f ∷ rest) e = absurd (false≢true e)
 untimed_step n (tok p ∷ rest) e = ap (untimed_with n p.span rest) (open_kind p.kind e) ∙ ap (step_of n) (sym (yes _ _ e))
 
 untimed_no : (n : ℕ) (s : Span) (rest : List Item) (k : Kind) → is_open k ≡ false → untimed_with n s rest k ≡ Err (refusals.At s)
@@ -315,13 +178,13 @@ untimed_no n s rest _ e = refl
 untimed_blank : (n : ℕ) (items : List Item) → is_done items ≡ true → untimed_line n items ≡ Ok lines.Blank
 unfolding untimed_line
 untimed_blank n [] e = refl
-untimed_blank n (bad s ∷ rest) e = absurd cc
+untimed_blank n (bad f ∷ rest) e = absurd cc
 untimed_blank n (tok p ∷ rest) e = absurd cc
 
 untimed_refused : (n : ℕ) (items : List Item) → comes is_open items ≡ false → is_done items ≡ false → untimed_line n items ≡ Err (refusal_ahead items)
 unfolding untimed_line
 untimed_refused n [] e done = absurd cc
-untimed_refused n (bad s ∷ rest) e done = refl
+untimed_refused n (bad f ∷ rest) e done = refl
 untimed_refused n (tok p ∷ rest) e done = untimed_no n p.span rest p.kind e
 
 -- ---- the same, as the code tells it
@@ -329,7 +192,7 @@ untimed_refused n (tok p ∷ rest) e done = untimed_no n p.span rest p.kind e
 -- nothing was read
 kept : (q : Kind → Bool) (items : List Item) → comes q items ≡ false → without q items ≡ items
 kept q [] e = refl
-kept q (bad s ∷ rest) e = refl
+kept q (bad f ∷ rest) e = refl
 kept q (tok p ∷ rest) e = no _ _ e
 
 stays : (q : Kind → Bool) (items new : List Item) → comes q items ≡ false → new ≡ without q items → new ≡ items

@@ -6,7 +6,7 @@ use Rattle.std.proofs.lemmas.List.Elements.{All-nil, All-cons}
 use Rattle.plus_tokens.specs.declared.token.Kind.{Kind}
 use Rattle.plus_tokens.specs.declared.token.Kind.TheVariants as kinds
 use Rattle.plus_tokens.specs.declared.token.Op.TheVariants as ops
-use Rattle.plus_tree.specs.declared.names.Span.{Span}
+use Rattle.plus_tokens.specs.declared.span.Span.{Span}
 use Rattle.plus_tree.specs.declared.trees.Call.{Call}
 use Rattle.plus_plan.specs.declared.forms.Time.{Time}
 use Rattle.plus_plan.specs.declared.forms.Line.{Line}
@@ -15,7 +15,7 @@ use Rattle.plus_plan.specs.declared.forms.PlanForm.{PlanForm}
 use Rattle.plus_plan.specs.declared.forms.PlanForm.TheVariants.{Timed, Untimed}
 use Rattle.plus_plan.specs.declared.reader.Refusal.{Refusal}
 use Rattle.plus_plan.specs.declared.reader.Refusal.TheVariants as refusals
-use Rattle.plus_plan.specs.Items.{Piece, Item, tok, bad}
+use Rattle.plus_tokens.specs.Items.{Piece, Item, tok, bad}
 use Rattle.plus_plan.specs.Reading.{◌>>=◌, Read, next_of}
 use Rattle.plus_plan.specs.Grammar.{around, time, as_colon, colon_of, as_divisor, divisor_of, quotient_of, time_with, time_behind, time_of, as_name, name_of, args_with, args_of, call_of, end_of, as_number, number_of, as_close_square, close_square_of, duration_with, duration_of, timed_with, timed_from, timed_line, untimed_with, untimed_line, line_of}
 use Rattle.plus_plan.specs.Spells.{SpellsTime, IsName, SpellsCall, SpellsDuration, SpellsTokens}
@@ -53,7 +53,7 @@ value_is {A} x y r rest e = ap (λ (z : A × List Item). z.0) (ok_is (x, r) (y, 
 -- a token was read, and then this was answered
 pub after_next : {B : Type 0} (items : List Item) (f : Piece → List Item → Result B Refusal) (y : B) → (next_of items >>= λ p. f p.0 p.1) ≡ Ok y → (p : Piece) × (rest : List Item) × (items ≡ tok p ∷ rest) × (f p rest ≡ Ok y)
 after_next [] f y e = absurd cc
-after_next (bad s ∷ rest) f y e = absurd cc
+after_next (bad g ∷ rest) f y e = absurd cc
 after_next (tok p ∷ rest) f y e = (p, rest, refl, e)
 
 -- ---- the time
@@ -192,7 +192,7 @@ pub record TookArgs (ws : List (List ℕ)) (items rest : List Item) : Type 0 whe
 pub args_ok : (items rest : List Item) (ws : List (List ℕ)) → args_of items ≡ Ok (ws, rest) → TookArgs ws items rest
 unfolding args_of
 args_ok [] rest ws e = absurd cc
-args_ok (bad s ∷ is) rest ws e = absurd cc
+args_ok (bad f ∷ is) rest ws e = absurd cc
 args_ok (tok p ∷ is) rest ws e = at_kind (λ r vs. args_ok is r vs) p.kind refl e
   where
     at_kind : ((r : List Item) (vs : List (List ℕ)) → args_of is ≡ Ok (vs, r) → TookArgs vs is r) → (k : Kind) → p.kind ≡ k → args_with p is (args_of is) k ≡ Ok (ws, rest) → TookArgs ws (tok p ∷ is) rest
@@ -256,7 +256,7 @@ call_ok items rest c e =
 pub end_ok : (items rest : List Item) (u : Unit {0}) → end_of items ≡ Ok (u, rest) → items ≡ []
 unfolding end_of
 end_ok [] rest u e = refl
-end_ok (bad s ∷ is) rest u e = absurd cc
+end_ok (bad f ∷ is) rest u e = absurd cc
 end_ok (tok p ∷ is) rest u e = absurd cc
 
 -- a number of any sign and with any places
@@ -308,7 +308,7 @@ duration_with_ok p r rest u _ h e = absurd cc
 duration_ok : (items rest : List Item) (u : Unit {0}) → duration_of items ≡ Ok (u, rest) → TookDuration items
 unfolding duration_of
 duration_ok [] rest u e = record { pieces = []; spelled = inl refl; whole = refl }
-duration_ok (bad s ∷ is) rest u e = absurd cc
+duration_ok (bad f ∷ is) rest u e = absurd cc
 duration_ok (tok p ∷ is) rest u e = duration_with_ok p is rest u p.kind refl e
 
 -- ---- the line
@@ -357,7 +357,7 @@ unfolding timed_line
 timed_ok n [] l e =
     let l_is : lines.Blank ≡ l = ok_is lines.Blank l e in
     rw (← l_is) (record { pieces = []; spelled = refl; whole = refl })
-timed_ok n (bad s ∷ is) l e = absurd cc
+timed_ok n (bad f ∷ is) l e = absurd cc
 timed_ok n (tok p ∷ is) l e = timed_from_ok n p is l e
 
 untimed_with_ok : (n : ℕ) (q : Piece) (r : List Item) (l : Line) (k : Kind) → q.kind ≡ k → untimed_with n q.span r k ≡ Ok l → TookLine Untimed n l (tok q ∷ r)
@@ -379,7 +379,7 @@ unfolding untimed_line
 untimed_ok n [] l e =
     let l_is : lines.Blank ≡ l = ok_is lines.Blank l e in
     rw (← l_is) (record { pieces = []; spelled = refl; whole = refl })
-untimed_ok n (bad s ∷ is) l e = absurd cc
+untimed_ok n (bad f ∷ is) l e = absurd cc
 untimed_ok n (tok p ∷ is) l e = untimed_with_ok n p is l p.kind refl e
 
 pub line_ok : (form : PlanForm) (n : ℕ) (items : List Item) (l : Line) → line_of form n items ≡ Ok l → TookLine form n l items

@@ -1,6 +1,4 @@
 pub mod Names
-pub mod Sound
-pub mod Stream
 pub mod Coming
 pub mod Found
 pub mod Again

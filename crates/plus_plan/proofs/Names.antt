@@ -5,8 +5,8 @@ use Rattle.plus_tokens.specs.declared.token.Kind.{Kind}
 use Rattle.plus_tokens.specs.declared.token.Kind.TheVariants as kinds
 use Rattle.plus_plan.specs.declared.reader.Refusal.{Refusal}
 use Rattle.plus_plan.specs.declared.reader.Refusal.TheVariants as refusals
-use Rattle.plus_plan.specs.Items.{Piece, Item, tok, bad}
-use Rattle.plus_plan.specs.Reading.{◌>>=◌, Read, Fails, next_of}
+use Rattle.plus_tokens.specs.Items.{Piece, Item, tok, bad}
+use Rattle.plus_plan.specs.Reading.{◌>>=◌, Read, Fails, byte_place, next_of}
 use Rattle.plus_plan.specs.Grammar.{with_name, args_with, args_of}
 
 -- the names so far, before those that follow
@@ -20,14 +20,14 @@ no_front (Err e) = refl
 pub next_args : (items rest : List Item) (p : Piece) → next_of items ≡ Ok (p, rest) → args_of items ≡ args_with p rest (args_of rest) p.kind
 unfolding args_of
 next_args [] rest p e = absurd cc
-next_args (bad s ∷ is) rest p e = absurd cc
+next_args (bad f ∷ is) rest p e = absurd cc
 next_args (tok q ∷ is) rest p e =
     ap (λ (r : Read Piece). r >>= λ x. args_with x.0 x.1 (args_of x.1) x.0.kind) e
 
 pub no_next : (items : List Item) (r : Refusal) → next_of items ≡ Err r → args_of items ≡ Err r
 unfolding args_of
 no_next [] r e = let s : refusals.AtEnd ≡ r = cc in ap Err s
-no_next (bad s ∷ is) r e = let t : refusals.At s ≡ r = cc in ap Err t
+no_next (bad f ∷ is) r e = let t : refusals.At (byte_place f) ≡ r = cc in ap Err t
 no_next (tok q ∷ is) r e = absurd cc
 
 -- one more name

@@ -9,7 +9,7 @@ use Rattle.plus_plan.specs.declared.forms.PlanForm.TheVariants.{Timed, Untimed}
 use Rattle.plus_plan.specs.declared.faults.PlanFault.{PlanFault}
 use Rattle.plus_plan.specs.declared.faults.PlanFault.TheVariants as faults
 use Rattle.plus_plan.specs.declared.reader.Refusal.{Refusal}
-use Rattle.plus_plan.specs.Items.{Piece, Item, items_of}
+use Rattle.plus_tokens.specs.Items.{Piece, Item, items_of}
 use Rattle.plus_plan.specs.Grammar.{line_of}
 use Rattle.plus_plan.specs.Cut.{lines_of, line_end, line_from, next_line}
 use Rattle.plus_plan.specs.Lines.{placed, read_line, numbered}

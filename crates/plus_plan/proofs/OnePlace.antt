@@ -2,9 +2,11 @@
 use Rattle.std.proofs.Common.{◌≡◌, ℕ, List, [], ◌∷◌, ◌++◌, length, map, refl, sym, ap, ◌∙◌, subst, inl, inr, ⊎_elim, append_assoc}
 use Rattle.std.specs.Prelude.{◌⊎◌}
 use Rattle.std.proofs.lemmas.List.{append-nil}
-use Rattle.plus_tree.specs.declared.names.Span.{Span}
+use Rattle.plus_tokens.specs.declared.span.Span.{Span}
+use Rattle.plus_tokens.specs.declared.token.LexFault.{LexFault}
 use Rattle.plus_plan.specs.declared.forms.PlanForm.{PlanForm}
-use Rattle.plus_plan.specs.Items.{Piece, Item, tok, bad, items_of}
+use Rattle.plus_tokens.specs.Items.{Piece, Item, tok, bad, items_of}
+use Rattle.plus_plan.specs.Reading.{byte_place}
 use Rattle.plus_plan.specs.Spells.{SpellsTokens}
 use Rattle.plus_plan.specs.Place.{Begins, NoToken, NoLineGoesOn, EndsEarly, IsPlace}
 
@@ -33,7 +35,7 @@ module _ (form : PlanForm) (n : ℕ) (bytes : List ℕ) where
   -- what stands behind the tokens at which the bytes are refused
   abbrev Tail : List Piece → Span → List Item → Type 0
   Tail before s rest =
-      ((more : List Item) × (rest ≡ bad s ∷ more))
+      ((f : LexFault) × (more : List Item) × (rest ≡ bad f ∷ more) × (s ≡ byte_place f))
       ⊎ (((p : Piece) × (more : List Item) × (rest ≡ tok p ∷ more) × (p.span ≡ s) × (Begins form n (before ++ p ∷ []) → ⊥))
       ⊎ ((rest ≡ []) × (s.start ≡ length bytes) × (s.«end» ≡ length bytes)))
 
@@ -45,7 +47,7 @@ module _ (form : PlanForm) (n : ℕ) (bytes : List ℕ) where
   stops : (before : List Piece) (s : Span) → NoToken bytes before s ⊎ (NoLineGoesOn form n bytes before s ⊎ EndsEarly form n bytes before s) → Stops before s
   stops before s h =
       ⊎_elim
-      (λ b. record { rest = bad s ∷ b.0; whole = b.1; tail = inl (b.0, refl) })
+      (λ b. record { rest = bad b.0 ∷ b.1; whole = b.2; tail = inl (b.0, b.1, refl, b.3) })
       (λ g. ⊎_elim
       (λ t. record { rest = tok t.0 ∷ t.1; whole = t.2; tail = inr (inl (t.0, t.1, refl, t.3, t.4)) })
       (λ z. record { rest = []; whole = z.0 ∙ sym (append-nil (map tok before)); tail = inr (inr (refl, z.1, z.2)) }) g)
@@ -55,7 +57,7 @@ module _ (form : PlanForm) (n : ℕ) (bytes : List ℕ) where
   none_longer : (a b : List Piece) (s : Span) (ra rb : List Item) → Tail a s ra → Begins form n b → Longer a ra b rb → ⊥
   none_longer a b s ra rb tail begins l =
       ⊎_elim
-      (λ t. let h : tok l.0 ∷ (map tok l.1 ++ rb) ≡ bad s ∷ t.0 = sym l.3 ∙ t.1 in cc)
+      (λ t. let h : tok l.0 ∷ (map tok l.1 ++ rb) ≡ bad t.0 ∷ t.1 = sym l.3 ∙ t.2 in cc)
       (λ u. ⊎_elim
       (λ t.
       let h : tok l.0 ∷ (map tok l.1 ++ rb) ≡ tok t.0 ∷ t.1 = sym l.3 ∙ t.2 in
@@ -72,21 +74,21 @@ module _ (form : PlanForm) (n : ℕ) (bytes : List ℕ) where
   tails : (a b : List Piece) (s t : Span) (r : List Item) → Tail a s r → Tail b t r → s ≡ t
   tails a b s t r x y = ⊎_elim (λ h. at_bad h y) (λ u. ⊎_elim (λ h. at_tok h y) (λ h. at_end h y) u) x
     where
-      at_bad : ((more : List Item) × (r ≡ bad s ∷ more)) → Tail b t r → s ≡ t
+      at_bad : ((f : LexFault) × (more : List Item) × (r ≡ bad f ∷ more) × (s ≡ byte_place f)) → Tail b t r → s ≡ t
       at_bad h y =
-          ⊎_elim (λ k. let e : bad s ∷ h.0 ≡ bad t ∷ k.0 = sym h.1 ∙ k.1 in cc)
-          (λ u. ⊎_elim (λ k. let e : bad s ∷ h.0 ≡ tok k.0 ∷ k.1 = sym h.1 ∙ k.2 in absurd cc) (λ k. let e : bad s ∷ h.0 ≡ [] = sym h.1 ∙ k.0 in absurd cc) u) y
+          ⊎_elim (λ k. let e : bad h.0 ∷ h.1 ≡ bad k.0 ∷ k.1 = sym h.2 ∙ k.2 in let same : h.0 ≡ k.0 = cc in h.3 ∙ ap byte_place same ∙ sym k.3)
+          (λ u. ⊎_elim (λ k. let e : bad h.0 ∷ h.1 ≡ tok k.0 ∷ k.1 = sym h.2 ∙ k.2 in absurd cc) (λ k. let e : bad h.0 ∷ h.1 ≡ [] = sym h.2 ∙ k.0 in absurd cc) u) y
 
       at_tok : ((p : Piece) × (more : List Item) × (r ≡ tok p ∷ more) × (p.span ≡ s) × (Begins form n (a ++ p ∷ []) → ⊥)) → Tail b t r → s ≡ t
       at_tok h y =
-          ⊎_elim (λ k. let e : tok h.0 ∷ h.1 ≡ bad t ∷ k.0 = sym h.2 ∙ k.1 in absurd cc)
+          ⊎_elim (λ k. let e : tok h.0 ∷ h.1 ≡ bad k.0 ∷ k.1 = sym h.2 ∙ k.2 in absurd cc)
           (λ u. ⊎_elim
           (λ k. let e : tok h.0 ∷ h.1 ≡ tok k.0 ∷ k.1 = sym h.2 ∙ k.2 in let same : h.0 ≡ k.0 = cc in sym h.3 ∙ ap (λ (p : Piece). p.span) same ∙ k.3)
           (λ k. let e : tok h.0 ∷ h.1 ≡ [] = sym h.2 ∙ k.0 in absurd cc) u) y
 
       at_end : ((r ≡ []) × (s.start ≡ length bytes) × (s.«end» ≡ length bytes)) → Tail b t r → s ≡ t
       at_end h y =
-          ⊎_elim (λ k. let e : [] ≡ bad t ∷ k.0 = sym h.0 ∙ k.1 in absurd cc)
+          ⊎_elim (λ k. let e : [] ≡ bad k.0 ∷ k.1 = sym h.0 ∙ k.2 in absurd cc)
           (λ u. ⊎_elim (λ k. let e : [] ≡ tok k.0 ∷ k.1 = sym h.0 ∙ k.2 in absurd cc) (λ k. span_same s t (h.1 ∙ sym k.1) (h.2 ∙ sym k.2)) u) y
 
   pub one_place : (s t : Span) → IsPlace form n bytes s → IsPlace form n bytes t → s ≡ t

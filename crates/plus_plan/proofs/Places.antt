@@ -5,7 +5,7 @@ use Rattle.std.proofs.lemmas.Bool.{ltb-false, ltb-true}
 use Rattle.plus_tokens.specs.declared.token.Kind.{Kind}
 use Rattle.plus_tokens.specs.declared.token.Kind.TheVariants as kinds
 use Rattle.plus_tokens.specs.declared.token.Op.TheVariants as ops
-use Rattle.plus_tree.specs.declared.names.Span.{Span}
+use Rattle.plus_tokens.specs.declared.span.Span.{Span}
 use Rattle.plus_tree.specs.declared.trees.Call.{Call}
 use Rattle.plus_plan.specs.declared.forms.Time.{Time}
 use Rattle.plus_plan.specs.declared.forms.Line.{Line}
@@ -16,8 +16,8 @@ use Rattle.plus_plan.specs.declared.faults.PlanFault.{PlanFault}
 use Rattle.plus_plan.specs.declared.faults.PlanFault.TheVariants as faults
 use Rattle.plus_plan.specs.declared.reader.Refusal.{Refusal}
 use Rattle.plus_plan.specs.declared.reader.Refusal.TheVariants as refusals
-use Rattle.plus_plan.specs.Items.{Piece, Item, tok, bad, items_of}
-use Rattle.plus_plan.specs.Reading.{◌>>=◌, Read, next_of}
+use Rattle.plus_tokens.specs.Items.{Piece, Item, tok, bad, items_of}
+use Rattle.plus_plan.specs.Reading.{◌>>=◌, Read, byte_place, next_of}
 use Rattle.plus_plan.specs.Grammar.{around, time, as_colon, colon_of, as_divisor, divisor_of, quotient_of, time_with, time_behind, time_of, as_name, name_of, with_name, args_with, args_of, call_of, end_of, as_number, number_of, as_close_square, close_square_of, duration_with, duration_of, timed_with, timed_from, timed_line, untimed_with, untimed_line, line_of}
 use Rattle.plus_plan.specs.Spells.{SpellsTokens, line_limit}
 use Rattle.plus_plan.specs.Lines.{placed, read_line}
@@ -112,7 +112,7 @@ named_cause : (p : Piece) → p.kind ≡ kinds.Name → (before : List Piece) (r
 unfolding args_of
 named_cause p k before rest refusals.AtEnd c = ap (λ (is : List Item). tok p ∷ is) c
 named_cause p k before rest (refusals.At s) c =
-    ⊎_elim (λ b. inl (b.0, ap (λ (is : List Item). tok p ∷ is) b.1))
+    ⊎_elim (λ b. inl (b.0, b.1, ap (λ (is : List Item). tok p ∷ is) b.2, b.3))
     (λ t. inr (
       t.0,
       t.1,
@@ -127,7 +127,7 @@ named_cause p k before rest refusals.Memory c = c
 args_stops : (items : List Item) (e : Refusal) → args_of items ≡ Err e → Stopped args_of items e
 unfolding args_of
 args_stops [] e h = subst (Stopped args_of []) (err_same {B = List (List ℕ) × List Item} refusals.AtEnd e h) (args_at_once [] refusals.AtEnd refl)
-args_stops (bad s ∷ rest) e h = subst (Stopped args_of (bad s ∷ rest)) (err_same {B = List (List ℕ) × List Item} (refusals.At s) e h) (args_at_once (bad s ∷ rest) (refusals.At s) (inl (rest, refl)))
+args_stops (bad f ∷ rest) e h = subst (Stopped args_of (bad f ∷ rest)) (err_same {B = List (List ℕ) × List Item} (refusals.At (byte_place f)) e h) (args_at_once (bad f ∷ rest) (refusals.At (byte_place f)) (inl (f, rest, refl, refl)))
 args_stops (tok p ∷ rest) e h = at_kind (λ f g. args_stops rest f g) p.kind refl h
   where
     refuses : (k : Kind) → p.kind ≡ k → ((r : List Item) (more : Read (List (List ℕ))) → args_with p r more k ≡ Err (refusals.At p.span)) → args_with p rest (args_of rest) k ≡ Err e → Stopped args_of (tok p ∷ rest) e
@@ -258,7 +258,7 @@ refusal_place form n bytes s h =
       st.before,
       begins,
       ⊎_elim
-          (λ b. inl (b.0, b.1 ∙ toks-rest st.before (bad s ∷ b.0)))
+          (λ b. inl (b.0, b.1, b.2 ∙ toks-rest st.before (bad b.0 ∷ b.1), b.3))
           (λ t. inr (inl (
             t.0,
             t.1,

@@ -1,11 +1,12 @@
 -- Where reading stops: what it took begins a line, and no line goes on with the token that it refused.
 use Rattle.std.proofs.Common.{◌≡◌, List, [], ◌∷◌, ◌++◌, Result, Ok, Err, refl, sym, ap, ◌∙◌, subst, inl, inr, ⊎_elim}
 use Rattle.std.specs.Prelude.{◌⊎◌}
-use Rattle.plus_tree.specs.declared.names.Span.{Span}
+use Rattle.plus_tokens.specs.declared.span.Span.{Span}
+use Rattle.plus_tokens.specs.declared.token.LexFault.{LexFault}
 use Rattle.plus_plan.specs.declared.reader.Refusal.{Refusal}
 use Rattle.plus_plan.specs.declared.reader.Refusal.TheVariants as refusals
-use Rattle.plus_plan.specs.Items.{Piece, Item, tok, bad}
-use Rattle.plus_plan.specs.Reading.{◌>>=◌, Read, next_of}
+use Rattle.plus_tokens.specs.Items.{Piece, Item, tok, bad}
+use Rattle.plus_plan.specs.Reading.{◌>>=◌, Read, byte_place, next_of}
 use Rattle.plus_plan.proofs.Found.{toks, toks-append, bind_ok, rest_is, value_is, after_next}
 
 abbrev pub refused : {B : Type 0} → Refusal → Result B Refusal
@@ -23,7 +24,7 @@ err_same d e h = cc
 abbrev pub Cause : {A : Type 0} → (List Item → Result A Refusal) → List Piece → List Item → Refusal → Type 0
 Cause read before items refusals.AtEnd = items ≡ toks before []
 Cause read before items (refusals.At s) =
-    ((rest : List Item) × (items ≡ toks before (bad s ∷ rest)))
+    ((f : LexFault) × (rest : List Item) × (items ≡ toks before (bad f ∷ rest)) × (s ≡ byte_place f))
     ⊎ ((p : Piece) × (rest : List Item) × (items ≡ toks before (tok p ∷ rest)) × (p.span ≡ s)
     × ((later : List Item) → (e : Refusal) × (read (toks before (tok p ∷ later)) ≡ Err e)))
 Cause read before items refusals.Memory = ⊥
@@ -95,7 +96,7 @@ second_cause : {A B : Type 0} (first : List Item → Read A) (then : A → List 
 second_cause first then items rest x t before refusals.AtEnd c = t.whole ∙ ap (toks t.taken) c ∙ sym (toks-append t.taken before [])
 second_cause first then items rest x t before (refusals.At s) c =
     ⊎_elim
-    (λ b. inl (b.0, t.whole ∙ ap (toks t.taken) b.1 ∙ sym (toks-append t.taken before (bad s ∷ b.0))))
+    (λ b. inl (b.0, b.1, t.whole ∙ ap (toks t.taken) b.2 ∙ sym (toks-append t.taken before (bad b.0 ∷ b.1)), b.3))
     (λ p. inr (
       p.0,
       p.1,
@@ -219,7 +220,7 @@ bind_end {A} {B} first then a b =
 front_cause : {B : Type 0} (read then : List Item → Result B Refusal) (p : Piece) → ((later : List Item) → read (tok p ∷ later) ≡ then later) → (before : List Piece) (rest : List Item) (e : Refusal) → Cause then before rest e → Cause read (p ∷ before) (tok p ∷ rest) e
 front_cause read then p same before rest refusals.AtEnd c = ap (λ (is : List Item). tok p ∷ is) c
 front_cause read then p same before rest (refusals.At s) c =
-    ⊎_elim (λ b. inl (b.0, ap (λ (is : List Item). tok p ∷ is) b.1))
+    ⊎_elim (λ b. inl (b.0, b.1, ap (λ (is : List Item). tok p ∷ is) b.2, b.3))
     (λ t. inr (t.0, t.1, ap (λ (is : List Item). tok p ∷ is) t.2, t.3, λ later. let h = t.4 later in (h.0, same (toks before (tok t.0 ∷ later)) ∙ h.1))) c
 front_cause read then p same before rest refusals.Memory c = c
 
@@ -250,7 +251,7 @@ token {B} then q good each =
 
     stopped : (items : List Item) (e : Refusal) → behind next_of then items ≡ Err e → Stopped (behind next_of then) items e
     stopped [] e h = subst (Stopped (behind next_of then) []) (err_same {B = B × List Item} refusals.AtEnd e h) (at_once [] refusals.AtEnd refl)
-    stopped (bad s ∷ rest) e h = subst (Stopped (behind next_of then) (bad s ∷ rest)) (err_same {B = B × List Item} (refusals.At s) e h) (at_once (bad s ∷ rest) (refusals.At s) (inl (rest, refl)))
+    stopped (bad f ∷ rest) e h = subst (Stopped (behind next_of then) (bad f ∷ rest)) (err_same {B = B × List Item} (refusals.At (byte_place f)) e h) (at_once (bad f ∷ rest) (refusals.At (byte_place f)) (inl (f, rest, refl, refl)))
     stopped (tok p ∷ rest) e h =
         ⊎_elim
         (λ r.
@@ -271,7 +272,7 @@ token_end {B} then q good each =
 
     stopped : (items : List Item) (e : Refusal) → behind next_of then items ≡ Err e → StoppedEnd (behind next_of then) items e
     stopped [] e h = subst (StoppedEnd (behind next_of then) []) (err_same {B = B} refusals.AtEnd e h) (at_once [] refusals.AtEnd refl)
-    stopped (bad s ∷ rest) e h = subst (StoppedEnd (behind next_of then) (bad s ∷ rest)) (err_same {B = B} (refusals.At s) e h) (at_once (bad s ∷ rest) (refusals.At s) (inl (rest, refl)))
+    stopped (bad f ∷ rest) e h = subst (StoppedEnd (behind next_of then) (bad f ∷ rest)) (err_same {B = B} (refusals.At (byte_place f)) e h) (at_once (bad f ∷ rest) (refusals.At (byte_place f)) (inl (f, rest, refl, refl)))
     stopped (tok p ∷ rest) e h =
         ⊎_elim
         (λ r.
@@ -282,7 +283,7 @@ token_end {B} then q good each =
 
 -- a token that may be wanting
 pub maybe_end : {B : Type 0} (read : List Item → Result B Refusal) (none : B) (then : Piece → List Item → Result B Refusal)
-    → read [] ≡ Ok none → ((s : Span) (rest : List Item) → read (bad s ∷ rest) ≡ Err (refusals.At s)) → ((p : Piece) (rest : List Item) → read (tok p ∷ rest) ≡ then p rest)
+    → read [] ≡ Ok none → ((f : LexFault) (rest : List Item) → read (bad f ∷ rest) ≡ Err (refusals.At (byte_place f))) → ((p : Piece) (rest : List Item) → read (tok p ∷ rest) ≡ then p rest)
     → ((p : Piece) → Ends (then p) ⊎ Refuses p (then p)) → Ends read
 maybe_end {B} read none then at_end at_bad at_tok each =
     record {
@@ -298,7 +299,7 @@ maybe_end {B} read none then at_end at_bad at_tok each =
 
     stopped : (items : List Item) (e : Refusal) → read items ≡ Err e → StoppedEnd read items e
     stopped [] e h = absurd (clash none e (sym at_end ∙ h))
-    stopped (bad s ∷ rest) e h = subst (StoppedEnd read (bad s ∷ rest)) (err_same {B = B} (refusals.At s) e (sym (at_bad s rest) ∙ h)) (at_once (bad s ∷ rest) (refusals.At s) (inl (rest, refl)))
+    stopped (bad f ∷ rest) e h = subst (StoppedEnd read (bad f ∷ rest)) (err_same {B = B} (refusals.At (byte_place f)) e (sym (at_bad f rest) ∙ h)) (at_once (bad f ∷ rest) (refusals.At (byte_place f)) (inl (f, rest, refl, refl)))
     stopped (tok p ∷ rest) e h =
         ⊎_elim
         (λ r.

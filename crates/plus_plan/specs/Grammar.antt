@@ -3,7 +3,7 @@ use Rattle.std.specs.Prelude.{ℕ, ◌^◌, false, ◌&&◌, List, [], ◌∷◌
 use Rattle.plus_tokens.specs.declared.token.Kind.{Kind}
 use Rattle.plus_tokens.specs.declared.token.Kind.TheVariants as kinds
 use Rattle.plus_tokens.specs.declared.token.Op.TheVariants as ops
-use Rattle.plus_tree.specs.declared.names.Span.{Span}
+use Rattle.plus_tokens.specs.declared.span.Span.{Span}
 use Rattle.plus_tree.specs.declared.trees.Call.{Call}
 use Rattle.plus_plan.specs.declared.forms.Time.{Time}
 use Rattle.plus_plan.specs.declared.forms.Line.{Line}
@@ -12,8 +12,8 @@ use Rattle.plus_plan.specs.declared.forms.PlanForm.{PlanForm}
 use Rattle.plus_plan.specs.declared.forms.PlanForm.TheVariants.{Timed, Untimed}
 use Rattle.plus_plan.specs.declared.reader.Refusal.{Refusal}
 use Rattle.plus_plan.specs.declared.reader.Refusal.TheVariants as refusals
-use Rattle.plus_plan.specs.Items.{Piece, Item, tok, bad}
-use Rattle.plus_plan.specs.Reading.{◌>>=◌, Read, next_of}
+use Rattle.plus_tokens.specs.Items.{Piece, Item, tok, bad}
+use Rattle.plus_plan.specs.Reading.{◌>>=◌, Read, byte_place, next_of}
 
 -- from the first byte of the one to the end of the other
 abbrev pub around : Span → Span → Span
@@ -80,7 +80,7 @@ args_with p rest more _ = Err (refusals.At p.span)
 -- names up to the closing parenthesis
 unfoldable pub args_of : List Item → Read (List (List ℕ))
 args_of [] = Err refusals.AtEnd
-args_of (bad s ∷ rest) = Err (refusals.At s)
+args_of (bad f ∷ rest) = Err (refusals.At (byte_place f))
 args_of (tok p ∷ rest) = args_with p rest (args_of rest) p.kind
 
 -- a call behind its opening parenthesis
@@ -93,7 +93,7 @@ call_of items =
 -- nothing is left
 unfoldable pub end_of : List Item → Read (Unit {0})
 end_of [] = Ok (tt, [])
-end_of (bad s ∷ rest) = Err (refusals.At s)
+end_of (bad f ∷ rest) = Err (refusals.At (byte_place f))
 end_of (tok p ∷ rest) = Err (refusals.At p.span)
 
 abbrev pub as_number : Span → List Item → Kind → Read (Unit {0})
@@ -121,7 +121,7 @@ brackets_of items = next_of items >>= λ p. duration_with p.0.span p.1 p.0.kind
 -- a Number in square brackets, or none, and then nothing
 unfoldable pub duration_of : List Item → Read (Unit {0})
 duration_of [] = Ok (tt, [])
-duration_of (bad s ∷ rest) = Err (refusals.At s)
+duration_of (bad f ∷ rest) = Err (refusals.At (byte_place f))
 duration_of (tok p ∷ rest) = duration_with p.span rest p.kind
 
 -- ---- the line
@@ -129,7 +129,7 @@ duration_of (tok p ∷ rest) = duration_with p.span rest p.kind
 -- the first token, and none where the line is blank
 abbrev pub next_or_none : List Item → Read (Option Piece)
 next_or_none [] = Ok (None, [])
-next_or_none (bad s ∷ rest) = Err (refusals.At s)
+next_or_none (bad f ∷ rest) = Err (refusals.At (byte_place f))
 next_or_none (tok p ∷ rest) = Ok (Some p, rest)
 
 -- an action behind its time and its opening parenthesis

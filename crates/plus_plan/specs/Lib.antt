@@ -1,6 +1,4 @@
 pub mod Cut
-pub mod Items
-pub mod Seen
 pub mod Reading
 pub mod Grammar
 pub mod Spells

@@ -6,7 +6,7 @@ use Rattle.plus_plan.specs.declared.faults.PlanFault.{PlanFault}
 use Rattle.plus_plan.specs.declared.faults.PlanFault.TheVariants as faults
 use Rattle.plus_plan.specs.declared.reader.Refusal.{Refusal}
 use Rattle.plus_plan.specs.declared.reader.Refusal.TheVariants as refusals
-use Rattle.plus_plan.specs.Items.{items_of}
+use Rattle.plus_tokens.specs.Items.{items_of}
 use Rattle.plus_plan.specs.Grammar.{line_of}
 use Rattle.plus_plan.specs.Cut.{lines_of}
 use Rattle.plus_plan.specs.Spells.{line_limit}

@@ -1,20 +1,22 @@
 -- Where a line that is none is refused: behind the longest front of its tokens with which some line begins.
 use Rattle.std.specs.Prelude.{◌≡◌, ℕ, ◌<◌, ◌≤◌, ◌⊎◌, List, [], ◌∷◌, ◌++◌, length, map}
-use Rattle.plus_tree.specs.declared.names.Span.{Span}
+use Rattle.plus_tokens.specs.declared.span.Span.{Span}
+use Rattle.plus_tokens.specs.declared.token.LexFault.{LexFault}
 use Rattle.plus_plan.specs.declared.forms.Line.{Line}
 use Rattle.plus_plan.specs.declared.forms.PlanForm.{PlanForm}
 use Rattle.plus_plan.specs.declared.faults.PlanFault.{PlanFault}
 use Rattle.plus_plan.specs.declared.faults.PlanFault.TheVariants as faults
-use Rattle.plus_plan.specs.Items.{Piece, Item, tok, bad, items_of}
+use Rattle.plus_tokens.specs.Items.{Piece, Item, tok, bad, items_of}
+use Rattle.plus_plan.specs.Reading.{byte_place}
 use Rattle.plus_plan.specs.Spells.{SpellsTokens, line_limit}
 
 -- some line begins with these tokens
 abbrev pub Begins : PlanForm → ℕ → List Piece → Type 0
 Begins form n before = (more : List Piece) × (l : Line) × SpellsTokens form n l (before ++ more)
 
--- behind these tokens stand bytes, at this place, that spell no token
+-- behind these tokens stand bytes, of which the one at this place spells no token
 abbrev pub NoToken : List ℕ → List Piece → Span → Type 0
-NoToken bytes before s = (rest : List Item) × (items_of bytes ≡ map tok before ++ bad s ∷ rest)
+NoToken bytes before s = (f : LexFault) × (rest : List Item) × (items_of bytes ≡ map tok before ++ bad f ∷ rest) × (s ≡ byte_place f)
 
 -- behind these tokens stands one, at this place, with which no line goes on
 abbrev pub NoLineGoesOn : PlanForm → ℕ → List ℕ → List Piece → Span → Type 0

@@ -8,7 +8,7 @@ use Rattle.plus_plan.specs.declared.forms.Line.{Line}
 use Rattle.plus_plan.specs.declared.forms.Line.TheVariants as lines
 use Rattle.plus_plan.specs.declared.forms.PlanForm.{PlanForm}
 use Rattle.plus_plan.specs.declared.forms.PlanForm.TheVariants.{Timed, Untimed}
-use Rattle.plus_plan.specs.Items.{Piece, tok, items_of}
+use Rattle.plus_tokens.specs.Items.{Piece, tok, items_of}
 use Rattle.plus_plan.specs.Grammar.{around, time}
 
 -- a decimal: a Number without `-`, which means its digits over 10 to the power of its places

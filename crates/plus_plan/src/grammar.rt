@@ -6,11 +6,11 @@ ghost use Rattle.plus_plan.specs.Grammar.{around, colon_of, divisor_of, quotient
 ghost use Rattle.plus_plan.specs.Grammar.{args_of, call_of, name_of};
 ghost use Rattle.plus_plan.specs.Grammar.{brackets_of, close_square_of, duration_of, end_of, number_of};
 ghost use Rattle.plus_plan.specs.Grammar.{act_of, entry_of, last_of, step_of, timed_line, untimed_line};
-ghost use Rattle.plus_plan.specs.Seen.{seen, HasFewPlaces};
+ghost use Rattle.plus_tokens.specs.Seen.{seen, HasFewPlaces};
 
 use crate::forms::{Line, Time};
-use crate::reader::{Reader, Refusal, Seen};
-use plus_tokens::{Kind, Op};
+use crate::reader::{Reader, Refusal};
+use plus_tokens::{Kind, Op, Seen};
 use plus_tree::{Call, Name, NameArgs, Span};
 use std::alloc::Global;
 

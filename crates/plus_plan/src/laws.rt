@@ -11,7 +11,7 @@ ghost use Rattle.plus_plan.specs.Spells.{Spells};
 ghost use Rattle.plus_plan.specs.declared.faults.PlanFault.{PlanFault};
 ghost use Rattle.plus_plan.specs.declared.forms.Line.{Line};
 ghost use Rattle.plus_plan.specs.declared.forms.PlanForm.{PlanForm};
-ghost use Rattle.plus_tree.specs.declared.names.Span.{Span};
+ghost use Rattle.plus_tokens.specs.declared.span.Span.{Span};
 
 /// No bytes spell two lines.
 pub fn one_line()

@@ -3,7 +3,7 @@
 ghost use Rattle.std.specs.Prelude.{◌≡◌, ◌<◌, ◌≤◌, ◌↔◌, length, IfErr, IfOk, IfSome, MatchResult};
 ghost use Rattle.plus_plan.specs.Cut.{line_end};
 ghost use Rattle.plus_plan.specs.Grammar.{line_of};
-ghost use Rattle.plus_plan.specs.Items.{items_of};
+ghost use Rattle.plus_tokens.specs.Items.{items_of};
 ghost use Rattle.plus_plan.specs.Lines.{fault_of, read_line};
 ghost use Rattle.plus_plan.specs.Reading.{Fails};
 ghost use Rattle.plus_plan.specs.Spells.{line_limit};

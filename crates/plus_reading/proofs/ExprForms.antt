@@ -1,13 +1,13 @@
 -- An expression behind its opening parenthesis: what is read is spelled so, and what is spelled so is read.
 use Rattle.std.proofs.Common.{◌≡◌, ℕ, zero, suc, ◌<◌, Bool, true, false, List, [], ◌∷◌, ◌++◌, Ok, refl, sym, ap, ◌∙◌, subst, arith}
 use Rattle.plus_tokens.specs.declared.token.Op.TheVariants as ops
-use Rattle.plus_tree.specs.declared.names.Span.{Span}
+use Rattle.plus_tokens.specs.declared.span.Span.{Span}
 use Rattle.plus_tree.specs.declared.terms.Use.{Use}
 use Rattle.plus_tree.specs.Expr.{Expr, x_number, x_clock, x_fluent, x_sum, x_product, x_minus, x_difference, x_quotient, exprs_of}
 use Rattle.plus_reading.specs.declared.words.Allowed.TheVariants as allows
 use Rattle.plus_reading.specs.declared.words.ExprWord.{ExprWord}
 use Rattle.plus_reading.specs.declared.words.ExprWord.TheVariants as exprs
-use Rattle.plus_reading.specs.Items.{Piece, Item, tok}
+use Rattle.plus_tokens.specs.Items.{Piece, Item, tok}
 use Rattle.plus_reading.specs.Reading.{◌>>=◌, next_of, is_open}
 use Rattle.plus_reading.specs.Words.{expr_head, is_close}
 use Rattle.plus_reading.specs.Grammar.{around, close_of, Former, use_of, use_end, expr_from, expr_next, pair_of, many_of, minus_with, minus_of, expr_with, expr_body, expr_at}

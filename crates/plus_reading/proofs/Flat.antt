@@ -2,7 +2,7 @@
 use Rattle.std.proofs.Common.{◌≡◌, ℕ, suc, ◌+◌, true, false, refl, List, ◌∷◌, Ok, ap, ◌∙◌, inl, inr}
 use Rattle.plus_tokens.specs.declared.token.Kind.{Kind}
 use Rattle.plus_tokens.specs.declared.token.Kind.TheVariants as kinds
-use Rattle.plus_reading.specs.Items.{Piece, Item, tok}
+use Rattle.plus_tokens.specs.Items.{Piece, Item, tok}
 use Rattle.plus_reading.specs.Reading.{next_of, is_open}
 use Rattle.plus_reading.specs.Words.{is_close, is_keyword}
 use Rattle.plus_reading.specs.Spells.{IsOpen, IsClose, IsName, room_step, room_after}

@@ -2,9 +2,9 @@
 use Rattle.std.proofs.Common.{◌≡◌, ℕ, suc, ◌<◌, Bool, true, false, cond, List, [], ◌∷◌, ◌++◌, length, Option, Some, None, Ok, Err, refl, sym, ap, ◌∙◌, subst, append_assoc}
 use Rattle.std.proofs.lemmas.Bool.{cond-false, cond-true}
 use Rattle.std.proofs.lemmas.List.{append-nil}
-use Rattle.plus_tree.specs.declared.names.Span.{Span}
+use Rattle.plus_tokens.specs.declared.span.Span.{Span}
 use Rattle.plus_tree.specs.declared.faults.TextFault.TheVariants as faults
-use Rattle.plus_reading.specs.Items.{Piece, Item, tok}
+use Rattle.plus_tokens.specs.Items.{Piece, Item, tok}
 use Rattle.plus_reading.specs.Reading.{◌>>=◌, Read, is_open}
 use Rattle.plus_reading.specs.Words.{is_close}
 use Rattle.plus_reading.specs.Grammar.{around, Step, until_close, Former, form_step}

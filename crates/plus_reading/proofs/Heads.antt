@@ -15,7 +15,7 @@ use Rattle.plus_reading.specs.declared.words.HeadWord.TheVariants.{Nothing, And,
 use Rattle.plus_reading.specs.declared.words.Change.TheVariants.{Assign, Increase, Decrease, ScaleUp, ScaleDown}
 use Rattle.plus_reading.specs.declared.words.ExprWord.{ExprWord}
 use Rattle.plus_reading.specs.declared.words.ExprWord.TheVariants as exprs
-use Rattle.plus_reading.specs.Items.{Piece}
+use Rattle.plus_tokens.specs.Items.{Piece}
 use Rattle.plus_reading.specs.Words.{look, changes, connectives, word_head, op_head, kind_head, head_of, is_plain_head, sign_expr, kind_expr, expr_head}
 use Rattle.plus_reading.specs.Spells.{IsClose, IsWord, IsSign, IsPlain, sign_of}
 use Rattle.plus_reading.proofs.Names.{plain_name}

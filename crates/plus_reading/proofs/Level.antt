@@ -3,14 +3,14 @@ use Rattle.std.proofs.Common.{◌≡◌, ℕ, zero, suc, ◌+◌, ◌<◌, ◌�
 use Rattle.std.specs.Prelude.{◌⊎◌}
 use Rattle.plus_tokens.specs.declared.token.Kind.{Kind}
 use Rattle.plus_tokens.specs.declared.token.Kind.TheVariants as kinds
-use Rattle.plus_tree.specs.declared.names.Span.{Span}
+use Rattle.plus_tokens.specs.declared.span.Span.{Span}
 use Rattle.plus_tree.specs.declared.terms.Literal.{Literal}
 use Rattle.plus_tree.specs.declared.terms.Term.{Term}
 use Rattle.plus_tree.specs.declared.terms.Use.{Use}
 use Rattle.plus_tree.specs.Expr.{Expr, x_number, x_clock, x_fluent, x_sum, x_product, x_minus, x_difference, x_quotient, Exprs, no_exprs, more_exprs}
 use Rattle.plus_reading.specs.declared.words.Allowed.{Allowed}
 use Rattle.plus_reading.specs.declared.words.Allowed.TheVariants.{Terms, Variables, Names}
-use Rattle.plus_reading.specs.Items.{Piece}
+use Rattle.plus_tokens.specs.Items.{Piece}
 use Rattle.plus_reading.specs.Literals.{kind_literal}
 use Rattle.plus_reading.specs.Words.{is_name, is_variable, is_term, is_allowed}
 use Rattle.plus_reading.specs.Spells.{IsOpen, IsClose, Wrapped, Chain, IsNumber, SpellsArgument, SpellsUse, SpellsExpr, SpellsExprs, room_step, room_after}

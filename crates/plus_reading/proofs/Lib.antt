@@ -1,4 +1,3 @@
-pub mod Stream
 pub mod Until
 pub mod Nest
 pub mod Trimmed

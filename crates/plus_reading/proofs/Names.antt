@@ -8,7 +8,7 @@ use Rattle.plus_tokens.specs.declared.token.Kind.{Kind}
 use Rattle.plus_tokens.specs.declared.token.Kind.TheVariants as kinds
 use Rattle.plus_tokens.specs.declared.token.Op.{Op}
 use Rattle.plus_tokens.specs.declared.token.Op.TheVariants as ops
-use Rattle.plus_reading.specs.Items.{Piece}
+use Rattle.plus_tokens.specs.Items.{Piece}
 use Rattle.plus_reading.specs.Words.{is_name, is_keyword, is_plain_head, op_head, kind_head, is_word}
 use Rattle.plus_reading.specs.Spells.{IsName, IsWord, IsPlain}
 

@@ -1,7 +1,7 @@
 -- A form inside a form.
 use Rattle.std.proofs.Common.{◌≡◌, ℕ, zero, suc, ◌-◌, ◌<◌, List, ap, arith}
-use Rattle.plus_tree.specs.declared.names.Span.{Span}
-use Rattle.plus_reading.specs.Items.{Item}
+use Rattle.plus_tokens.specs.declared.span.Span.{Span}
+use Rattle.plus_tokens.specs.Items.{Item}
 use Rattle.plus_reading.specs.Grammar.{expr_at, expr_body}
 
 pub expr_at-inside : (room : ℕ) (front : Span) (items : List Item) → 0 < room → expr_at room front items ≡ expr_body (room - 1) (expr_at (room - 1)) front items

@@ -1,7 +1,7 @@
 -- One 0 less at the end of the places.
 use Rattle.std.proofs.Common.{◌≡◌, ℕ, zero, suc, ◌-◌, ◌/◌, ◌%◌, Bool, cond, refl, arith}
 use Rattle.std.specs.Prelude.{◌==◌}
-use Rattle.plus_tree.specs.declared.names.Span.{Span}
+use Rattle.plus_tokens.specs.declared.span.Span.{Span}
 use Rattle.plus_reading.specs.Literals.{trimmed}
 
 -- where places are left, the last digit says what is dropped

@@ -1,8 +1,8 @@
 -- What a loop up to the closing parenthesis reads is spelled so, thing by thing.
 use Rattle.std.proofs.Common.{◌≡◌, ℕ, zero, suc, ◌<◌, Bool, true, false, List, [], ◌∷◌, ◌++◌, Option, Some, Ok, refl, sym, ap, ◌∙◌}
 use Rattle.std.specs.Prelude.{option_and_then}
-use Rattle.plus_tree.specs.declared.names.Span.{Span}
-use Rattle.plus_reading.specs.Items.{Piece, Item, tok}
+use Rattle.plus_tokens.specs.declared.span.Span.{Span}
+use Rattle.plus_tokens.specs.Items.{Piece, Item, tok}
 use Rattle.plus_reading.specs.Reading.{next_of, is_open}
 use Rattle.plus_reading.specs.Words.{is_close}
 use Rattle.plus_reading.specs.Grammar.{Step, at_close, until_close}

@@ -1,7 +1,7 @@
 -- Reading lists, uses and expressions from tokens. Each look at a token goes through `next_of`, so that a refusal comes at the
 -- first token with which the grammar does not go on.
 use Rattle.std.specs.Prelude.{ℕ, zero, suc, ◌-◌, Bool, true, false, not, ◌&&◌, ◌==◌, Option, Some, None, List, [], ◌∷◌, ◌++◌, length, map, drop, Ok, Err, if◌then◌else◌, codes}
-use Rattle.plus_tree.specs.declared.names.Span.{Span}
+use Rattle.plus_tokens.specs.declared.span.Span.{Span}
 use Rattle.plus_tree.specs.declared.names.Spelled.{Spelled}
 use Rattle.plus_tree.specs.declared.terms.Term.{Term}
 use Rattle.plus_tree.specs.declared.terms.Term.TheVariants.{Object, Variable}
@@ -16,7 +16,7 @@ use Rattle.plus_reading.specs.declared.words.ExprWord.{ExprWord}
 use Rattle.plus_reading.specs.declared.words.ExprWord.TheVariants as exprs
 use Rattle.plus_tokens.specs.declared.token.Kind.{Kind}
 use Rattle.plus_tokens.specs.declared.token.Kind.TheVariants as kinds
-use Rattle.plus_reading.specs.Items.{Piece, Item}
+use Rattle.plus_tokens.specs.Items.{Piece, Item}
 use Rattle.plus_reading.specs.Reading.{◌>>=◌, Read, next_of, is_open}
 use Rattle.plus_reading.specs.Words.{expr_head, is_close, is_name, is_plain, is_word, is_variable, is_allowed, is_time, is_minus}
 use Rattle.plus_reading.specs.Literals.{literal_of}

@@ -1,6 +1,4 @@
-pub mod Items
 pub mod Reading
-pub mod Seen
 pub mod Words
 pub mod Literals
 pub mod Grammar

@@ -4,7 +4,7 @@ use Rattle.plus_tokens.specs.declared.token.Kind.{Kind}
 use Rattle.plus_tokens.specs.declared.token.Kind.TheVariants as kinds
 use Rattle.plus_tree.specs.declared.faults.TextFault.{TextFault}
 use Rattle.plus_tree.specs.declared.faults.TextFault.TheVariants as faults
-use Rattle.plus_reading.specs.Items.{Piece, Item, tok, bad}
+use Rattle.plus_tokens.specs.Items.{Piece, Item, tok, bad}
 
 infixl 10 ◌>>=◌
 abbrev pub ◌>>=◌ : {A B : Type 0} → Result A TextFault → (A → Result B TextFault) → Result B TextFault
@@ -30,6 +30,12 @@ Gives view rest (Err e) read = Fails e read
 abbrev pub is_open : Kind → Bool
 is_open kinds.Open = true
 is_open _ = false
+
+-- a parenthesis is opened next, and no room is left for it
+abbrev pub is_full : ℕ → List Item → Bool
+is_full room [] = false
+is_full room (bad f ∷ rest) = false
+is_full room (tok p ∷ rest) = is_open p.kind && (room == 0)
 
 -- one token, where room is left for so many more parentheses
 abbrev pub next_of : ℕ → List Item → Read Piece

@@ -13,7 +13,7 @@ use Rattle.plus_reading.specs.declared.words.ExprWord.TheVariants as exprs
 use Rattle.plus_tree.specs.declared.terms.Comparison.TheVariants as comparisons
 use Rattle.plus_reading.specs.declared.words.Allowed.{Allowed}
 use Rattle.plus_reading.specs.declared.words.Allowed.TheVariants as allows
-use Rattle.plus_reading.specs.Items.{Piece}
+use Rattle.plus_tokens.specs.Items.{Piece}
 
 -- ---- names
 

@@ -2,16 +2,16 @@
 
 ghost use Rattle.std.specs.Prelude.{◌≡◌, ◌+◌, ◌-◌, ◌<◌, ◌≤◌, ◌==◌, ◌&&◌, ◌%◌, not, true, List, [], ◌∷◌, length, IfOk, OnOk};
 ghost use Rattle.plus_reading.specs.Reading.{Gives, is_open};
-ghost use Rattle.plus_reading.specs.Items.{Item};
+ghost use Rattle.plus_tokens.specs.Items.{Item};
 ghost use Rattle.plus_reading.specs.Literals.{trimmed, literal_of};
 ghost use Rattle.plus_reading.specs.Grammar.{around, until_close, start_step, number_or, expr_from, expr_next, two_of, pair_of, many_of, minus_of, expr_at, expr_body};
 ghost use Rattle.plus_tree.specs.Expr.{x_minus, x_difference, x_quotient};
-ghost use Rattle.plus_reading.specs.Seen.{seen};
+ghost use Rattle.plus_tokens.specs.Seen.{seen};
 
-use crate::reader::{Reader, Seen};
+use crate::reader::Reader;
 use crate::uses::{around, use_end};
 use crate::words::{Allowed, ExprWord, expr_head, is_close};
-use plus_tokens::Kind;
+use plus_tokens::{Kind, Seen};
 use plus_tree::{ExprNode, ExprTree, Literal, Span, TextFault};
 use std::alloc::{AllocError, Global};
 

@@ -5,5 +5,6 @@
 pub mod expressions;
 pub mod lists;
 pub mod reader;
+pub mod spelled;
 pub mod uses;
 pub mod words;

@@ -5,11 +5,12 @@ ghost use Rattle.plus_reading.specs.Reading.{Gives};
 ghost use Rattle.plus_reading.specs.Words.{is_minus};
 ghost use Rattle.plus_reading.specs.Grammar.{no_names, of_type, spelled_of, typed_by, type_of_waiting, list_step, all_typed, list_of, variables_of, until_close};
 ghost use Rattle.plus_reading.specs.Listings.{listing};
-ghost use Rattle.plus_reading.specs.Seen.{seen};
+ghost use Rattle.plus_tokens.specs.Seen.{seen};
 
-use crate::reader::{Reader, Seen};
+use crate::reader::Reader;
+use crate::spelled::{named_of, spelled_of};
 use crate::words::{Allowed, is_allowed, is_close, is_minus};
-use plus_tokens::Kind;
+use plus_tokens::{Kind, Seen};
 use plus_tree::{Members, Span, Spelled, TextFault, TypedName};
 use std::alloc::{AllocError, Global};
 use std::mem;
@@ -40,7 +41,7 @@ fn give(
         (typed.new.items ≡ typed.old.items ++ map (of_type (spelled_of (seen kind.now))) names.items) }
 {
     'names: for name in names {
-        let kind = kind.spelled(alloc)?;
+        let kind = spelled_of(alloc, kind)?;
         typed.push(TypedName { name, kind })?;
     }
     Ok(())
@@ -104,7 +105,7 @@ fn member(
     ensures no_longer { OnOk result (length reader.new ≤ length reader.old) }
 {
     if is_allowed(allowed, token.kind) {
-        found.waiting.push(token.named(alloc)?)?;
+        found.waiting.push(named_of(alloc, token)?)?;
         return Ok(());
     }
     if found.begins_type(token.kind) {

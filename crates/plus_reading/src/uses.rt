@@ -2,13 +2,15 @@
 
 ghost use Rattle.std.specs.Prelude.{◌≡◌, ◌<◌, true, List, [], length, OnOk};
 ghost use Rattle.plus_tree.specs.declared.terms.Term.{Term as TermTree};
-ghost use Rattle.plus_reading.specs.Items.{Item};
+ghost use Rattle.plus_tokens.specs.Items.{Item};
 ghost use Rattle.plus_reading.specs.Reading.{Gives};
 ghost use Rattle.plus_reading.specs.Grammar.{around, argument_step, until_close, use_end, use_form};
-ghost use Rattle.plus_reading.specs.Seen.{seen};
+ghost use Rattle.plus_tokens.specs.Seen.{seen};
 
-use crate::reader::{Reader, Seen};
+use crate::reader::Reader;
+use crate::spelled::{spelled_of, term_of};
 use crate::words::{Allowed, is_allowed, is_close};
+use plus_tokens::Seen;
 use plus_tree::{Args, Span, TextFault, Use};
 use std::alloc::Global;
 
@@ -35,7 +37,7 @@ fn argument(
         (argument_step allowed found.old (seen token.now) rest) }
 {
     if is_allowed(allowed, token.kind) {
-        found.push(token.term(alloc)?)?;
+        found.push(term_of(alloc, token)?)?;
         return Ok(());
     }
     Err(TextFault::Form { span: token.span })
@@ -78,7 +80,7 @@ pub fn use_end(
 {
     let (args, last) = arguments(alloc, reader, allowed, room)?;
     Ok(Use {
-        head: head.spelled(alloc)?,
+        head: spelled_of(alloc, head)?,
         args,
         span: around(front, last),
     })

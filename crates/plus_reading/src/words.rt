@@ -2,13 +2,12 @@
 
 ghost use Rattle.std.specs.Prelude.{◌≡◌, ◌&&◌, ◌||◌, List, ℕ, length, map, if◌then◌else◌};
 ghost use Rattle.std.specs.Str.{bytes_eq};
-ghost use Rattle.plus_tree.specs.Lowered.{lowered};
+ghost use Rattle.plus_tokens.specs.Lowered.{lowered};
 ghost use Rattle.plus_reading.specs.Words.{look, changes, word_head, op_head, head_of, sign_expr, expr_head, is_plain_head, is_close, is_minus, is_variable, is_term, is_time, is_allowed, is_word};
 ghost use Rattle.plus_reading.specs.Reading.{is_open};
-ghost use Rattle.plus_reading.specs.Seen.{seen};
+ghost use Rattle.plus_tokens.specs.Seen.{seen};
 
-use crate::reader::Seen;
-use plus_tokens::{Kind, Op};
+use plus_tokens::{Kind, Op, Seen};
 use plus_tree::Comparison;
 
 /// What stands behind an opening parenthesis of a condition or an effect.

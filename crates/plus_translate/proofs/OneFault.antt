@@ -2,7 +2,7 @@
 use Rattle.std.specs.Prelude.{◌≡◌, suc, ◌<◌, true, false, List, [], ◌∷◌, ◌++◌, length, All, Some, None, unwrap_or, slice_get, refl}
 use Rattle.std.proofs.Common.{ap, sym, ◌∙◌, subst, arith}
 use Rattle.plus_fraction.specs.Fraction.{Fraction}
-use Rattle.plus_tree.specs.declared.names.Span.{Span}
+use Rattle.plus_tokens.specs.declared.span.Span.{Span}
 use Rattle.plus_tree.specs.declared.terms.Literal.{Literal}
 use Rattle.plus_tree.specs.declared.trees.Domain.{Domain}
 use Rattle.plus_tree.specs.declared.trees.Problem.{Problem}

@@ -1,7 +1,7 @@
 -- Which times are a whole number of steps.
 use Rattle.std.specs.Prelude.{◌≡◌, ◌≤◌, false, List, ◌∷◌, ◌++◌, All}
 use Rattle.plus_fraction.specs.Fraction.{Fraction}
-use Rattle.plus_tree.specs.declared.names.Span.{Span}
+use Rattle.plus_tokens.specs.declared.span.Span.{Span}
 use Rattle.plus_tree.specs.declared.terms.Literal.{Literal}
 use Rattle.plus_literal.specs.Value.{literal_value}
 use Rattle.plus_stepped.specs.Grid.{OnGrid}

@@ -4,7 +4,7 @@
 use Rattle.std.specs.Prelude.{ℕ, Bool, List, [], ◌∷◌, ◌++◌, take, codes, if◌then◌else◌}
 use Rattle.std.specs.List.{flat_map}
 use Rattle.std.specs.Str.{bytes_eq}
-use Rattle.plus_tree.specs.declared.names.Span.{Span}
+use Rattle.plus_tokens.specs.declared.span.Span.{Span}
 use Rattle.plus_tree.specs.declared.names.Spelled.{Spelled}
 use Rattle.plus_tree.specs.declared.terms.TypedName.{TypedName}
 use Rattle.plus_tree.specs.declared.trees.Head.{Head}

@@ -1,7 +1,7 @@
 -- What tokens spell within a depth has a shape of that depth.
 use Rattle.std.proofs.Common.{◌≡◌, ℕ, suc, ◌-◌, Bool, true, ◌&&◌, List, [], ◌∷◌, ◌++◌, refl, sym, subst, ap, ap₂, ◌∙◌, arith, inl, inr}
 use Rattle.std.specs.List.{list_all}
-use Rattle.plus_tree.specs.declared.names.Span.{Span}
+use Rattle.plus_tokens.specs.declared.span.Span.{Span}
 use Rattle.plus_tree.specs.declared.terms.Use.{Use}
 use Rattle.plus_tree.specs.declared.trees.Leaf.{Leaf}
 use Rattle.plus_tree.specs.declared.trees.LeafNode.{LeafNode}
@@ -11,7 +11,7 @@ use Rattle.plus_tree.specs.Cond.{Cond, Conds, c_all, c_any, c_not, c_imply, c_fo
 use Rattle.plus_tree.specs.Effect.{Effect, Effects, e_all, e_forall, e_when, e_leaf, no_effects, more_effects}
 use Rattle.plus_reading.specs.declared.words.Allowed.{Allowed}
 use Rattle.plus_reading.specs.declared.words.Allowed.TheVariants.{Terms}
-use Rattle.plus_reading.specs.Items.{Piece}
+use Rattle.plus_tokens.specs.Items.{Piece}
 use Rattle.plus_reading.specs.Spells.{Wrapped, Chain, SpellsUse, SpellsExpr, SpellsExprs}
 use Rattle.plus_reading.proofs.Level.{Level, Even, is_flat, level_at, level_none, level_append, level_flat, level_args, level_use, level_expr, level_exprs, split_append, split_wrapped, after_flat}
 use Rattle.plus_reading.proofs.Names.{plain_name as plain_kind}

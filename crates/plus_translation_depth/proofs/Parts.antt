@@ -2,7 +2,7 @@
 use Rattle.std.proofs.Common.{◌≡◌, ℕ, suc, Bool, true, false, cond, List, [], ◌∷◌, ◌++◌, Option, Some, None, refl, sym, ap, subst, ◌∙◌, arith}
 use Rattle.std.specs.Prelude.{codes, unwrap_or, is_some}
 use Rattle.std.proofs.lemmas.Bool.{lt-ltb}
-use Rattle.plus_tree.specs.declared.names.Span.{Span}
+use Rattle.plus_tokens.specs.declared.span.Span.{Span}
 use Rattle.plus_tree.specs.declared.names.Spelled.{Spelled}
 use Rattle.plus_tree.specs.declared.terms.TypedName.{TypedName}
 use Rattle.plus_tree.specs.declared.terms.Use.{Use}
@@ -14,7 +14,7 @@ use Rattle.plus_tree.specs.declared.trees.Problem.{Problem}
 use Rattle.plus_tree.specs.Cond.{Cond}
 use Rattle.plus_reading.specs.declared.words.Allowed.{Allowed}
 use Rattle.plus_reading.specs.declared.words.Allowed.TheVariants.{Terms, Names}
-use Rattle.plus_reading.specs.Items.{Piece}
+use Rattle.plus_tokens.specs.Items.{Piece}
 use Rattle.plus_reading.specs.Spells.{Wrapped, Chain}
 use Rattle.plus_reading.proofs.Level.{Level, Even, is_flat, level_append, level_flat, level_none, level_use, number_flat, split_append, after_flat}
 use Rattle.plus_parser.specs.declared.parts.Keys.{Keys}

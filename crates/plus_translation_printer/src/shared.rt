@@ -1,7 +1,7 @@
 //! What all old actions of a translation have beside their own parts.
 
 ghost use Rattle.std.specs.Prelude.{◌≡◌, ◌++◌, [], List, length, codes, IfOk};
-ghost use Rattle.plus_tree.specs.declared.names.Span.{Span};
+ghost use Rattle.plus_tokens.specs.declared.span.Span.{Span};
 ghost use Rattle.plus_tree.specs.Cond.{Cond, c_all, conds_of};
 ghost use Rattle.plus_tree.specs.Effect.{Effect, e_all, effects_of};
 ghost use Rattle.plus_printer.specs.Appended.{Prints};

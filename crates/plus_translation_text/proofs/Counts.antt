@@ -6,7 +6,7 @@ use Rattle.std.proofs.lemmas.List.Elements.{All-from_recursion}
 use Rattle.plus_tokens.specs.declared.token.Token.{Token}
 use Rattle.plus_tokens.specs.declared.token.LexFault.{LexFault}
 use Rattle.plus_tokens.specs.First.{first_token}
-use Rattle.plus_tree.specs.declared.names.Span.{Span}
+use Rattle.plus_tokens.specs.declared.span.Span.{Span}
 use Rattle.plus_tree.specs.declared.terms.TypedName.{TypedName}
 use Rattle.plus_tree.specs.declared.trees.Schema.{Schema}
 use Rattle.plus_tree.specs.declared.trees.Domain.{Domain}
@@ -14,7 +14,7 @@ use Rattle.plus_tree.specs.Cond.{Cond, Conds, c_all, c_any, c_not, c_imply, c_fo
 use Rattle.plus_tree.specs.Effect.{Effect, Effects, e_all, e_forall, e_when, e_leaf, no_effects, more_effects}
 use Rattle.plus_reading.specs.declared.words.Allowed.{Allowed}
 use Rattle.plus_reading.specs.declared.words.Allowed.TheVariants.{Variables}
-use Rattle.plus_reading.specs.Items.{Piece, tok, items_step, items_from}
+use Rattle.plus_tokens.specs.Items.{Piece, tok, items_step, items_from}
 use Rattle.plus_reading.specs.Grammar.{Listing, no_names, of_type, object_type}
 use Rattle.plus_reading.specs.Spells.{Wrapped, Chain, added, ListPart, l_name, l_type, SpellsListPart, with_list_part, SpellsList, SpellsVariables}
 use Rattle.plus_forms.specs.SpellsForms.{SpellsCond, SpellsConds, SpellsEffect, SpellsEffects}

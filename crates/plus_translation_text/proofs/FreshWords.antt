@@ -7,7 +7,7 @@ use Rattle.std.specs.Int.Digits.{digits_of}
 use Rattle.std.proofs.lemmas.Bool.{le-leb, and_from}
 use Rattle.std.proofs.lemmas.Int.Digits.{length-digits_of-le, all_below_base_digits_of}
 use Rattle.plus_tokens.specs.Bytes.{is_letter, is_digit, is_name_byte}
-use Rattle.plus_tree.specs.Lowered.{lowered}
+use Rattle.plus_tokens.specs.Lowered.{lowered}
 use Rattle.plus_canonical.proofs.Smalls.{IsSmall}
 use Rattle.plus_canonical.proofs.Terms.{PlainName}
 use Rattle.plus_translation.specs.Renamed.{numeral, fresh_name}

@@ -10,7 +10,7 @@ use Rattle.plus_tree.specs.declared.trees.Init.{Init}
 use Rattle.plus_tree.specs.declared.trees.Problem.{Problem}
 use Rattle.plus_tree.specs.Cond.{Cond}
 use Rattle.plus_reading.specs.declared.words.Allowed.TheVariants.{Names, Variables}
-use Rattle.plus_reading.specs.Items.{Piece}
+use Rattle.plus_tokens.specs.Items.{Piece}
 use Rattle.plus_reading.specs.Grammar.{spelled_of}
 use Rattle.plus_parser.specs.declared.parts.Keys.{Keys}
 use Rattle.plus_parser.specs.declared.parts.DomainParts.{DomainParts}

@@ -19,7 +19,7 @@ use Rattle.plus_types.proofs.SoundLemmas.{left-none, right-none}
 use Rattle.plus_types.specs.declared.faults.Wrong.TheVariants.{Arity}
 use Rattle.plus_expansion.proofs.WellTyped.{no-type-fault, pair-typed}
 use Rattle.plus_reading.specs.declared.words.Allowed.TheVariants.{Terms, Names}
-use Rattle.plus_reading.specs.Items.{Piece, tok}
+use Rattle.plus_tokens.specs.Items.{Piece, tok}
 use Rattle.plus_reading.specs.Spells.{FitsDepth}
 use Rattle.plus_canonical.proofs.Forms.{AllOf}
 use Rattle.plus_translation.specs.Renamed.{bindings_in, effect_bindings}

@@ -5,7 +5,7 @@ use Rattle.plus_tree.specs.declared.terms.Literal.{Literal}
 use Rattle.plus_tree.specs.declared.trees.Schema.{Schema}
 use Rattle.plus_tree.specs.declared.trees.Domain.{Domain}
 use Rattle.plus_tree.specs.declared.trees.Problem.{Problem}
-use Rattle.plus_reading.specs.Items.{Piece, tok, items_of}
+use Rattle.plus_tokens.specs.Items.{Piece, tok, items_of}
 use Rattle.plus_reading.specs.Spells.{FitsDepth}
 use Rattle.plus_parser.specs.SpellsDomain.{Spells, SpellsWithin}
 use Rattle.plus_parser.specs.SpellsProblem.{SpellsProblem, SpellsProblemWithin}

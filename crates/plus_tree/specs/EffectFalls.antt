@@ -1,7 +1,7 @@
 -- Each effect inside an effect is smaller.
 use Rattle.std.specs.Prelude.{◌≤◌, max}
 use Rattle.std.proofs.Common.{arith}
-use Rattle.plus_tree.specs.declared.names.Span.{Span}
+use Rattle.plus_tokens.specs.declared.span.Span.{Span}
 use Rattle.plus_tree.specs.declared.trees.EffectNode.{EffectNode}
 use Rattle.plus_tree.specs.declared.trees.EffectNode.TheVariants.{All, ForAll, When, Leaf}
 use Rattle.plus_tree.specs.declared.trees.EffectTree.TheDeep.{deep-EffectNode}

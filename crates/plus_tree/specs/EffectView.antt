@@ -2,7 +2,7 @@
 use Rattle.std.specs.Prelude.{◌+◌, ◌≤◌, List, [], ◌∷◌}
 use Rattle.std.proofs.Common.{arith}
 use denote.Param.Weighed.{most}
-use Rattle.plus_tree.specs.declared.names.Span.{Span}
+use Rattle.plus_tokens.specs.declared.span.Span.{Span}
 use Rattle.plus_tree.specs.declared.trees.EffectNode.{EffectNode}
 use Rattle.plus_tree.specs.declared.trees.EffectNode.TheVariants.{All, ForAll, When, Leaf}
 use Rattle.plus_tree.specs.Effect.{Effect, e_all, e_forall, e_when, e_leaf, effects_of, effect_size, effects_size}

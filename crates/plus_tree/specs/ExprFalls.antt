@@ -1,7 +1,7 @@
 -- Each expression inside an expression is smaller.
 use Rattle.std.specs.Prelude.{◌≤◌, max}
 use Rattle.std.proofs.Common.{arith}
-use Rattle.plus_tree.specs.declared.names.Span.{Span}
+use Rattle.plus_tokens.specs.declared.span.Span.{Span}
 use Rattle.plus_tree.specs.declared.trees.ExprNode.{ExprNode}
 use Rattle.plus_tree.specs.declared.trees.ExprNode.TheVariants.{Number, Clock, Fluent, Sum, Product, Minus, Difference, Quotient}
 use Rattle.plus_tree.specs.declared.trees.ExprTree.TheDeep.{deep-ExprNode}

@@ -1,5 +1,5 @@
 -- Writes as trees of numbers, which a proof can tell apart.
-use Rattle.std.specs.Prelude.{◌≡◌, [], ◌∷◌, refl}
+use Rattle.std.specs.Prelude.{◌≡◌, [], ◌∷◌}
 use base.Stored.{Gv, gnil, gnum, gcons}
 use Rattle.plus_tree.specs.declared.trees.Leaf.{Leaf}
 use Rattle.plus_tree.specs.declared.trees.LeafNode.{LeafNode}

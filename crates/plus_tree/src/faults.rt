@@ -3,8 +3,7 @@
 ghost use Rattle.std.specs.Prelude.{◌≡◌};
 ghost use Rattle.plus_tree.specs.declared.faults.TextFault.TheVariants.{Memory};
 
-use crate::names::Span;
-use plus_tokens::LexFault;
+use plus_tokens::{LexFault, Span};
 use std::alloc::{AllocError, AllocFailed};
 use std::error::Error;
 use std::fmt;

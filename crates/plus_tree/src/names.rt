@@ -1,19 +1,13 @@
 //! Names, and where they stand.
 
 ghost use Rattle.std.specs.Prelude.{◌≡◌, [], IfOk, map};
-ghost use Rattle.plus_tree.specs.Lowered.{lowered};
+ghost use Rattle.plus_tokens.specs.Lowered.{lowered};
 
+use plus_tokens::Span;
 use smallvec::SmallVec;
 use std::alloc::{AllocError, Global};
 use std::default::MadeWith;
 use std::marker::Model;
-
-/// A place in a text: from the byte at `start` up to the byte before `end`, counted from 0.
-#[derive(Clone, Copy, Debug, PartialEq, Eq)]
-pub struct Span {
-    pub start: usize,
-    pub end: usize,
-}
 
 /// A name in small letters, of which up to 16 bytes need no memory of their own. Contracts see it as the
 /// list of its bytes.

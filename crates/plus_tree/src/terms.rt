@@ -1,7 +1,8 @@
 //! Terms, and what is made of them without a form inside a form: uses of names and numbers.
 
 use crate::lists::Args;
-use crate::names::{Span, Spelled};
+use crate::names::Spelled;
+use plus_tokens::Span;
 use std::alloc::Global;
 use std::default::MadeWith;
 

@@ -2,8 +2,9 @@
 //! a form goes from its opening parenthesis to the end of its closing one.
 
 use crate::lists::{Members, NameArgs};
-use crate::names::{Name, Span, Spelled};
+use crate::names::{Name, Spelled};
 use crate::terms::{Comparison, Literal, Term, TypedName, Use};
+use plus_tokens::Span;
 use std::marker::Model;
 
 /// An expression. Contracts see it as an `Expr`.

@@ -1,7 +1,7 @@
 -- Worked rows of typing: each word with its place, and what is no fault.
 use Rattle.std.specs.Prelude.{◌≡◌, Bool, true, false, List, [], ◌∷◌, codes}
 use Prim.Native.String.{String}
-use Rattle.plus_tree.specs.declared.names.Span.{Span}
+use Rattle.plus_tokens.specs.declared.span.Span.{Span}
 use Rattle.plus_tree.specs.declared.terms.TypedName.{TypedName}
 use Rattle.plus_tree.specs.declared.terms.Comparison.TheVariants.{Equal}
 use Rattle.plus_tree.specs.declared.trees.Domain.{Domain}

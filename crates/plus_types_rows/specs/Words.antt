@@ -2,7 +2,7 @@
 -- a form up to the ninth.
 use Rattle.std.specs.Prelude.{ℕ, ◌+◌, false, List, [], codes}
 use Prim.Native.String.{String}
-use Rattle.plus_tree.specs.declared.names.Span.{Span}
+use Rattle.plus_tokens.specs.declared.span.Span.{Span}
 use Rattle.plus_tree.specs.declared.names.Spelled.{Spelled}
 use Rattle.plus_tree.specs.declared.terms.Term.{Term}
 use Rattle.plus_tree.specs.declared.terms.Term.TheVariants.{Object, Variable}

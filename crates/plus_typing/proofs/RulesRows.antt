@@ -1,6 +1,6 @@
 -- The rows of the rules: what a fault names is broken, and a pair without faults obeys all.
 use Rattle.std.proofs.Common.{◌≡◌, List, [], ◌∷◌, refl, All}
-use Rattle.plus_tree.specs.declared.names.Span.{Span}
+use Rattle.plus_tokens.specs.declared.span.Span.{Span}
 use Rattle.plus_tree.specs.declared.trees.Domain.{Domain}
 use Rattle.plus_tree.specs.declared.trees.Problem.{Problem}
 use Rattle.plus_types.specs.declared.faults.File.{File}

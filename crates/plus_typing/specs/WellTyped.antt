@@ -1,7 +1,7 @@
 -- When a domain and a problem are well typed, rule by rule (PDDL+: Fox and Long 2003 and 2006). Each rule is asked of
 -- all forms that it speaks of, in whatever order.
 use Rattle.std.specs.Prelude.{◌≡◌, ◌≢◌, ◌⊎◌, ℕ, List, [], ◌∷◌, map, length, zip, flat_map, All, AllPairs, IsTrue, IsFalse, IfSome, Option, ⊤}
-use Rattle.plus_tree.specs.declared.names.Span.{Span}
+use Rattle.plus_tokens.specs.declared.span.Span.{Span}
 use Rattle.plus_tree.specs.declared.terms.Term.{Term}
 use Rattle.plus_tree.specs.declared.terms.Term.TheVariants.{Object, Variable}
 use Rattle.plus_tree.specs.declared.terms.TypedName.{TypedName}

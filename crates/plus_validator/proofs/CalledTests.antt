@@ -6,7 +6,7 @@ use Rattle.std.proofs.lemmas.List.Elements.{All-head, All-tail}
 use Rattle.plus_model.specs.Terms.{Action}
 use Rattle.plus_model.specs.Plan.{Called, Instance}
 use Rattle.plus_number.specs.Frac.{IsFrac64}
-use Rattle.plus_tree.specs.declared.names.Span.{Span}
+use Rattle.plus_tokens.specs.declared.span.Span.{Span}
 use Rattle.plus_tree.specs.declared.terms.Literal.{Literal}
 use Rattle.plus_tree.specs.declared.trees.Call.{Call}
 use Rattle.plus_literal.specs.Value.{LiteralFits}

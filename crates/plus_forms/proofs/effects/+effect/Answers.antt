@@ -3,7 +3,7 @@ use Rattle.std.proofs.lemmas.Result.{err_from_is_err_and}
 use Rattle.plus_reading.specs.Reading.{next_of}
 use Rattle.plus_reading.specs.Grammar.{form_step}
 use Rattle.plus_forms.specs.ReadingForms.{effect_at}
-use Rattle.plus_reading.specs.Seen.{seen}
+use Rattle.plus_tokens.specs.Seen.{seen}
 use Rattle.plus_reading.proofs.Until.{fails_along, stops, closes, fails, goes_on}
 use Rattle.plus_forms.proofs.Nest.{effect_at-inside}
 use Rattle.plus_forms.proofs.effects.+effect.Goals as goal

@@ -1,6 +1,6 @@
 use Rattle.std.proofs.Common.{◌≡◌, map, ◌++◌}
 use Rattle.plus_reading.specs.Grammar.{of_type, spelled_of}
-use Rattle.plus_reading.specs.Seen.{seen}
+use Rattle.plus_tokens.specs.Seen.{seen}
 use Rattle.plus_reading.proofs.lists.give.Given as goal
 
 abbrev pub invariant-names : goal.invariant-names

@@ -1,5 +1,0 @@
-use Rattle.plus_spelling.proofs.Read.{none}
-use Rattle.plus_spelling.proofs.laws.none_is_a_gap.Goals as goal
-
-pub returns : goal.returns
-returns c = none

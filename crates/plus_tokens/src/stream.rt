@@ -1,0 +1,195 @@
+//! A text as the tokens that are still to come.
+
+ghost use Rattle.std.specs.Prelude.{◌≡◌, ◌∷◌, [], ◌+◌, ◌^◌, ◌<◌, ◌≤◌, false, true, Ok, Err, length, IfErr, IfOk, IfSome, MatchOption, MatchResult};
+ghost use Rattle.plus_tokens.specs.Ahead.{is_close, is_colon, is_name, is_open, place_if};
+ghost use Rattle.plus_tokens.specs.Coming.{comes, first_of, is_done, rest_of, without, word_ahead};
+ghost use Rattle.plus_tokens.specs.First.{first_token};
+ghost use Rattle.plus_tokens.specs.Items.{Stands, bad, items_at, items_of, piece_of, tok};
+ghost use Rattle.plus_tokens.specs.Lowered.{lowered};
+ghost use Rattle.plus_tokens.specs.Seen.{HasFewPlaces, byte_of, seen, seen_or_none};
+
+use crate::ahead::{close_ahead, colon_ahead, name_ahead, none_ahead, open_ahead};
+use crate::lexer::next_token;
+use crate::span::Span;
+use crate::token::{Kind, LexFault, Token};
+use std::marker::Model;
+
+/// A token with its bytes.
+#[derive(Clone, Copy, Debug)]
+pub struct Seen<'a> {
+    pub kind: Kind,
+    pub word: &'a [u8],
+    pub span: Span,
+}
+
+/// Gives the tokens of a text one after the other. Contracts see it as the list of the tokens that
+/// are still to come, up to the first place where none can be read.
+#[derive(Drop)]
+pub struct Tokens<'a> {
+    text: &'a [u8],
+    at: usize,
+}
+
+impl<'a> Model for Tokens<'a> {
+    ghost use Rattle.std.specs.Prelude.{List, ◌≤◌, length};
+    ghost use Rattle.plus_tokens.specs.Items.{Item, items_at};
+
+    ghost Value = { List Item };
+
+    ghost view = { λ r. items_at r.text.now r.at };
+
+    ghost invariant = { λ r. r.at ≤ length r.text.now };
+}
+
+impl<'a> Tokens<'a> {
+    /// All tokens of a text.
+    pub fn new(text: &'a [u8]) -> Tokens<'a>
+        ensures { result ≡ items_of text.now }
+    {
+        Tokens { text, at: 0 }
+    }
+
+    /// The token that comes next, and none at the end.
+    pub fn next(&mut self) -> Result<Option<Seen<'a>>, LexFault>
+        ensures gives { MatchResult result
+            (λ o. first_of self.old ≡ Ok (seen_or_none o)) (λ f. first_of self.old ≡ Err f) }
+        ensures leaves { self.new ≡ rest_of self.old }
+        ensures shorter { IfOk result (λ o. IfSome o (λ _. length self.new < length self.old)) }
+        ensures some { IfOk result (λ o. IfSome o (λ t. 0 < length t.word.now)) }
+        ensures few { IfOk result (λ o. IfSome o (λ t. HasFewPlaces t.kind)) }
+        ensures within { IfErr result (λ f. byte_of f + 1 < 2 ^ 64) }
+    {
+        let Some(token) = token_at(self.text, self.at)? else {
+            return Ok(None);
+        };
+        self.at = token.end;
+        Ok(Some(with_bytes(self.text, &token)))
+    }
+
+    /// The same, where nothing is read.
+    pub fn peek(&self) -> Result<Option<Seen<'a>>, LexFault>
+        ensures gives { MatchResult result
+            (λ o. first_of self.now ≡ Ok (seen_or_none o)) (λ f. first_of self.now ≡ Err f) }
+        ensures within { IfErr result (λ f. byte_of f + 1 < 2 ^ 64) }
+    {
+        let Some(token) = token_at(self.text, self.at)? else {
+            return Ok(None);
+        };
+        Ok(Some(with_bytes(self.text, &token)))
+    }
+
+    /// The name that comes next, if one does. Else nothing is read.
+    pub fn name(&mut self) -> Option<&'a [u8]>
+        ensures word { MatchOption result
+            (comes is_name self.old ≡ false)
+            (λ w. (comes is_name self.old ≡ true) × (lowered w.now ≡ word_ahead self.old)) }
+        ensures leaves { self.new ≡ without is_name self.old }
+    {
+        let (word, end) = word_at(self.text, self.at)?;
+        self.at = end;
+        Some(word)
+    }
+
+    /// Reads an opening parenthesis, if one comes next, and answers whether it did.
+    pub fn open(&mut self) -> bool
+        ensures comes { result ≡ comes is_open self.old }
+        ensures leaves { self.new ≡ without is_open self.old }
+    {
+        let Some(end) = open_ahead(self.text, self.at) else {
+            return false;
+        };
+        self.at = end;
+        true
+    }
+
+    /// Reads a closing parenthesis, if one comes next, and answers whether it did.
+    pub fn close(&mut self) -> bool
+        ensures comes { result ≡ comes is_close self.old }
+        ensures leaves { self.new ≡ without is_close self.old }
+    {
+        let Some(end) = close_ahead(self.text, self.at) else {
+            return false;
+        };
+        self.at = end;
+        true
+    }
+
+    /// Reads a colon, if one comes next, and answers whether it did.
+    pub fn colon(&mut self) -> bool
+        ensures comes { result ≡ comes is_colon self.old }
+        ensures leaves { self.new ≡ without is_colon self.old }
+    {
+        let Some(end) = colon_ahead(self.text, self.at) else {
+            return false;
+        };
+        self.at = end;
+        true
+    }
+
+    /// Whether no token is left.
+    pub fn is_done(&self) -> bool
+        ensures { result ≡ is_done self.now }
+    {
+        none_ahead(self.text, self.at)
+    }
+}
+
+// A token with its bytes.
+fn with_bytes<'a>(text: &'a [u8], token: &Token) -> Seen<'a>
+    requires order { token.now.start ≤ token.now.end }
+    requires inside { token.now.end ≤ length text.now }
+    ensures is { seen result ≡ piece_of text.now token.now }
+    ensures kind { result.kind ≡ token.now.kind }
+    ensures some { token.now.start < token.now.end → 0 < length result.word.now }
+{
+    Seen {
+        kind: token.kind,
+        word: &text[token.start..token.end],
+        span: Span {
+            start: token.start,
+            end: token.end,
+        },
+    }
+}
+
+// The next token from an offset on, and none at the end.
+fn token_at(text: &[u8], at: usize) -> Result<Option<Token>, LexFault>
+    requires { at ≤ length text.now }
+    ensures gives { MatchResult result
+        (λ o. MatchOption o
+        (items_at text.now at ≡ [])
+        (λ t. items_at text.now at ≡ tok (piece_of text.now t) ∷ items_at text.now t.end))
+        (λ f. items_at text.now at ≡ bad f ∷ []) }
+    ensures stands { IfOk result (λ o. IfSome o (λ t. Stands text.now at t)) }
+    ensures few { IfOk result (λ o. IfSome o (λ t. HasFewPlaces t.kind)) }
+    ensures within { IfErr result (λ f. byte_of f < length text.now) }
+{
+    next_token(text, at)
+}
+
+// The name that comes next from an offset on, and where it ends, if one does.
+fn word_at(text: &[u8], at: usize) -> Option<(&[u8], usize)>
+    requires { at ≤ length text.now }
+    ensures word { MatchOption result
+        (comes is_name (items_at text.now at) ≡ false)
+        (λ x. (comes is_name (items_at text.now at) ≡ true) × (lowered x.0.now ≡ word_ahead (items_at text.now at))) }
+    ensures leaves { MatchOption result
+        (items_at text.now at ≡ without is_name (items_at text.now at))
+        (λ x. items_at text.now x.1 ≡ without is_name (items_at text.now at)) }
+    ensures inside { IfSome result (λ x. x.1 ≤ length text.now) }
+{
+    let Some((start, end)) = place_at(text, at) else {
+        return None;
+    };
+    Some((&text[start..end], end))
+}
+
+// Where the name that comes next from an offset on begins and ends, if one does.
+fn place_at(text: &[u8], at: usize) -> Option<(usize, usize)>
+    requires { at ≤ length text.now }
+    ensures is { result ≡ place_if is_name (first_token text.now at) }
+    ensures order { IfSome result (λ x. x.0 ≤ x.1) }
+    ensures inside { IfSome result (λ x. x.1 ≤ length text.now) }
+{
+    name_ahead(text, at)
+}
