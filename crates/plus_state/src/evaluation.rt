@@ -59,9 +59,9 @@ pub fn calculate<Q: Exact>(sign: Sign, left: Q, right: Q) -> Result<Option<Q>, O
     }
 }
 
-// The value of an expression, or the first node that is no value of the type.
+// The same, also of a calculation.
 #[tactic(auto, using(crate::proofs::AskedLemmas::asked))]
-pub fn value<Q: Exact>(expr: &Expr<Q>, state: &State<Q>) -> Result<Option<Q>, Overflow<Q>>
+fn calculated<Q: Exact>(expr: &Expr<Q>, state: &State<Q>) -> Result<Option<Q>, Overflow<Q>>
     requires { IsIn (length (state.now.fluents)) (expression_of Q.value expr.now) }
     ensures { Tells Q.value Q.fits (nodes (expression_of Q.value expr.now) state.now) (λ o. option_map Q.value o ≡ value_of (expression_of Q.value expr.now) state.now) result }
 {
@@ -73,11 +73,26 @@ pub fn value<Q: Exact>(expr: &Expr<Q>, state: &State<Q>) -> Result<Option<Q>, Ov
         Expr::Mul(a, b) => (Sign::Times, a, b),
         Expr::Div(a, b) => (Sign::Divide, a, b),
     };
-    match value(left, state)? {
+    match calculated(left, state)? {
         None => Ok(None),
-        Some(x) => match value(right, state)? {
+        Some(x) => match calculated(right, state)? {
             None => Ok(None),
             Some(y) => calculate(sign, x, y),
         },
+    }
+}
+
+// The value of an expression, or the first node that is no value of the type.
+#[tactic(auto, using(crate::proofs::AskedLemmas::asked))]
+pub fn value<Q: Exact>(expr: &Expr<Q>, state: &State<Q>) -> Result<Option<Q>, Overflow<Q>>
+    requires { IsIn (length (state.now.fluents)) (expression_of Q.value expr.now) }
+    ensures { Tells Q.value Q.fits (nodes (expression_of Q.value expr.now) state.now) (λ o. option_map Q.value o ≡ value_of (expression_of Q.value expr.now) state.now) result }
+{
+    match expr {
+        Expr::Number(x) => Ok(Some(*x)),
+        Expr::Fluent(f) => Ok(state.fluent(*f)),
+        Expr::Add(_, _) | Expr::Sub(_, _) | Expr::Mul(_, _) | Expr::Div(_, _) => {
+            calculated(expr, state)
+        }
     }
 }
