@@ -53,6 +53,7 @@ fn compare_after<Q: Exact>(
 }
 
 // The truth of a condition just after, or the first test that fails. So many comparisons stand before it.
+#[cycle(after)]
 #[tactic(auto, using(crate::proofs::Walking::afters))]
 fn truth_after<Q: Exact>(
     cond: &Cond<Q>,
@@ -73,7 +74,7 @@ fn truth_after<Q: Exact>(
             let mut truth = true;
             let mut number = before;
             'all: for member in members {
-                truth = join(true, truth, truth_after(member, state, rates, number)?);
+                truth = join(true, truth, soon(member, state, rates, number)?);
                 number += comparisons(member);
             }
             Ok(truth)
@@ -82,7 +83,7 @@ fn truth_after<Q: Exact>(
             let mut truth = false;
             let mut number = before;
             'any: for member in members {
-                truth = join(false, truth, truth_after(member, state, rates, number)?);
+                truth = join(false, truth, soon(member, state, rates, number)?);
                 number += comparisons(member);
             }
             Ok(truth)
@@ -100,7 +101,8 @@ fn truth_after<Q: Exact>(
     }
 }
 
-// The same, where a lone comparison needs no look at what atoms decide.
+// The same, where an atom and a lone comparison need no look at what atoms decide.
+#[cycle(after)]
 #[tactic(auto, using(crate::proofs::Walking::afters))]
 fn soon<Q: Exact>(
     cond: &Cond<Q>,
@@ -123,7 +125,8 @@ fn soon<Q: Exact>(
             Ok(truth) => Ok(truth),
             Err(stop) => Err(at(stop, before + 1)),
         },
-        _ => truth_after(cond, state, rates, before),
+        Cond::Atom { atom, positive } => Ok(signed(*positive, state.atom(*atom))),
+        Cond::All(_) | Cond::Any(_) => truth_after(cond, state, rates, before),
     }
 }
 

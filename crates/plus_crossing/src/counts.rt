@@ -6,8 +6,10 @@ ghost use Rattle.plus_state.specs.Fits.{comparisons as comparisons_of};
 use plus_number::exact::Exact;
 use plus_state::term::Cond;
 
+// The same, counted member by member.
+#[cycle(comparisons)]
 #[tactic(auto, using(crate::proofs::Walking::counting))]
-pub fn comparisons<Q: Exact>(cond: &Cond<Q>) -> u32
+fn counted<Q: Exact>(cond: &Cond<Q>) -> u32
     requires { comparisons_of (condition_of Q.value cond.now) < 2 ^ 32 }
     ensures { result ≡ comparisons_of (condition_of Q.value cond.now) }
 {
@@ -28,5 +30,19 @@ pub fn comparisons<Q: Exact>(cond: &Cond<Q>) -> u32
         }
         Cond::Atom { .. } => 0,
         Cond::Compare { .. } => 1,
+    }
+}
+
+// How many comparisons stand in a condition.
+#[cycle(comparisons)]
+#[tactic(auto, using(crate::proofs::Walking::counting))]
+pub fn comparisons<Q: Exact>(cond: &Cond<Q>) -> u32
+    requires { comparisons_of (condition_of Q.value cond.now) < 2 ^ 32 }
+    ensures { result ≡ comparisons_of (condition_of Q.value cond.now) }
+{
+    match cond {
+        Cond::Atom { .. } => 0,
+        Cond::Compare { .. } => 1,
+        Cond::All(_) | Cond::Any(_) => counted(cond),
     }
 }

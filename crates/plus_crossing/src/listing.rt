@@ -63,6 +63,7 @@ fn append<Q: Exact>(into: &mut Vec<Q>, root: Option<Q>) -> Result<(), AllocError
 }
 
 // The roots of a condition behind others, or the first test that fails. So many comparisons stand before it.
+#[cycle(roots)]
 #[tactic(auto, using(crate::proofs::RootLists::listing))]
 fn roots_from<Q: Exact>(
     cond: &Cond<Q>,
@@ -83,7 +84,7 @@ fn roots_from<Q: Exact>(
         Cond::All(members) => {
             let mut number = before;
             'all: for member in members {
-                roots_from(member, state, rates, number, into)?;
+                roots_of(member, state, rates, number, into)?;
                 number += comparisons(member);
             }
             Ok(())
@@ -91,7 +92,7 @@ fn roots_from<Q: Exact>(
         Cond::Any(members) => {
             let mut number = before;
             'any: for member in members {
-                roots_from(member, state, rates, number, into)?;
+                roots_of(member, state, rates, number, into)?;
                 number += comparisons(member);
             }
             Ok(())
@@ -107,7 +108,8 @@ fn roots_from<Q: Exact>(
     }
 }
 
-// The same, where a lone comparison needs no look at what atoms decide.
+// The same, where an atom and a lone comparison need no look at what atoms decide.
+#[cycle(roots)]
 #[tactic(auto, using(crate::proofs::RootLists::listing))]
 fn roots_of<Q: Exact>(
     cond: &Cond<Q>,
@@ -129,7 +131,8 @@ fn roots_of<Q: Exact>(
                 Ok(()) => Ok(()),
             },
         },
-        _ => roots_from(cond, state, rates, before, into),
+        Cond::Atom { .. } => Ok(()),
+        Cond::All(_) | Cond::Any(_) => roots_from(cond, state, rates, before, into),
     }
 }
 
