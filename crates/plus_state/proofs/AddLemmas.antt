@@ -38,7 +38,7 @@ chosen_fits atoms fluents true ds h = h
 chosen_fits atoms fluents false ds h = tt
 
 -- the writes that effects make due fit where the effects do
-due_effect_fits : (atoms fluents : ℕ) (e : Effect) (s : State) → WriteFits atoms fluents e.write → DuesFit atoms fluents (due_effect e s)
+pub due_effect_fits : (atoms fluents : ℕ) (e : Effect) (s : State) → WriteFits atoms fluents e.write → DuesFit atoms fluents (due_effect e s)
 due_effect_fits atoms fluents e s h = chosen_fits atoms fluents (holds e.guard s) (due_write e.write s) (due_write_fits atoms fluents e.write s h)
 
 pub dues_fit : (atoms fluents : ℕ) (es : List Effect) (s : State) → AllEffectsFit atoms fluents es → DuesFit atoms fluents (dues es s)

@@ -28,7 +28,7 @@ over_append : {A : Type 0} (k : ℕ) (xs : List (ℕ × A)) (c : ℕ × A) → O
 over_append k [] c h l = (l, tt)
 over_append k (x ∷ xs) c h l = (h.0, over_append k xs c h.1 l)
 
-rises_append : {A : Type 0} (xs : List (ℕ × A)) (c : ℕ × A) → Rises xs → AreIn c.0 xs → Rises (xs ++ c ∷ [])
+pub rises_append : {A : Type 0} (xs : List (ℕ × A)) (c : ℕ × A) → Rises xs → AreIn c.0 xs → Rises (xs ++ c ∷ [])
 rises_append [] c h i = (tt, tt)
 rises_append (x ∷ xs) c h i = (over_append x.0 xs c h.0 i.0, rises_append xs c h.1 i.1)
 
@@ -41,11 +41,11 @@ set_twice [] k a b = refl
 set_twice (x ∷ v) zero a b = refl
 set_twice (x ∷ v) (suc k) a b = ap (λ l. x ∷ l) (set_twice v k a b)
 
-patched_out : {A : Type 0} (k : ℕ) (xs : List (ℕ × A)) (v : List A) (d : A) → AreIn k xs → get_or (patched_list xs v) k d ≡ get_or v k d
+pub patched_out : {A : Type 0} (k : ℕ) (xs : List (ℕ × A)) (v : List A) (d : A) → AreIn k xs → get_or (patched_list xs v) k d ≡ get_or v k d
 patched_out k [] v d h = refl
 patched_out k (x ∷ xs) v d h = patched_out k xs _ d h.1 ∙ get_or-set_other v x.0 k x.1 d (λ e. omega (arith, h.0, e))
 
-value_get : (vs : List (Option Fraction)) (f : ℕ) → value_at vs f ≡ get_or vs f None
+pub value_get : (vs : List (Option Fraction)) (f : ℕ) → value_at vs f ≡ get_or vs f None
 value_get [] f = refl
 value_get (v ∷ vs) zero = refl
 value_get (v ∷ vs) (suc f) = value_get vs f
@@ -96,11 +96,11 @@ shut_in : {A : Type 0} (n k : ℕ) (o : Option (ℕ × A)) → AreIn n (as_list 
 shut_in n k None h = tt
 shut_in n k (Some c) h = shut_in_by n c (nat_eq c.0 k) h
 
-in_left : {A : Type 0} (n : ℕ) (xs ys : List (ℕ × A)) → AreIn n (xs ++ ys) → AreIn n xs
+pub in_left : {A : Type 0} (n : ℕ) (xs ys : List (ℕ × A)) → AreIn n (xs ++ ys) → AreIn n xs
 in_left n [] ys h = tt
 in_left n (x ∷ xs) ys h = (h.0, in_left n xs ys h.1)
 
-in_right : {A : Type 0} (n : ℕ) (xs ys : List (ℕ × A)) → AreIn n (xs ++ ys) → AreIn n ys
+pub in_right : {A : Type 0} (n : ℕ) (xs ys : List (ℕ × A)) → AreIn n (xs ++ ys) → AreIn n ys
 in_right n [] ys h = h
 in_right n (x ∷ xs) ys h = in_right n xs ys h.1
 

@@ -26,3 +26,8 @@ Applies v fits es s r =
 abbrev pub ChangesJointly : {Q : Type 0} → (Q → Fraction) → (Fraction → Type 0) → List Effect → State → Result Changes (JointStop Q) → Type 0
 ChangesJointly v fits es s r =
     MatchResult r (λ c. AllPass fits (joint_steps es s) × (joint es s ≡ Ok (patched s c))) (λ e. StopIs v fits (joint_steps es s) e × NoJoint es s e)
+
+-- the same of these changes, which the call leaves
+abbrev pub LeavesJointly : {Q A : Type 0} → (Q → Fraction) → (Fraction → Type 0) → List Effect → State → Changes → Result A (JointStop Q) → Type 0
+LeavesJointly v fits es s c r =
+    MatchResult r (λ _. AllPass fits (joint_steps es s) × (joint es s ≡ Ok (patched s c))) (λ e. StopIs v fits (joint_steps es s) e × NoJoint es s e)

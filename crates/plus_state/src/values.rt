@@ -40,7 +40,11 @@ fn combine<Q: Exact>(sign: Sign, value: Option<Q>, amount: Q) -> Result<Option<Q
 
 // What a write makes of the value before it.
 #[tactic(auto, using(crate::proofs::AskedLemmas::calculating))]
-fn updated<Q: Exact>(op: AssignOp, amount: Q, value: Option<Q>) -> Result<Option<Q>, Overflow<Q>>
+pub fn updated<Q: Exact>(
+    op: AssignOp,
+    amount: Q,
+    value: Option<Q>,
+) -> Result<Option<Q>, Overflow<Q>>
     ensures { Tells Q.value Q.fits (updated_nodes op (Q.value amount) (option_map Q.value value))
         (λ o. option_map Q.value o ≡ updated_of op (Q.value amount) (option_map Q.value value)) result }
 {

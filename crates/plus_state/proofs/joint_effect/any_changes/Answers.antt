@@ -4,7 +4,7 @@ use Rattle.plus_state.specs.View.{effect_of}
 use Rattle.plus_state.specs.Stops.{due_of}
 use Rattle.plus_state.proofs.ApplyLemmas.{add_stops}
 use Rattle.plus_state.proofs.ChangesLemmas.{answered}
-use Rattle.plus_state.proofs.joint_effect.joint_changes.Goals as goal
+use Rattle.plus_state.proofs.joint_effect.any_changes.Goals as goal
 
 pub changes_by-requires : goal.changes_by-requires
 changes_by-requires g c = rw c.deref.ensures.value c.add_dues.ensures.fit
