@@ -8,10 +8,11 @@ ghost use Rattle.plus_stepped.specs.Asked.{action_tests, goal_tests};
 ghost use Rattle.plus_stepped.specs.Told.{Told, TakesNoMemory};
 ghost use Rattle.plus_stepped.specs.Never.{CannotDo};
 
-use crate::effect::action_changes;
+use crate::effect::action_changes_in;
 use crate::goal::reached;
 use crate::stop::StepStop;
 use plus_number::exact::Exact;
+use plus_state::changes::Changes;
 use plus_state::problem::{Action, Ground};
 use plus_state::states::State;
 use std::alloc::{AllocError, Global};
@@ -23,6 +24,8 @@ use std::marker::Model;
 pub struct Numeric<Q: Exact> {
     alloc: Global,
     state: State<Q>,
+    // what the last action changed
+    changes: Changes<Q>,
 }
 
 impl<Q: Exact> Model for Numeric<Q> {
@@ -47,6 +50,7 @@ impl<Q: Exact> Numeric<Q> {
         Ok(Numeric {
             alloc,
             state: ground.initial.copy(alloc)?,
+            changes: Changes::none(alloc),
         })
     }
 
@@ -60,8 +64,8 @@ impl<Q: Exact> Numeric<Q> {
         ensures fits { StateFits (length self.old.atoms) (length self.old.fluents) self.new }
         ensures refused { OnErr result (self.new ≡ self.old) }
     {
-        let changes = action_changes(self.alloc, &self.state, action)?;
-        self.state.patch(&changes);
+        action_changes_in(&mut self.changes, self.alloc, &self.state, action)?;
+        self.state.patch(&self.changes);
         Ok(())
     }
 
