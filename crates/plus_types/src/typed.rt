@@ -19,10 +19,10 @@ use std::alloc::Global;
 /// A domain and a problem that are well typed, with the tables of their names. The number of a name
 /// is its place in the domain; that of an object is its place among the constants and then the
 /// objects.
+// The trees stand last, so that their many small nodes are let go when the large tables are gone: else the
+// allocator goes over all of them once more, to join what is free.
 #[derive(Drop)]
 pub struct Typed {
-    pub domain: Domain,
-    pub problem: Problem,
     pub types: Types,
     pub objects: Kinds,
     pub predicates: Names,
@@ -30,6 +30,8 @@ pub struct Typed {
     pub actions: Names,
     pub processes: Names,
     pub events: Names,
+    pub domain: Domain,
+    pub problem: Problem,
     ghost well_typed: { IsTrue (is_well_typed domain problem) },
     ghost types_are: { types ≡ bindings_of domain.types },
     ghost objects_are: { objects ≡ bindings_of (objects_of domain problem) },
