@@ -5,10 +5,11 @@ use Rattle.std.specs.Str.{bytes_eq}
 use Rattle.std.specs.Map.{lookup, keys_of}
 use Rattle.std.specs.Option.{option_map}
 use Rattle.indexmap.specs.IndexMap.{insert_entry}
+use Rattle.smallvec.specs.SmallVec.{SmallVec}
 use Rattle.plus_types.specs.Types.{Binding, bound_names, kind_of}
 
 abbrev pub Entry : Type 0
-Entry = Vec ℕ Global × Vec ℕ Global
+Entry = Vec ℕ Global × SmallVec ℕ
 
 abbrev pub shown : Entry → Binding
 shown e = (e.0.items, e.1.items)

@@ -5,14 +5,16 @@ ghost use Rattle.std.specs.Str.{bytes_eq};
 ghost use Rattle.plus_types.specs.Types.{is_among, bound_names, kind_of};
 
 use indexmap::IndexMap;
+use smallvec::SmallVec;
 use std::alloc::{AllocError, Global};
 use std::marker::Model;
 
 /// Names with their types, without repeats, in the order in which they were bound. Of types, each
-/// with the one above it. Contracts see it as the list of these pairs.
+/// with the one above it. Contracts see it as the list of these pairs. The name of a type takes no memory
+/// of its own up to 16 bytes.
 #[derive(Drop)]
 pub struct Kinds {
-    table: IndexMap<Vec<u8>, Vec<u8>>,
+    table: IndexMap<Vec<u8>, SmallVec<u8, 16>>,
 }
 
 impl Model for Kinds {
@@ -42,7 +44,7 @@ impl Kinds {
         ensures { OnOk result (self.new ≡ self.old ++ (name.now, kind.now) ∷ []) }
     {
         let name = Vec::from_slice(alloc, name)?;
-        let kind = Vec::from_slice(alloc, kind)?;
+        let kind: SmallVec<u8, 16> = SmallVec::from_slice(alloc, kind)?;
         self.table.insert(name, kind)?;
         Ok(())
     }

@@ -14,22 +14,27 @@ use crate::names::Names;
 use plus_tree::Schema;
 use std::alloc::Global;
 
+// The table of the variables is lent, and is empty again behind the schema.
 #[tactic(auto, using(crate::proofs::WalkLemmas::walking), unfolding(crate::specs::Faults::schema_faults))]
 fn schema(
     alloc: Global,
     known: &Known<'_>,
     process: bool,
     names: &mut Names,
+    vars: &mut Kinds,
     schema: &Schema,
 ) -> Result<(), TypeFault>
+    requires { vars.old ≡ [] }
     ensures walks { Walks (schema_faults (context known.now) process names.old schema.now) result }
     ensures added { IfOk result (λ _. names.new ≡ names.old ++ schema.now.name.name ∷ []) }
+    ensures left { IfOk result (λ _. vars.new ≡ []) }
 {
     declare(alloc, names, &schema.name)?;
-    let mut vars = Kinds::new(alloc);
-    variables(alloc, known, &mut vars, schema.params.as_slice())?;
-    condition(alloc, known, &mut vars, &schema.condition)?;
-    effect(alloc, known, &mut vars, process, &schema.effect)
+    variables(alloc, known, vars, schema.params.as_slice())?;
+    condition(alloc, known, vars, &schema.condition)?;
+    effect(alloc, known, vars, process, &schema.effect)?;
+    vars.truncate(0);
+    Ok(())
 }
 
 /// Walks actions, processes or events, and answers the table of their names.
@@ -44,8 +49,9 @@ pub fn schemas(
     ensures table { IfOk result (λ names. names ≡ map (λ a. a.name.name) schemas.now) }
 {
     let mut names = Names::new(alloc);
+    let mut vars = Kinds::new(alloc);
     'schemas: for walked in schemas {
-        schema(alloc, known, process, &mut names, walked)?;
+        schema(alloc, known, process, &mut names, &mut vars, walked)?;
     }
     Ok(names)
 }

@@ -8,4 +8,5 @@ abbrev pub invariant-schemas : goal.invariant-schemas
 invariant-schemas l = record {
   walked : schemas_faults (context l.known) l.process [] l.schemas ≡ schemas_faults (context l.known) l.process l.names (drop l.walked-index l.schemas);
   table : l.names ≡ map (λ a. a.name.name) (take l.walked-index l.schemas);
+  left : l.vars ≡ [];
 }

@@ -9,4 +9,4 @@ returns-in-None c =
 
 pub returns-in-Some : goal.returns-in-Some
 returns-in-Some c =
-    rw (← c.self.view_is, c.as_slice.ensures.value) (kind-shown c.args.name.now c.self.inside.table.entries ∙ ap (option_map (λ k. k.items)) (sym c.in-Some.ensures.value))
+    rw (← c.self.view_is, c.as_slice.ensures) (kind-shown c.args.name.now c.self.inside.table.entries ∙ ap (option_map (λ k. k.items)) (sym c.in-Some.ensures.value))
