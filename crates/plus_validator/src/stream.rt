@@ -26,8 +26,13 @@ use plus_report::{Early, Text, Verdict};
 use plus_state::problem::Ground;
 use std::alloc::Global;
 
-/// How many bytes are played at once.
+/// How many bytes are played at once, at most and at first.
 const PIECE: usize = 4096;
+
+const FIRST_PIECE: usize = 64;
+
+/// What a piece tells is much if it has more bytes.
+const MUCH: usize = 65536;
 
 // A plan text that goes on behind its limit.
 fn too_long() -> Halt
@@ -37,10 +42,31 @@ fn too_long() -> Halt
     Halt::Refused(Verdict::Other(Early::TooLong { text: Text::Plan }))
 }
 
-// Reads a piece of a plan of which so many bytes have come: at most one byte past the limit.
-fn read_piece<S: Shelf>(shelf: &mut S, buffer: &mut [u8], total: usize) -> Result<usize, Failed>
+// How many bytes are asked for behind a piece of this size, which told so many: fewer where it told much, since
+// all that a piece tells waits in memory.
+fn next_size(size: usize, told: usize) -> usize
+    requires some { 1 ≤ size }
+    requires fits { size ≤ PIECE }
+    ensures some { 1 ≤ result }
+    ensures fits { result ≤ PIECE }
+{
+    if told > MUCH {
+        (size / 2).max(1)
+    } else {
+        (2 * size).min(PIECE)
+    }
+}
+
+// Reads a piece of a plan of which so many bytes have come: at most this size, and one byte past the limit.
+fn read_piece<S: Shelf>(
+    shelf: &mut S,
+    buffer: &mut [u8],
+    size: usize,
+    total: usize,
+) -> Result<usize, Failed>
     requires within { total ≤ text_limit }
-    requires size { length buffer.old ≡ PIECE }
+    requires some { 1 ≤ size }
+    requires room { size ≤ length buffer.old }
     ensures fits { IfOk result (λ count. count ≤ length buffer.new) }
     ensures most { IfOk result (λ count. total + count ≤ text_limit + 1) }
     ensures piece { IfOk result (λ count. Takes (S.rest shelf.old) (S.rest shelf.new) (take count buffer.new)) }
@@ -51,7 +77,7 @@ fn read_piece<S: Shelf>(shelf: &mut S, buffer: &mut [u8], total: usize) -> Resul
     ensures untold { OnErr result (S.picks shelf.new ≡ S.picks shelf.old) }
     ensures keeps { KeepsFiles S.names S.bytes S.faults shelf.old shelf.new }
 {
-    let most = (TEXT_LIMIT - total).min(PIECE - 1) + 1;
+    let most = (TEXT_LIMIT - total).min(size - 1) + 1;
     shelf.read(&mut buffer[..most])
 }
 
@@ -101,9 +127,10 @@ pub fn play_file<S: Shelf, O: Sink>(
         return Ending::WriteFault;
     };
     let mut buffer = [0u8; PIECE];
+    let mut size = FIRST_PIECE;
     let mut total = 0;
     'pieces: loop {
-        let Ok(count) = read_piece(shelf, &mut buffer, total) else {
+        let Ok(count) = read_piece(shelf, &mut buffer, size, total) else {
             return Ending::ReadFault;
         };
         if count == 0 {
@@ -116,6 +143,7 @@ pub fn play_file<S: Shelf, O: Sink>(
         if within < count {
             return Ending::Played(Err(too_long()));
         }
+        size = next_size(size, feed.run.report.bytes.len());
         let Ok(()) = feed.run.flush(out) else {
             return Ending::WriteFault;
         };

@@ -19,7 +19,9 @@ pieces-init g c = record {
   out = out_first _ _ _ _ _ c.args.feed.now (record c.args.feed.now { run = c.flush.new.self }) _ _ refl c.in-Ok-flush.ensures.empty c.in-Ok-flush.ensures.stays
       c.args.happenings _ c.requires.fresh c.in-Ok.ensures.rest c.in-Ok-flush.ensures.took;
   within = omega arith;
-  size = refl;
+  room = refl;
+  some = omega arith;
+  fits = omega arith;
   waits = open_on _ _ _ c.args.feed.now c.flush.new.self (fresh_open _ _ _ _ c.args.feed.now c.requires.fresh) (ap (λ (r : Progress). r.timeline) (c.in-Ok-flush.ensures.stays []));
   no_fall = c.flush.ensures.no_fall;
 }
@@ -102,7 +104,9 @@ pieces-preserved g c =
       out = out_more _ _ _ _ _ c.take.new.self (record c.take.new.self { run = c.flush-in-pieces.new.self }) _ _ refl c.in-Ok-flush-2.ensures.empty c.in-Ok-flush-2.ensures.stays
           _ _ _ out.sent out.took c.in-Ok-flush-2.ensures.took come;
       within = omega (arith, c.min-within.ensures);
-      size = omega (arith, c.read_piece.auto.buffer);
+      room = omega (arith, c.read_piece.auto.buffer, c.pieces.invariant.room);
+      some = c.next_size-size.ensures.some;
+      fits = c.next_size-size.ensures.fits;
       waits = open_on _ _ _ c.take.new.self c.flush-in-pieces.new.self (open_then _ _ _ c.pieces.feed c.take.new.self waits c.in_default-take.ensures.waits) (ap (λ (r : Progress). r.timeline) (c.in-Ok-flush-2.ensures.stays []));
       no_fall = omega (arith, c.pieces.invariant.no_fall, c.flush-in-pieces.ensures.no_fall);
     }
