@@ -95,7 +95,26 @@ fn note_rated<Q: Exact>(into: &mut Vec<u32>, list: &[Rate<Q>]) -> Result<(), All
     Ok(())
 }
 
-// All rates are 0, and the fluents that have a rate under these processes have their places.
+// How many members, and how many rates of each, are so few that places need not be made at once.
+const FEW: usize = 4;
+
+// Whether these processes give so few rates.
+fn are_few<Q: Exact>(ground: &Ground<Q>, members: &[ProcessId]) -> bool {
+    if members.len() > FEW {
+        return false;
+    }
+    'each: for member in members {
+        if let Some(process) = ground.processes.get(member.0 as usize) {
+            if process.rates.len() > FEW {
+                return false;
+            }
+        }
+    }
+    true
+}
+
+// All rates are 0, and the fluents that have a rate under these processes have their places, where they
+// are more than a few.
 fn with_places<Q: Exact>(
     alloc: Global,
     ground: &Ground<Q>,
@@ -104,13 +123,16 @@ fn with_places<Q: Exact>(
 ) -> Result<Rates<Q>, AllocError>
     ensures { IfOk result (λ rates. rates ≡ replicate fluents (whole (pos 0))) }
 {
+    let mut rates = Rates::zero(alloc, fluents);
+    if are_few(ground, members) {
+        return Ok(rates);
+    }
     let mut numbers = Vec::with_capacity(alloc, members.len())?;
     'each: for member in members {
         if let Some(process) = ground.processes.get(member.0 as usize) {
             note_rated(&mut numbers, &process.rates)?;
         }
     }
-    let mut rates = Rates::zero(alloc, fluents);
     rates.make_places(alloc, numbers)?;
     Ok(rates)
 }
