@@ -237,3 +237,9 @@ kept_same old new e = e ∙ ap (λ (x : Kept). record old { processes = x.proces
 
 pub may_still : (fits : Fraction → Type 0) (P : Problem) (old : IndexedView) (new : Kept) → Knows fits P old → new ≡ old.kept → (w : List ℕ) → new.processes ≡ Some w → MayHold fits P old.line.now.state w
 may_still fits P old new k e w h = k.processes w (ap (λ (x : Kept). x.processes) (sym e) ∙ h)
+
+-- the processes that wait do not hang on the events that do
+pub woken_before : (v u : IndexedView) → u ≡ record v { kept = record v.kept { events = None } } → (w : List ℕ) → ProcessesWoken u w → ProcessesWoken v w
+woken_before v u e w h =
+    let k : ProcessesWoken (record v { kept = record v.kept { events = None } }) w = subst (λ (x : IndexedView). ProcessesWoken x w) e h in
+    record { before = k.before; were = k.were; changes = k.changes; leads = k.leads; woken = k.woken }

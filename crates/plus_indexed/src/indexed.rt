@@ -24,7 +24,7 @@ ghost use Rattle.plus_indexed.specs.Waking.{WokenBy, StillWoken, EventsAfter, Pr
 
 use crate::settled::{Settled, present_among};
 use crate::waiting::{Waiting, still_waiting};
-use crate::waking::woken;
+use crate::waking::{emptied, still_woken, woken};
 use plus_cascade::{CascadeStop, DueRound};
 use plus_number::exact::Exact;
 use plus_reads::Index;
@@ -51,6 +51,8 @@ pub struct Indexed<Q: Exact> {
     // closed; all of them where there is no list
     events: Option<Vec<EventId>>,
     processes: Option<Waiting>,
+    // room for numbers, which many steps use
+    numbers: Vec<u32>,
 }
 
 impl<Q: Exact> Model for Indexed<Q> {
@@ -117,6 +119,7 @@ impl<Q: Exact> Indexed<Q> {
             index: Rc::new(alloc, index)?,
             events: None,
             processes: None,
+            numbers: Vec::new(alloc),
         })
     }
 
@@ -248,6 +251,7 @@ impl<Q: Exact> Indexed<Q> {
             index: self.index.clone()?,
             events: copied_events(alloc, &self.events)?,
             processes: copied_processes(alloc, &self.processes)?,
+            numbers: Vec::new(alloc),
         })
     }
 }
@@ -315,7 +319,8 @@ impl<Q: Exact> Indexed<Q> {
                 Err(stop) => Err(settle_stop(stop)),
                 Ok(settled) => {
                     let Settled { present, running } = settled;
-                    self.processes = Waiting::of(self.alloc, &present).ok();
+                    let before = self.processes.take();
+                    self.processes = Waiting::anew(self.alloc, before, &present).ok();
                     self.timeline.run(running);
                     Ok(Next::Run)
                 }
@@ -390,29 +395,34 @@ impl<Q: Exact> Indexed<Q> {
     }
 
     // Those that fired in the last round, and the readers of what it changed. None where memory is wanting.
-    fn after_round(&self) -> Option<Vec<EventId>>
-        ensures { IfSome result (λ w. WokenBy self.now (self.now.line.events) (event_numbers w.items)) }
+    // The list of events that wait lends its memory.
+    fn after_round(&mut self) -> Option<Vec<EventId>>
+        ensures kept { self.new ≡ record (self.old) { kept = record (self.old.kept) { events = None } } }
+        ensures woken { IfSome result (λ w. WokenBy self.old (self.old.line.events) (event_numbers w.items)) }
     {
+        let room = emptied(self.alloc, self.events.take());
         woken(
-            self.alloc,
             &self.index.events,
             self.timeline.changes(),
             self.timeline.events(),
+            &mut self.numbers,
+            room,
         )
         .ok()
     }
 
     // The events that wait, and the readers of what the last step changed. None where memory is wanting,
     // or where all wait.
-    fn after_step(&self) -> Option<Vec<EventId>>
-        ensures { IfSome result (λ w. StillWoken self.now (event_numbers w.items)) }
+    fn after_step(&mut self) -> Option<Vec<EventId>>
+        ensures kept { self.new ≡ record (self.old) { kept = record (self.old.kept) { events = None } } }
+        ensures woken { IfSome result (λ w. StillWoken self.old (event_numbers w.items)) }
     {
-        match &self.events {
-            Some(first) => woken(
-                self.alloc,
+        match self.events.take() {
+            Some(first) => still_woken(
                 &self.index.events,
                 self.timeline.changes(),
                 first,
+                &mut self.numbers,
             )
             .ok(),
             None => None,
@@ -475,6 +485,7 @@ impl<Q: Exact> Indexed<Q> {
     fn none_waits(&mut self)
         ensures { self.new ≡ record (self.old) { kept = record (self.old.kept) { events = Some [] } } }
     {
-        self.events = Some(Vec::new(self.alloc));
+        let events = emptied(self.alloc, self.events.take());
+        self.events = Some(events);
     }
 }

@@ -1,5 +1,5 @@
 //! The processes to be looked at where an entry is closed.
-ghost use Rattle.std.specs.Prelude.{◌≡◌, ◌↔◌, ℕ, true, IfOk, IfSome, IsSomeAnd};
+ghost use Rattle.std.specs.Prelude.{◌≡◌, ◌↔◌, [], ℕ, true, IfOk, IfSome, IsSomeAnd};
 ghost use Rattle.plus_model.specs.Firing.{is_in};
 ghost use Rattle.plus_model.specs.Running.{IsRising};
 ghost use Rattle.plus_state.specs.Numbers.{process_numbers};
@@ -52,10 +52,12 @@ fn and_readers<Q: Exact>(
     ensures { IfOk result (λ after. AddsReaders readers.now changes.now numbers.items after.items) }
 {
     'atoms: for change in &changes.atoms {
-        numbers.extend_from_slice(readers.atoms.readers(change.atom.0))?;
+        readers.atoms.append_readers(change.atom.0, &mut numbers)?;
     }
     'fluents: for change in &changes.fluents {
-        numbers.extend_from_slice(readers.fluents.readers(change.fluent.0))?;
+        readers
+            .fluents
+            .append_readers(change.fluent.0, &mut numbers)?;
     }
     Ok(numbers)
 }
@@ -72,12 +74,31 @@ fn thinned(mut numbers: Vec<u32>, different: usize) -> Result<Waiting, AllocErro
     Ok(Waiting { numbers, different })
 }
 
+// No numbers: in the memory of those that waited, if there are any, or else with room for so many and
+// a few more.
+fn room(alloc: Global, before: Option<Waiting>, count: usize) -> Result<Vec<u32>, AllocError>
+    ensures { IfOk result (λ numbers. numbers.items ≡ []) }
+{
+    match before {
+        Some(waiting) => {
+            let Waiting { mut numbers, .. } = waiting;
+            numbers.clear();
+            Ok(numbers)
+        }
+        None => Vec::with_capacity(alloc, count.saturating_add(FEW)),
+    }
+}
+
 impl Waiting {
-    /// These processes.
-    pub fn of(alloc: Global, processes: &[ProcessId]) -> Result<Waiting, AllocError>
+    /// These processes, in the memory of those that waited before.
+    pub fn anew(
+        alloc: Global,
+        before: Option<Waiting>,
+        processes: &[ProcessId],
+    ) -> Result<Waiting, AllocError>
         ensures { IfOk result (λ w. w ≡ process_numbers processes.now) }
     {
-        let mut numbers = Vec::with_capacity(alloc, processes.len().saturating_add(FEW))?;
+        let mut numbers = room(alloc, before, processes.len())?;
         'each: for process in processes {
             numbers.push(process.0)?;
         }

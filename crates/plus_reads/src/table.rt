@@ -2,13 +2,15 @@
 ghost use Rattle.std.specs.Prelude.{◌≡◌, ◌<◌, [], ◌∷◌, ◌++◌, length, replicate, slice_set, slice_index_or, All, IfOk};
 ghost use Rattle.plus_reads.specs.Tables.{readers_at};
 
+use smallvec::SmallVec;
 use std::alloc::{AllocError, Global};
 use std::marker::Model;
 
-/// For each key, by its number, a list of readers. Contracts see the list of these lists.
+/// For each key, by its number, a list of readers, of which up to four need no memory of their own.
+/// Contracts see the list of these lists.
 #[derive(Drop)]
 pub struct Table {
-    lists: Vec<Vec<u32>>,
+    lists: Vec<SmallVec<u32, 4>>,
 }
 
 impl Model for Table {
@@ -24,9 +26,9 @@ impl Table {
     pub fn new(alloc: Global, keys: u32) -> Result<Table, AllocError>
         ensures { IfOk result (λ t. t ≡ replicate keys []) }
     {
-        let mut lists: Vec<Vec<u32>> = Vec::with_capacity(alloc, keys as usize)?;
+        let mut lists = Vec::with_capacity(alloc, keys as usize)?;
         'keys: for _key in 0..keys {
-            lists.push(Vec::new(alloc))?;
+            lists.push(SmallVec::new(alloc))?;
         }
         Ok(Table { lists })
     }
@@ -45,8 +47,25 @@ impl Table {
         ensures { result.now ≡ readers_at self.now key }
     {
         match self.lists.get(key as usize) {
-            Some(list) => list,
+            Some(list) => list.as_slice(),
             None => &[],
+        }
+    }
+
+    /// Appends the readers of a key to a list.
+    pub fn append_readers(&self, key: u32, into: &mut Vec<u32>) -> Result<(), AllocError>
+        ensures { IfOk result (λ _. into.new.items ≡ into.old.items ++ readers_at self.now key) }
+    {
+        match self.readers(key) {
+            [] => Ok(()),
+            [reader] => {
+                into.push(*reader)?;
+                Ok(())
+            }
+            readers => {
+                into.extend_from_slice(readers)?;
+                Ok(())
+            }
         }
     }
 }

@@ -13,9 +13,6 @@ use plus_state::term::{EventId, FluentId};
 use plus_state::walk::Conditional;
 use std::alloc::{AllocError, Global};
 
-// How many readers most steps wake.
-const FEW: usize = 8;
-
 // In order, each once. The numbers are a few lists that rise, one behind the other, and this sort merges such.
 fn sort_once(numbers: &mut Vec<u32>) -> Result<(), AllocError>
     ensures rises { IfOk result (λ _. IsRising 0 numbers.new.items) }
@@ -26,24 +23,25 @@ fn sort_once(numbers: &mut Vec<u32>) -> Result<(), AllocError>
     Ok(())
 }
 
-/// In ground order and without repeats: these numbers, and those of the readers of all that is changed.
+/// Adds to these numbers those of the readers of all that is changed, and puts them in ground order, each
+/// once.
 pub fn touched<Q: Exact>(
     readers: &Readers,
     changes: &Changes<Q>,
-    mut numbers: Vec<u32>,
-) -> Result<Vec<u32>, AllocError>
-    ensures wakes { IfOk result (λ after. Wakes readers.now changes.now numbers.items after.items) }
-    ensures members { IfOk result (λ after. (n : ℕ) → AreBelow n readers.now
-        → All (λ k. k < n) numbers.items → AreMembers n after.items) }
+    numbers: &mut Vec<u32>,
+) -> Result<(), AllocError>
+    ensures wakes { IfOk result (λ _. Wakes readers.now changes.now numbers.old.items numbers.new.items) }
+    ensures members { IfOk result (λ _. (n : ℕ) → AreBelow n readers.now
+        → All (λ k. k < n) numbers.old.items → AreMembers n numbers.new.items) }
 {
     'atoms: for change in &changes.atoms {
-        numbers.extend_from_slice(readers.atoms.readers(change.atom.0))?;
+        readers.atoms.append_readers(change.atom.0, numbers)?;
     }
     'fluents: for change in &changes.fluents {
-        numbers.extend_from_slice(readers.fluents.readers(change.fluent.0))?;
+        readers.fluents.append_readers(change.fluent.0, numbers)?;
     }
-    sort_once(&mut numbers)?;
-    Ok(numbers)
+    sort_once(numbers)?;
+    Ok(())
 }
 
 // The numbers of the readers of these fluents.
@@ -56,7 +54,7 @@ fn numbers_by(
 {
     let mut numbers = Vec::new(alloc);
     'fluents: for fluent in fluents {
-        numbers.extend_from_slice(readers.fluents.readers(fluent.0))?;
+        readers.fluents.append_readers(fluent.0, &mut numbers)?;
     }
     sort_once(&mut numbers)?;
     Ok(numbers)
@@ -75,15 +73,26 @@ pub fn readers_by<I: Conditional>(
     Ok(members)
 }
 
-/// The numbers of these events, with room for a few more behind them.
-pub fn numbers_of(alloc: Global, events: &[EventId]) -> Result<Vec<u32>, AllocError>
-    ensures { IfOk result (λ numbers. numbers.items ≡ event_numbers events.now) }
+/// Puts the numbers of these events in place of others, whose memory they take.
+pub fn numbers_into(events: &[EventId], numbers: &mut Vec<u32>) -> Result<(), AllocError>
+    ensures { IfOk result (λ _. numbers.new.items ≡ event_numbers events.now) }
 {
-    let mut numbers = Vec::with_capacity(alloc, events.len().saturating_add(FEW))?;
+    numbers.clear();
     'each: for event in events {
         numbers.push(event.0)?;
     }
-    Ok(numbers)
+    Ok(())
+}
+
+/// Puts the members with these numbers in place of others, whose memory they take.
+pub fn members_into<I: Conditional>(numbers: &[u32], members: &mut Vec<I>) -> Result<(), AllocError>
+    ensures { IfOk result (λ _. map I.number members.new.items ≡ numbers.now) }
+{
+    members.clear();
+    'each: for number in numbers {
+        members.push(I::with_number(*number))?;
+    }
+    Ok(())
 }
 
 /// The members with these numbers.

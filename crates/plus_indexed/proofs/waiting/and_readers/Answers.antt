@@ -1,4 +1,4 @@
-use Rattle.std.proofs.Common.{ℕ, List, ◌++◌, map, false, ap, ◌∙◌, subst}
+use Rattle.std.proofs.Common.{map, false, ap, ◌∙◌, subst}
 use Rattle.plus_state.specs.declared.changes.AtomChange.{AtomChange}
 use Rattle.plus_state.specs.declared.changes.FluentChange.{FluentChange}
 use Rattle.plus_state.specs.Changes.{Changes}
@@ -13,7 +13,7 @@ atoms-init g c = gathers_none _ _
 pub atoms-preserved : goal.atoms-preserved
 atoms-preserved g c =
     gathers_at (λ (a : AtomChange). a.atom.0) _ c.deref-change-items.result.now c.atoms.change-index (record { atom = record { 0 = 0 }; truth = false }) _ _ _ c.atoms-test.true c.atoms.invariant
-    (c.in_ok-extend_from_slice.ensures.items ∙ ap (λ (ks : List ℕ). c.atoms.numbers.items ++ ks) c.readers.ensures)
+    c.in_ok-append_readers.ensures
 
 pub fluents-init : goal.fluents-init
 fluents-init g c = gathers_none _ _
@@ -21,7 +21,7 @@ fluents-init g c = gathers_none _ _
 pub fluents-preserved : goal.fluents-preserved
 fluents-preserved g c =
     gathers_more (λ (a : FluentChange g.row.Q.Denot). a.fluent.0) _ c.deref-change-items-2.result.now c.fluents.change-index c.change-item.result _ _ _ c.fluents-test.true c.change-item.is c.fluents.invariant
-    (c.in_ok-extend_from_slice-2.ensures.items ∙ ap (λ (ks : List ℕ). c.fluents.numbers.items ++ ks) c.readers-in-fluents.ensures)
+    c.in_ok-append_readers-2.ensures
 
 pub returns : goal.returns
 returns g c =

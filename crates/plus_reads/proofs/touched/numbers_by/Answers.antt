@@ -1,4 +1,4 @@
-use Rattle.std.proofs.Common.{ℕ, List, ◌++◌, [], map, refl, ap, ◌∙◌, subst, sym}
+use Rattle.std.proofs.Common.{[], refl, subst, sym}
 use Rattle.plus_state.specs.declared.term.FluentId.{FluentId}
 use Rattle.plus_reads.proofs.Waking.{Gathers, gathers_none, gathers_at, gathers_all, reads_any}
 use Rattle.plus_reads.proofs.touched.numbers_by.Goals as goal
@@ -9,7 +9,7 @@ fluents-init c = subst (Gathers c.args.readers.now.fluents [] []) (sym c.new-num
 pub fluents-preserved : goal.fluents-preserved
 fluents-preserved c =
     gathers_at (λ (f : FluentId). f.0) _ c.args.fluents.now c.fluents.fluent-index (record { 0 = 0 }) _ _ _ c.fluents-test.true c.fluents.invariant
-    (c.in_ok-extend_from_slice.ensures.items ∙ ap (λ (ks : List ℕ). c.fluents.numbers.items ++ ks) c.readers.ensures)
+    c.in_ok-append_readers.ensures
 
 pub returns : goal.returns
 returns c =

@@ -1,4 +1,4 @@
-use Rattle.std.proofs.Common.{ℕ, List, ◌++◌, map, false, ap, ◌∙◌, subst}
+use Rattle.std.proofs.Common.{map, false, ap, ◌∙◌, subst}
 use Rattle.plus_state.specs.declared.changes.AtomChange.{AtomChange}
 use Rattle.plus_state.specs.declared.changes.FluentChange.{FluentChange}
 use Rattle.plus_state.specs.Changes.{Changes}
@@ -13,7 +13,7 @@ atoms-init g c = gathers_none _ _
 pub atoms-preserved : goal.atoms-preserved
 atoms-preserved g c =
     gathers_at (λ (a : AtomChange). a.atom.0) _ c.deref-change-items.result.now c.atoms.change-index (record { atom = record { 0 = 0 }; truth = false }) _ _ _ c.atoms-test.true c.atoms.invariant
-    (c.in_ok-extend_from_slice.ensures.items ∙ ap (λ (ks : List ℕ). c.atoms.numbers.items ++ ks) c.readers.ensures)
+    c.in_ok-append_readers.ensures
 
 pub fluents-init : goal.fluents-init
 fluents-init g c = gathers_none _ _
@@ -21,7 +21,7 @@ fluents-init g c = gathers_none _ _
 pub fluents-preserved : goal.fluents-preserved
 fluents-preserved g c =
     gathers_more (λ (a : FluentChange g.row.Q.Denot). a.fluent.0) _ c.deref-change-items-2.result.now c.fluents.change-index c.change-item.result _ _ _ c.fluents-test.true c.change-item.is c.fluents.invariant
-    (c.in_ok-extend_from_slice-2.ensures.items ∙ ap (λ (ks : List ℕ). c.fluents.numbers.items ++ ks) c.readers-in-fluents.ensures)
+    c.in_ok-append_readers-2.ensures
 
 pub returns-clause-wakes : goal.returns-clause-wakes
 returns-clause-wakes g c =
@@ -30,7 +30,7 @@ returns-clause-wakes g c =
     let ats = c.changes.inside.atoms.items in let fs = c.changes.inside.fluents.items in
     let p = gathers_all _ t.atoms _ _ _ _ _ c.atoms-test.false (ap (map _) c.deref-change-items.ensures.value ∙ atoms_named ats) c.atoms.invariant in
     let q = gathers_all _ t.fluents _ _ _ _ _ c.fluents-test.false (ap (map _) c.deref-change-items-2.ensures.value ∙ fluents_named v fs) c.fluents.invariant in
-    subst (λ (ch : Changes). Wakes t ch c.args.numbers.items c.sort_once.new.numbers.items) c.changes.view_is
+    subst (λ (ch : Changes). Wakes t ch c.args.numbers.now.items c.sort_once.new.numbers.items) c.changes.view_is
     (wakes t _ _ _ _ _ p q (λ k. (c.in_ok-sort_once.ensures.same k).1) (λ k. (c.in_ok-sort_once.ensures.same k).0))
 
 pub returns-clause-members : goal.returns-clause-members

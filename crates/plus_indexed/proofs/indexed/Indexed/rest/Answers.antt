@@ -31,7 +31,7 @@ pub returns-in-Ok-clause-processes : goal.returns-in-Ok-clause-processes
 returns-in-Ok-clause-processes g c =
     let P = problem_of g.Q.Exact.value c.args.ground.now in
     let s = c.args.self.now.line.now.state in
-    kept_present g.Q.Exact.fits P s c.of.result c.ok.result c.deref.result.now c.in-Ok.settled.present.items c.ok.ensures.value c.of.ensures c.deref.ensures.value
+    kept_present g.Q.Exact.fits P s c.anew.result c.ok.result c.deref.result.now c.in-Ok.settled.present.items c.ok.ensures.value c.anew.ensures c.deref.ensures.value
     (those_hold g.Q.Exact.fits P s _ c.in-Ok.ensures.1 c.in-Ok.ensures.2)
 
 pub returns-in-Ok-false-clause-told : goal.returns-in-Ok-false-clause-told
