@@ -207,8 +207,8 @@ stopped {Y} items new r read same is e =
 gives_by : {X Y : Type 0} (view : X → Y) (rest : List Item) (r : Result X Refusal) (a b : Read Y) → a ≡ b → Gives view rest r b → Gives view rest r a
 gives_by view rest r a b e h = subst (Gives view rest r) (sym e) h
 
-pub line_by : (r : Result Line Refusal) (a b : Result Line Refusal) → a ≡ b → MatchResult r (λ l. b ≡ Ok l) (λ e. Fails e b) → MatchResult r (λ l. a ≡ Ok l) (λ e. Fails e a)
-line_by r a b e h = subst (λ (x : Result Line Refusal). MatchResult r (λ l. x ≡ Ok l) (λ e. Fails e x)) (sym e) h
+pub line_by : (r : Result (Unit {0}) Refusal) (l : Line) (a b : Result Line Refusal) → a ≡ b → MatchResult r (λ _. b ≡ Ok l) (λ e. Fails e b) → MatchResult r (λ _. a ≡ Ok l) (λ e. Fails e a)
+line_by r l a b e h = subst (λ (x : Result Line Refusal). MatchResult r (λ _. x ≡ Ok l) (λ e. Fails e x)) (sym e) h
 
 pub colon_told : (items new : List Item) → true ≡ comes is_colon items → new ≡ without is_colon items → colon_of items ≡ Ok (tt, new)
 colon_told items new e is = colon_read items (sym e) ∙ ap (λ (rest : List Item). Ok (tt, rest)) (sym is)

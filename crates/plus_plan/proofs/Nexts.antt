@@ -1,6 +1,6 @@
 -- What waits in a reader: whether a line is due, and which it is.
 use Rattle.std.proofs.Common.{◌≡◌, eqb-true, ℕ, suc, ◌+◌, ◌-◌, ◌<◌, ◌≤◌, ◌⊎◌, inl, inr, Bool, true, false, cond, List, [], ◌∷◌, ◌++◌, length, take, drop, refl, sym, ap, ◌∙◌, arith, length-append, Result, Ok, Err}
-use Rattle.std.specs.Prelude.{◌==◌, not, ◌&&◌, ◌||◌, nat_lt, None, MatchResult, IfOk, IfErr}
+use Rattle.std.specs.Prelude.{◌==◌, not, ◌&&◌, ◌||◌, nat_lt, None, MatchResult, OnOk, IfErr}
 use Rattle.std.specs.List.{prefix_len}
 use Rattle.std.proofs.lemmas.List.{append-nil, length-take-le, take_all}
 use Rattle.std.proofs.lemmas.List.Sums.{prefix_len-le-length}
@@ -224,10 +224,10 @@ held_one r whole len buffer room within ends is =
     let same : length r.rest ≡ len = sym (ap length is) ∙ size in
     (whole, rw same (rw is at ends), omega arith)
 
-pub next_is : (r : Pending) (result : Result Line PlanFault) → r.fault ≡ None → HoldsOne r → is_due r ≡ true → MatchResult result (λ l. read_line r.form r.number (line_from r.rest 0) ≡ Ok l) (λ e. RefusedAs e (read_line r.form r.number (line_from r.rest 0))) → IfOk result (IsNext r)
-next_is r (Ok l) ok h due m = is_next r l ok h (due_of r due) m
-next_is r (Err e) ok h due m = tt
+pub next_is : (r : Pending) (l : Line) (result : Result (Unit {0}) PlanFault) → r.fault ≡ None → HoldsOne r → is_due r ≡ true → MatchResult result (λ _. read_line r.form r.number (line_from r.rest 0) ≡ Ok l) (λ e. RefusedAs e (read_line r.form r.number (line_from r.rest 0))) → OnOk result (IsNext r l)
+next_is r l (Ok u) ok h due m = is_next r l ok h (due_of r due) m
+next_is r l (Err e) ok h due m = tt
 
-pub refused_is : (r : Pending) (result : Result Line PlanFault) → HoldsOne r → is_due r ≡ true → MatchResult result (λ l. read_line r.form r.number (line_from r.rest 0) ≡ Ok l) (λ e. RefusedAs e (read_line r.form r.number (line_from r.rest 0))) → IfErr result (IsRefusedNext r)
-refused_is r (Ok l) h due m = tt
-refused_is r (Err e) h due m = is_refused_next r e h (due_of r due) m
+pub refused_is : (r : Pending) (l : Line) (result : Result (Unit {0}) PlanFault) → HoldsOne r → is_due r ≡ true → MatchResult result (λ _. read_line r.form r.number (line_from r.rest 0) ≡ Ok l) (λ e. RefusedAs e (read_line r.form r.number (line_from r.rest 0))) → IfErr result (IsRefusedNext r)
+refused_is r l (Ok u) h due m = tt
+refused_is r l (Err e) h due m = is_refused_next r e h (due_of r due) m

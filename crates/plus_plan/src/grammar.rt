@@ -189,74 +189,98 @@ fn duration(reader: &mut Reader<'_>) -> Result<(), Refusal>
 }
 
 // An action behind its time and its opening parenthesis.
-fn act(alloc: Global, reader: &mut Reader<'_>, line: u32, time: Time) -> Result<Line, Refusal>
+fn act(
+    alloc: Global,
+    reader: &mut Reader<'_>,
+    line: u32,
+    time: Time,
+    into: &mut Line,
+) -> Result<(), Refusal>
     ensures gives { MatchResult result
-        (λ l. act_of line time reader.old ≡ Ok l) (λ e. Fails e (act_of line time reader.old)) }
+        (λ _. act_of line time reader.old ≡ Ok into.new) (λ e. Fails e (act_of line time reader.old)) }
 {
     let call = call(alloc, reader)?;
-    duration(reader)?;
-    Ok(Line::Act { line, time, call })
+    *into = Line::Act { line, time, call };
+    duration(reader)
 }
 
 // The end of the plan behind its time.
-fn last(reader: &mut Reader<'_>, line: u32, time: Time) -> Result<Line, Refusal>
+fn last(reader: &mut Reader<'_>, line: u32, time: Time, into: &mut Line) -> Result<(), Refusal>
     ensures gives { MatchResult result
-        (λ l. last_of line time reader.old ≡ Ok l) (λ e. Fails e (last_of line time reader.old)) }
+        (λ _. last_of line time reader.old ≡ Ok into.new) (λ e. Fails e (last_of line time reader.old)) }
 {
     let token = reader.next()?;
     match token.kind {
         Kind::End => {
-            end(reader)?;
-            Ok(Line::End { line, time })
+            *into = Line::End { line, time };
+            end(reader)
         }
         _ => Err(Refusal::At(token.span)),
     }
 }
 
 // What stands behind a time: an action, or the end of the plan.
-fn entry(alloc: Global, reader: &mut Reader<'_>, line: u32, time: Time) -> Result<Line, Refusal>
+fn entry(
+    alloc: Global,
+    reader: &mut Reader<'_>,
+    line: u32,
+    time: Time,
+    into: &mut Line,
+) -> Result<(), Refusal>
     ensures gives { MatchResult result
-        (λ l. entry_of line time reader.old ≡ Ok l) (λ e. Fails e (entry_of line time reader.old)) }
+        (λ _. entry_of line time reader.old ≡ Ok into.new) (λ e. Fails e (entry_of line time reader.old)) }
 {
     if reader.open() {
-        return act(alloc, reader, line, time);
+        return act(alloc, reader, line, time, into);
     }
-    last(reader, line, time)
+    last(reader, line, time, into)
 }
 
-/// The line with a time that these tokens spell.
+/// Puts the line with a time that these tokens spell in place of a line.
 #[tactic(auto, unfolding(crate::specs::Grammar::timed_line))]
-pub fn timed_line(alloc: Global, reader: &mut Reader<'_>, line: u32) -> Result<Line, Refusal>
+pub fn timed_line(
+    alloc: Global,
+    reader: &mut Reader<'_>,
+    line: u32,
+    into: &mut Line,
+) -> Result<(), Refusal>
     ensures gives { MatchResult result
-        (λ l. timed_line line reader.old ≡ Ok l) (λ e. Fails e (timed_line line reader.old)) }
+        (λ _. timed_line line reader.old ≡ Ok into.new) (λ e. Fails e (timed_line line reader.old)) }
 {
     let Some(first) = reader.next_or_none()? else {
-        return Ok(Line::Blank);
+        *into = Line::Blank;
+        return Ok(());
     };
     let time = time(reader, &first)?;
-    entry(alloc, reader, line, time)
+    entry(alloc, reader, line, time, into)
 }
 
 // An action without a time behind its opening parenthesis.
-fn step(alloc: Global, reader: &mut Reader<'_>, line: u32) -> Result<Line, Refusal>
+fn step(alloc: Global, reader: &mut Reader<'_>, line: u32, into: &mut Line) -> Result<(), Refusal>
     ensures gives { MatchResult result
-        (λ l. step_of line reader.old ≡ Ok l) (λ e. Fails e (step_of line reader.old)) }
+        (λ _. step_of line reader.old ≡ Ok into.new) (λ e. Fails e (step_of line reader.old)) }
 {
     let call = call(alloc, reader)?;
-    end(reader)?;
-    Ok(Line::Step { line, call })
+    *into = Line::Step { line, call };
+    end(reader)
 }
 
-/// The line without a time that these tokens spell.
-pub fn untimed_line(alloc: Global, reader: &mut Reader<'_>, line: u32) -> Result<Line, Refusal>
+/// Puts the line without a time that these tokens spell in place of a line.
+pub fn untimed_line(
+    alloc: Global,
+    reader: &mut Reader<'_>,
+    line: u32,
+    into: &mut Line,
+) -> Result<(), Refusal>
     ensures gives { MatchResult result
-        (λ l. untimed_line line reader.old ≡ Ok l) (λ e. Fails e (untimed_line line reader.old)) }
+        (λ _. untimed_line line reader.old ≡ Ok into.new) (λ e. Fails e (untimed_line line reader.old)) }
 {
     if reader.open() {
-        return step(alloc, reader, line);
+        return step(alloc, reader, line, into);
     }
     if reader.is_done() {
-        return Ok(Line::Blank);
+        *into = Line::Blank;
+        return Ok(());
     }
     Err(reader.refusal())
 }

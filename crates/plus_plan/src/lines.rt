@@ -49,31 +49,43 @@ fn fault_of(line: u32, size: usize, refusal: Refusal) -> PlanFault
     }
 }
 
-fn line_of(alloc: Global, bytes: &[u8], line: u32, form: PlanForm) -> Result<Line, Refusal>
+fn line_of(
+    alloc: Global,
+    bytes: &[u8],
+    line: u32,
+    form: PlanForm,
+    into: &mut Line,
+) -> Result<(), Refusal>
     ensures { MatchResult result
-        (λ l. line_of form line (items_of bytes.now) ≡ Ok l)
+        (λ _. line_of form line (items_of bytes.now) ≡ Ok into.new)
         (λ e. Fails e (line_of form line (items_of bytes.now))) }
 {
     let mut reader = Reader::new(bytes);
     match form {
-        PlanForm::Timed => timed_line(alloc, &mut reader, line),
-        PlanForm::Untimed => untimed_line(alloc, &mut reader, line),
+        PlanForm::Timed => timed_line(alloc, &mut reader, line, into),
+        PlanForm::Untimed => untimed_line(alloc, &mut reader, line, into),
     }
 }
 
-// What these bytes say.
+// Puts what these bytes say in place of a line.
 #[tactic(auto, unfolding(crate::specs::Lines::read_line))]
-pub fn read_line(alloc: Global, bytes: &[u8], line: u32, form: PlanForm) -> Result<Line, PlanFault>
+pub fn read_line(
+    alloc: Global,
+    bytes: &[u8],
+    line: u32,
+    form: PlanForm,
+    into: &mut Line,
+) -> Result<(), PlanFault>
     ensures exact { MatchResult result
-        (λ l. read_line form line bytes.now ≡ Ok l)
+        (λ _. read_line form line bytes.now ≡ Ok into.new)
         (λ e. RefusedAs e (read_line form line bytes.now)) }
     ensures too_long { (result ≡ Err (PlanFault.LineTooLong line)) ↔ (line_limit < length bytes.now) }
 {
     if bytes.len() > LINE_LIMIT {
         return Err(PlanFault::LineTooLong { line });
     }
-    match line_of(alloc, bytes, line, form) {
-        Ok(read) => Ok(read),
+    match line_of(alloc, bytes, line, form, into) {
+        Ok(()) => Ok(()),
         Err(refusal) => Err(fault_of(line, bytes.len(), refusal)),
     }
 }
@@ -102,6 +114,7 @@ pub fn line_at(
         return Ok(None);
     }
     let end = line_end(text, from);
-    let read = read_line(alloc, &text[from..end], line, form)?;
+    let mut read = Line::Blank;
+    read_line(alloc, &text[from..end], line, form, &mut read)?;
     Ok(Some((read, (end + 1).min(text.len()))))
 }

@@ -1,5 +1,5 @@
 //! Reads the lines of a plan text that comes in pieces.
-ghost use Rattle.std.specs.Prelude.{◌≡◌, ◌+◌, ◌<◌, ◌≤◌, ◌++◌, ◌↔◌, false, true, length, vec_len, take, Some, IfErr, IfOk, IfSome, IfNone, OnErr};
+ghost use Rattle.std.specs.Prelude.{◌≡◌, ◌+◌, ◌<◌, ◌≤◌, ◌++◌, ◌↔◌, false, true, length, vec_len, take, Some, IfErr, IfOk, IfSome, IfNone, IsTrue, IsFalse, OnOk, OnErr};
 ghost use Rattle.plus_plan.specs.Cut.{line_end, line_from};
 ghost use Rattle.plus_plan.specs.Spells.{line_limit};
 ghost use Rattle.plus_plan.specs.Pieces.{fresh, taken_of, fed, at_end, without_line, keeping, is_due, IsIdle, IsNext, IsRefusedNext};
@@ -107,15 +107,15 @@ impl PlanReader {
         self.whole || self.len > LINE_LIMIT || (self.closed && self.len > 0)
     }
 
-    // Reads the line that is due.
-    fn due_line(&self) -> Result<Line, PlanFault>
+    // Puts the line that is due in place of a line.
+    fn due_line(&self, into: &mut Line) -> Result<(), PlanFault>
         requires no_fault { self.now.fault ≡ None }
         requires due { is_due self.now ≡ true }
-        ensures line { IfOk result (IsNext self.now) }
+        ensures line { OnOk result (IsNext self.now into.new) }
         ensures refused { IfErr result (IsRefusedNext self.now) }
         ensures too_long { (result ≡ Err (PlanFault.LineTooLong self.now.number)) ↔ (line_limit < length (line_from self.now.rest 0)) }
     {
-        read_line(self.alloc, self.line(), self.number, self.form)
+        read_line(self.alloc, self.line(), self.number, self.form, into)
     }
 
     // Lets the line go that was given.
@@ -153,16 +153,36 @@ impl PlanReader {
         // A fault that is kept is answered again.
         ensures again { (fault : PlanFault) → self.old.fault ≡ Some fault → (result ≡ Err fault) × (self.new ≡ self.old) }
     {
+        let mut line = Line::Blank;
+        match self.next_line_in(&mut line) {
+            Ok(true) => Ok(Some(line)),
+            Ok(false) => Ok(None),
+            Err(fault) => Err(fault),
+        }
+    }
+
+    /// The same, but the line is put in place of another, and the answer says whether there is one.
+    pub fn next_line_in(&mut self, into: &mut Line) -> Result<bool, PlanFault>
+        ensures none { (result ≡ Ok false) ↔ IsIdle self.old }
+        ensures unchanged { IfOk result (λ found. IsFalse found → self.new ≡ self.old) }
+        ensures line { IfOk result (λ found. IsTrue found → IsNext self.old into.new) }
+        ensures leaves { IfOk result (λ found. IsTrue found → self.new ≡ without_line self.old) }
+        ensures refused { self.old.fault ≡ None → IfErr result (IsRefusedNext self.old) }
+        ensures keeps { self.old.fault ≡ None → IfErr result (λ fault. self.new ≡ keeping fault self.old) }
+        ensures too_long { self.old.fault ≡ None →
+            ((result ≡ Err (PlanFault.LineTooLong self.old.number)) ↔ (line_limit < length (line_from self.old.rest 0))) }
+        ensures again { (fault : PlanFault) → self.old.fault ≡ Some fault → (result ≡ Err fault) × (self.new ≡ self.old) }
+    {
         if let Some(fault) = self.fault {
             return Err(fault);
         }
         if !self.is_due() {
-            return Ok(None);
+            return Ok(false);
         }
-        match self.due_line() {
-            Ok(line) => {
+        match self.due_line(into) {
+            Ok(()) => {
                 self.leave();
-                Ok(Some(line))
+                Ok(true)
             }
             Err(fault) => {
                 self.keep(fault);

@@ -12,7 +12,7 @@ returns c =
     let one = held_one r c.self.inside.whole c.self.inside.len c.self.inside.buffer.items c.self.invariant.room c.self.invariant.within c.self.invariant.ends rest in
     let exact = rw (form, number, c.line.ensures) at c.read_line.ensures.exact in
     record {
-      line = next_is r c.read_line.result c.requires.no_fault one c.requires.due exact;
-      refused = refused_is r c.read_line.result one c.requires.due exact;
+      line = next_is r c.read_line.new.into c.read_line.result c.requires.no_fault one c.requires.due exact;
+      refused = refused_is r c.read_line.new.into c.read_line.result one c.requires.due exact;
       too_long = rw (number, c.line.ensures) at c.read_line.ensures.too_long;
     }
