@@ -11,7 +11,7 @@ ghost use Rattle.plus_numeric.specs.Playing.{domain_in, problem_in, IsPlay, Stay
 use crate::halt::Halt;
 use crate::play::Play;
 use plus_number::frac::Frac64;
-use plus_plan::{PlanFault, PlanReader};
+use plus_plan::{Line, PlanFault, PlanReader};
 use plus_report::{Early, Verdict};
 use plus_state::problem::Ground;
 use std::alloc::Global;
@@ -50,9 +50,10 @@ impl<'a> Feed<'a> {
         ensures stays { Stays self.old.play self.new.play }
         ensures closed { OnOk result (self.new.reader.closed ≡ self.old.reader.closed) }
     {
-        match self.reader.next_line() {
-            Ok(Some(read)) => self.play.line(alloc, read),
-            Ok(None) => Ok(()),
+        let mut read = Line::Blank;
+        match self.reader.next_line_in(&mut read) {
+            Ok(true) => self.play.line(alloc, &mut read),
+            Ok(false) => Ok(()),
             Err(fault) => Err(fault_halt(fault)),
         }
     }

@@ -1,10 +1,10 @@
 //! Plays a plan without time, call by call.
-ghost use Rattle.std.specs.Prelude.{◌≡◌, [], ◌∷◌, ◌++◌, OnOk, IfOk, IfErr, if◌then◌else◌};
+ghost use Rattle.std.specs.Prelude.{◌≡◌, [], ◌∷◌, ◌++◌, OnOk, IfOk, IfErr};
 ghost use Rattle.plus_number.specs.Frac.{fraction_of};
 ghost use Rattle.plus_state.specs.View.{problem_of};
 ghost use Rattle.plus_expansion.specs.Expansion.{expanded};
 ghost use Rattle.plus_numeric.specs.Level.{beyond_level_two};
-ghost use Rattle.plus_numeric.specs.Calls.{call_meant};
+ghost use Rattle.plus_numeric.specs.Calls.{call_meant, calls_of};
 ghost use Rattle.plus_numeric.specs.Tests.{AllPass};
 ghost use Rattle.plus_numeric.specs.Asked.{call_tests, line_tests, end_tests};
 ghost use Rattle.plus_numeric.specs.Playing.{domain_in, problem_in, IsPlay, IsBegun, Stays, Keeps, Leads, LeadsCall, HaltsIn, HaltsAt, HaltFits, OrMemory, stop_halt, call_halt};
@@ -140,49 +140,64 @@ impl<'a> Play<'a> {
         }
     }
 
-    // Keeps a call, where they are to be kept.
-    fn keep_call(&mut self, call: Call) -> Result<(), Halt>
+    // Does what a line calls.
+    fn does(&mut self, alloc: Global, read: &Line) -> Result<(), Halt>
         requires { IsPlay self.old }
-        ensures kept { OnOk result (self.new.calls.items ≡ self.old.calls.items ++ (if self.old.keep then call ∷ [] else [])) }
+        ensures leads { OnOk result (Leads (line_tests (domain_in self.old) (problem_in self.old) read.now self.old.numeric) self.new.numeric) }
+        ensures halts { IfErr result (HaltsIn self.old.source (line_tests (domain_in self.old) (problem_in self.old) read.now self.old.numeric)) }
+        ensures fits { IfErr result (HaltFits (domain_in self.old) (problem_in self.old)) }
+        ensures stays { Stays self.old self.new }
+        ensures calls { self.new.calls ≡ self.old.calls }
+    {
+        match read {
+            Line::Step { line, call } => self.call(alloc, *line, call),
+            _ => Ok(()),
+        }
+    }
+
+    // Keeps the call of a line.
+    fn keep_call(&mut self, read: Line) -> Result<(), Halt>
+        requires { IsPlay self.old }
+        ensures kept { OnOk result (self.new.calls.items ≡ self.old.calls.items ++ calls_of (read ∷ [])) }
         ensures memory { IfErr result (λ halt. halt ≡ Halt.Memory) }
         ensures stays { Stays self.old self.new }
         ensures numeric { self.new.numeric ≡ self.old.numeric }
     {
-        if !self.keep {
-            return Ok(());
+        match read {
+            Line::Step { call, .. } => {
+                self.calls.push(call)?;
+                Ok(())
+            }
+            _ => Ok(()),
         }
-        self.calls.push(call)?;
+    }
+
+    // Keeps the call of a line, where calls are to be kept.
+    fn keep_line(&mut self, read: &mut Line) -> Result<(), Halt>
+        requires { IsPlay self.old }
+        ensures kept { OnOk result (Keeps (read.old ∷ []) self.old self.new) }
+        ensures memory { IfErr result (λ halt. halt ≡ Halt.Memory) }
+        ensures stays { Stays self.old self.new }
+        ensures numeric { self.new.numeric ≡ self.old.numeric }
+    {
+        if self.keep {
+            return self.keep_call(mem::replace(read, Line::Blank));
+        }
         Ok(())
     }
 
-    // Does a call, and keeps it where it is to be kept.
-    fn step(&mut self, alloc: Global, line: u32, call: Call) -> Result<(), Halt>
+    /// Plays one line. Its call is taken out of it, where calls are to be kept.
+    pub fn line(&mut self, alloc: Global, read: &mut Line) -> Result<(), Halt>
         requires { IsPlay self.old }
-        ensures keeps { OnOk result (self.new.calls.items ≡ self.old.calls.items ++ (if self.old.keep then call ∷ [] else [])) }
-        ensures leads { OnOk result (LeadsCall (domain_in self.old) (problem_in self.old) line call self.old.numeric self.new.numeric) }
-        ensures halts { IfErr result (HaltsAt self.old.source
-            (call_tests (domain_in self.old) line call.name (call_meant (domain_in self.old) (problem_in self.old) call) self.old.numeric)) }
+        ensures keeps { OnOk result (Keeps (read.old ∷ []) self.old self.new) }
+        ensures leads { OnOk result (Leads (line_tests (domain_in self.old) (problem_in self.old) read.old self.old.numeric) self.new.numeric) }
+        ensures halts { IfErr result (HaltsIn self.old.source (line_tests (domain_in self.old) (problem_in self.old) read.old self.old.numeric)) }
         ensures fits { IfErr result (HaltFits (domain_in self.old) (problem_in self.old)) }
         ensures stays { Stays self.old self.new }
     {
-        match self.call(alloc, line, &call) {
-            Ok(()) => self.keep_call(call),
+        match self.does(alloc, read) {
+            Ok(()) => self.keep_line(read),
             Err(halt) => Err(halt),
-        }
-    }
-
-    /// Plays one line.
-    pub fn line(&mut self, alloc: Global, read: Line) -> Result<(), Halt>
-        requires { IsPlay self.old }
-        ensures keeps { OnOk result (Keeps (read ∷ []) self.old self.new) }
-        ensures leads { OnOk result (Leads (line_tests (domain_in self.old) (problem_in self.old) read self.old.numeric) self.new.numeric) }
-        ensures halts { IfErr result (HaltsIn self.old.source (line_tests (domain_in self.old) (problem_in self.old) read self.old.numeric)) }
-        ensures fits { IfErr result (HaltFits (domain_in self.old) (problem_in self.old)) }
-        ensures stays { Stays self.old self.new }
-    {
-        match read {
-            Line::Step { line, call } => self.step(alloc, line, call),
-            _ => Ok(()),
         }
     }
 
