@@ -17,10 +17,10 @@ coded_entry =
     (λ p. record { state = p.0; before = p.1.0; arrival = p.1.1 })
     (λ _. refl)
 
--- the changes lead from the arrival to the state now, and where there is a state ahead it is equal to that
-pub record LedBy (arrival : State) (past : Changes) (state : State) (ahead : Option State) : Type 0 where
-  pub is : state ≡ patched arrival past
-  pub within : Within (length arrival.atoms) (length arrival.fluents) past
+-- where the changes are kept they lead from the arrival to the state now, and where there is a state ahead it is equal to that
+pub record LedBy (arrival : State) (past : Option Changes) (state : State) (ahead : Option State) : Type 0 where
+  pub is : IfSome past (λ p. state ≡ patched arrival p)
+  pub within : IfSome past (λ p. Within (length arrival.atoms) (length arrival.fluents) p)
   pub same : IfSome ahead (λ s. s ≡ state)
 
 -- the moves lead from a state to the one ahead, which has the same atoms

@@ -1,5 +1,5 @@
 //! The states of an entry: now, before the last step, and on arrival.
-ghost use Rattle.std.specs.Prelude.{◌≡◌, [], length, Ok, Option, option_map, IfOk, IfSome, OnOk, OnErr};
+ghost use Rattle.std.specs.Prelude.{◌≡◌, [], ◌++◌, length, Ok, Option, option_map, IfOk, IfSome, IsSomeAnd, OnOk, OnErr};
 ghost use Rattle.plus_fraction.specs.Fraction.{◌<ℚ◌};
 ghost use Rattle.plus_model.specs.Running.{rates as rates_of, GoesOn};
 ghost use Rattle.plus_state.specs.Changes.{patched, Within, RisesIn, LeadsTo};
@@ -25,6 +25,9 @@ use plus_stretch::search;
 use std::alloc::{AllocError, Global};
 use std::marker::Model;
 
+// So many changes are kept of an entry, however small the states are.
+const FEW: usize = 64;
+
 /// Where a running set comes to, and the state there.
 #[derive(Drop)]
 pub struct Reached<Q: Exact> {
@@ -38,8 +41,8 @@ pub struct Reached<Q: Exact> {
 pub struct EntryStates<Q: Exact> {
     trail: Trail<Q>,
     arrival: State<Q>,
-    // all changes since the arrival
-    past: Changes<Q>,
+    // all changes since the arrival, unless they are more than the atoms or the fluents of a state
+    past: Option<Changes<Q>>,
     // one more copy of the state now, which moves where time is searched
     ahead: Option<State<Q>>,
 }
@@ -81,6 +84,38 @@ fn patch_some<Q: Exact>(state: &mut Option<State<Q>>, changes: &Changes<Q>)
     }
 }
 
+// The changes that are kept, and later ones, unless there are more than so many of either kind.
+fn noted<Q: Exact>(
+    past: Option<Changes<Q>>,
+    later: &Changes<Q>,
+    most: usize,
+) -> Result<Option<Changes<Q>>, AllocError>
+    ensures { IfOk result (λ o. IfSome o (λ all. IsSomeAnd past (λ p. all ≡ record {
+      atoms = p.atoms ++ later.now.atoms;
+      fluents = p.fluents ++ later.now.fluents;
+    }))) }
+{
+    match past {
+        Some(mut changes) if changes.atoms.len() <= most && changes.fluents.len() <= most => {
+            changes.append(later)?;
+            Ok(Some(changes))
+        }
+        Some(_) | None => Ok(None),
+    }
+}
+
+fn copied<Q: Exact>(
+    alloc: Global,
+    past: &Option<Changes<Q>>,
+) -> Result<Option<Changes<Q>>, AllocError>
+    ensures { IfOk result (λ o. o ≡ past.now) }
+{
+    match past {
+        Some(changes) => Ok(Some(changes.copy(alloc)?)),
+        None => Ok(None),
+    }
+}
+
 impl<Q: Exact> EntryStates<Q> {
     /// The first entry: the initial state, and what the literals of its time change.
     pub fn begin(
@@ -102,7 +137,7 @@ impl<Q: Exact> EntryStates<Q> {
         Ok(EntryStates {
             trail,
             arrival,
-            past,
+            past: Some(past),
             ahead: None,
         })
     }
@@ -116,9 +151,28 @@ impl<Q: Exact> EntryStates<Q> {
         }) }
         ensures err { OnErr result (self.new ≡ self.old) }
     {
-        self.past.append(&changes)?;
+        let most = self.most();
+        self.past = noted(self.past.take(), &changes, most)?;
         patch_some(&mut self.ahead, &changes);
         self.trail.step(changes);
+        Ok(())
+    }
+
+    // How many changes of atoms or of fluents are kept: as many as a state has, since it costs no more to copy it.
+    fn most(&self) -> usize {
+        let state = self.trail.state();
+        (state.atoms().max(state.fluents()) as usize).max(FEW)
+    }
+
+    // Brings the state on arrival up to the present one.
+    fn catch_up(&mut self, alloc: Global) -> Result<(), AllocError>
+        ensures ok { OnOk result (self.new ≡ record self.old { arrival = self.old.state }) }
+        ensures err { OnErr result (self.new ≡ self.old) }
+    {
+        match self.past.take() {
+            Some(past) => self.arrival.patch(&past),
+            None => self.arrival = self.trail.state().copy(alloc)?,
+        }
         Ok(())
     }
 
@@ -198,11 +252,11 @@ impl<Q: Exact> EntryStates<Q> {
         ensures err { OnErr result (self.new ≡ self.old) }
     {
         let past = literals.copy(alloc)?;
-        self.arrival.patch(&self.past);
+        self.catch_up(alloc)?;
         self.arrival.patch(&moves);
         ahead.patch(&past);
         self.trail.step(joined(literals, moves));
-        self.past = past;
+        self.past = Some(past);
         self.ahead = Some(ahead);
         Ok(())
     }
@@ -247,7 +301,7 @@ impl<Q: Exact> EntryStates<Q> {
         Ok(EntryStates {
             trail: Trail::new(alloc, state.copy(alloc)?)?,
             arrival: state.copy(alloc)?,
-            past: Changes::none(alloc),
+            past: Some(Changes::none(alloc)),
             ahead: None,
         })
     }
@@ -259,7 +313,7 @@ impl<Q: Exact> EntryStates<Q> {
         Ok(EntryStates {
             trail: self.trail.copy(alloc)?,
             arrival: self.arrival.copy(alloc)?,
-            past: self.past.copy(alloc)?,
+            past: copied(alloc, &self.past)?,
             ahead: None,
         })
     }
