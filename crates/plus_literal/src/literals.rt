@@ -3,6 +3,7 @@
 ghost use Rattle.std.specs.Prelude.{◌≡◌, ◌<◌, ◌≤◌, ◌^◌};
 ghost use Rattle.plus_fraction.specs.Fraction.{over};
 ghost use Rattle.plus_number.specs.Exact.{Answers};
+ghost use Rattle.plus_number.specs.Frac.{IsFrac64, fraction_of};
 ghost use Rattle.plus_literal.specs.Value.{signed_whole, AnswersLiteral};
 
 use plus_number::divisor::common_divisor;
@@ -34,8 +35,22 @@ fn signed(negative: bool, size: u64) -> i64
     }
 }
 
+// The fraction top/bottom, or its opposite, of parts that a `Frac64` may have.
+fn from_small(negative: bool, top: u64, bottom: u64) -> Result<Frac64, Outside>
+    requires top { top ≤ 9223372036854775807 }
+    requires bottom { bottom ≤ 9223372036854775807 }
+    requires above { 0 < bottom }
+    ensures { Answers fraction_of IsFrac64 (over (signed_whole negative top) bottom) result }
+{
+    let small_top = signed(negative, top);
+    Frac64::ratio(small_top, bottom as i64)
+}
+
 impl FromParts for Frac64 {
     fn from_parts(negative: bool, top: u128, bottom: u128) -> Result<Frac64, Outside> {
+        if top <= GREATEST && bottom <= GREATEST {
+            return from_small(negative, top as u64, bottom as u64);
+        }
         let divisor = common_divisor(top, bottom);
         let reduced_top = top / divisor;
         let reduced_bottom = bottom / divisor;
