@@ -104,6 +104,18 @@ fn noted<Q: Exact>(
     }
 }
 
+// The later changes. Where there are none, the memory of the others is kept for those to come.
+fn renewed<Q: Exact>(mut kept: Changes<Q>, later: Changes<Q>) -> Changes<Q>
+    ensures { result ≡ later }
+{
+    if later.atoms.is_empty() && later.fluents.is_empty() {
+        kept.clear();
+        kept
+    } else {
+        later
+    }
+}
+
 fn copied<Q: Exact>(
     alloc: Global,
     past: &Option<Changes<Q>>,
@@ -164,16 +176,21 @@ impl<Q: Exact> EntryStates<Q> {
         (state.atoms().max(state.fluents()) as usize).max(FEW)
     }
 
-    // Brings the state on arrival up to the present one.
-    fn catch_up(&mut self, alloc: Global) -> Result<(), AllocError>
+    // Brings the state on arrival up to the present one, and hands out the changes that were kept, for their memory.
+    fn catch_up(&mut self, alloc: Global) -> Result<Changes<Q>, AllocError>
         ensures ok { OnOk result (self.new ≡ record self.old { arrival = self.old.state }) }
         ensures err { OnErr result (self.new ≡ self.old) }
     {
         match self.past.take() {
-            Some(past) => self.arrival.patch(&past),
-            None => self.arrival = self.trail.state().copy(alloc)?,
+            Some(past) => {
+                self.arrival.patch(&past);
+                Ok(past)
+            }
+            None => {
+                self.arrival = self.trail.state().copy(alloc)?;
+                Ok(Changes::none(alloc))
+            }
         }
-        Ok(())
     }
 
     // A state equal to the present one: the one ahead, or else a new copy.
@@ -252,11 +269,11 @@ impl<Q: Exact> EntryStates<Q> {
         ensures err { OnErr result (self.new ≡ self.old) }
     {
         let past = literals.copy(alloc)?;
-        self.catch_up(alloc)?;
+        let kept = self.catch_up(alloc)?;
         self.arrival.patch(&moves);
         ahead.patch(&past);
         self.trail.step(joined(literals, moves));
-        self.past = Some(past);
+        self.past = Some(renewed(kept, past));
         self.ahead = Some(ahead);
         Ok(())
     }
