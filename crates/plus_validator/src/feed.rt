@@ -16,7 +16,7 @@ use crate::run::Run;
 use plus_instances::Instances;
 use plus_number::frac::Frac64;
 use plus_numbering::Numbering;
-use plus_plan::{PlanForm, PlanReader};
+use plus_plan::{Line, PlanForm, PlanReader};
 use plus_state::problem::Ground;
 use std::alloc::Global;
 
@@ -65,9 +65,10 @@ impl<'a> Feed<'a> {
         ensures fits { IfErr result (HaltFits (problem_of fraction_of ground.now)) }
         ensures kept { StayMade self.old.instances self.new.instances }
     {
-        match self.reader.next_line() {
-            Ok(Some(read)) => self.run.line(alloc, &mut self.instances, ground, &read),
-            Ok(None) => Ok(()),
+        let mut read = Line::Blank;
+        match self.reader.next_line_in(&mut read) {
+            Ok(true) => self.run.line(alloc, &mut self.instances, ground, &read),
+            Ok(false) => Ok(()),
             Err(fault) => Err(fault_halt(fault)),
         }
     }
