@@ -50,9 +50,11 @@ time_with d k front s rest kinds.Colon = Ok (time d (10 ^ k) front, rest)
 time_with d k front s rest (kinds.Op ops.Divide) = if k == 0 then quotient_of d front rest else Err (refusals.At s)
 time_with d k front s rest _ = Err (refusals.At s)
 
+abbrev pub time_rest : ℕ → ℕ → Span → List Item → Read Time
+time_rest d k front items = next_of items >>= λ p. time_with d k front p.0.span p.1 p.0.kind
+
 abbrev pub time_behind : Span → List Item → Kind → Read Time
-time_behind front items (kinds.Number false d k) =
-    next_of items >>= λ p. time_with d k front p.0.span p.1 p.0.kind
+time_behind front items (kinds.Number false d k) = time_rest d k front items
 time_behind front items _ = Err (refusals.At front)
 
 -- a time and its colon, of which this is the first token

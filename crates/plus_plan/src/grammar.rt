@@ -1,8 +1,10 @@
 //! Reads a line from its tokens.
 
-ghost use Rattle.std.specs.Prelude.{◌≡◌, ◌≤◌, ◌^◌, MatchResult};
+ghost use Rattle.std.specs.Prelude.{◌≡◌, false, ◌≤◌, ◌^◌, MatchResult};
 ghost use Rattle.plus_plan.specs.Reading.{Gives, Fails};
-ghost use Rattle.plus_plan.specs.Grammar.{around, colon_of, divisor_of, quotient_of, time_of};
+ghost use Rattle.plus_plan.specs.Grammar.{around, colon_of, divisor_of, quotient_of, time_of, time_rest};
+ghost use Rattle.plus_tokens.specs.Ahead.{is_colon};
+ghost use Rattle.plus_tokens.specs.Coming.{comes};
 ghost use Rattle.plus_plan.specs.Grammar.{args_of, call_of, name_of};
 ghost use Rattle.plus_plan.specs.Grammar.{brackets_of, close_square_of, duration_of, end_of, number_of};
 ghost use Rattle.plus_plan.specs.Grammar.{act_of, entry_of, last_of, step_of, timed_line, untimed_line};
@@ -84,14 +86,24 @@ fn time(reader: &mut Reader<'_>, first: &Seen<'_>) -> Result<Time, Refusal>
     else {
         return Err(Refusal::At(first.span));
     };
-    let token = reader.next()?;
-    match token.kind {
-        Kind::Colon => Ok(Time {
+    if reader.colon() {
+        return Ok(Time {
             top: digits,
             bottom: power_of_ten(places),
             span: first.span,
-        }),
-        Kind::Op(Op::Divide) if places == 0 => Ok(quotient(reader, digits, first.span)?),
+        });
+    }
+    divided(reader, digits, places, first.span)
+}
+
+// The rest of a time whose first number has no colon behind it.
+fn divided(reader: &mut Reader<'_>, top: u128, places: u8, front: Span) -> Result<Time, Refusal>
+    requires { comes is_colon reader.old ≡ false }
+    ensures gives { Gives (λ x. x) reader.new result (time_rest top places front reader.old) }
+{
+    let token = reader.next()?;
+    match token.kind {
+        Kind::Op(Op::Divide) if places == 0 => Ok(quotient(reader, top, front)?),
         _ => Err(Refusal::At(token.span)),
     }
 }

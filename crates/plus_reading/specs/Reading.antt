@@ -31,12 +31,6 @@ abbrev pub is_open : Kind → Bool
 is_open kinds.Open = true
 is_open _ = false
 
--- a parenthesis is opened next, and no room is left for it
-abbrev pub is_full : ℕ → List Item → Bool
-is_full room [] = false
-is_full room (bad f ∷ rest) = false
-is_full room (tok p ∷ rest) = is_open p.kind && (room == 0)
-
 -- one token, where room is left for so many more parentheses
 abbrev pub next_of : ℕ → List Item → Read Piece
 next_of room [] = Err faults.Unclosed

@@ -1,9 +1,9 @@
 //! A text as the tokens that are still to come.
 
-ghost use Rattle.std.specs.Prelude.{◌≡◌, true, false, ◌<◌, Err, length, IfOk, OnOk, MatchResult};
+ghost use Rattle.std.specs.Prelude.{◌≡◌, ◌==◌, ◌&&◌, true, ◌<◌, length, IfOk, OnOk, MatchResult};
 ghost use Rattle.plus_tokens.specs.Lowered.{lowered};
 ghost use Rattle.plus_tokens.specs.Items.{items_of};
-ghost use Rattle.plus_reading.specs.Reading.{Gives, is_full, is_open, next_of};
+ghost use Rattle.plus_reading.specs.Reading.{Gives, is_open, next_of};
 ghost use Rattle.plus_reading.specs.Grammar.{time_ahead, token_of, open_of, close_of, name_of, plain_of, word_of};
 ghost use Rattle.plus_tokens.specs.Seen.{seen};
 
@@ -46,28 +46,17 @@ impl<'a> Reader<'a> {
         ensures shorter { OnOk result (length self.new < length self.old) }
         ensures kept { MatchResult result (λ _. Unit {0}) (λ _. self.new ≡ self.old) }
     {
-        self.has_room(room)?;
-        match self.tokens.next() {
-            Ok(Some(token)) => Ok(token),
+        match self.tokens.next_within(room > 0) {
+            Ok(Some(token)) => {
+                if is_full(token.kind, room) {
+                    return Err(TextFault::Depth {
+                        at: token.span.start,
+                    });
+                }
+                Ok(token)
+            }
             Ok(None) => Err(TextFault::Unclosed),
             Err(fault) => Err(TextFault::Lex(fault)),
-        }
-    }
-
-    // Where no room is left, no parenthesis is opened next.
-    fn has_room(&self, room: u8) -> Result<(), TextFault>
-        ensures { MatchResult result
-            (λ _. is_full room self.now ≡ false)
-            (λ e. next_of room self.now ≡ Err e) }
-    {
-        if room > 0 {
-            return Ok(());
-        }
-        match self.tokens.peek() {
-            Ok(Some(token)) if is_open(token.kind) => Err(TextFault::Depth {
-                at: token.span.start,
-            }),
-            _ => Ok(()),
         }
     }
 
@@ -150,4 +139,11 @@ impl<'a> Reader<'a> {
             Err(TextFault::Form { span: token.span })
         }
     }
+}
+
+// Whether no room is left for this token.
+fn is_full(kind: Kind, room: u8) -> bool
+    ensures { result ≡ (is_open kind && (room == 0)) }
+{
+    matches!(kind, Kind::Open) && room == 0
 }

@@ -1,12 +1,9 @@
 -- The tokens of a text, one after the other.
-use Rattle.std.proofs.Common.{◌≡◌, ℕ, zero, suc, ◌+◌, ◌-◌, ◌<◌, ◌≤◌, List, [], ◌∷◌, length, Option, Some, None, Result, Ok, Err, refl, sym, ap, ◌∙◌, arith}
+use Rattle.std.proofs.Common.{◌≡◌, ℕ, zero, suc, ◌+◌, ◌-◌, ◌<◌, ◌≤◌, List, [], ◌∷◌, length, Option, Some, None, Result, Ok, Err, refl, ap, ◌∙◌, arith}
 use Rattle.plus_tokens.specs.declared.token.Token.{Token}
 use Rattle.plus_tokens.specs.declared.token.LexFault.{LexFault}
 use Rattle.plus_tokens.specs.First.{first_token}
 use Rattle.plus_tokens.proofs.Inside.{first_token_inside}
-use Rattle.std.specs.Prelude.{IfErr, IfOk, IfSome, MatchOption, MatchResult}
-use Rattle.plus_tokens.specs.Seen.{HasFewPlaces, byte_of}
-use Rattle.plus_tokens.proofs.Sound.{few_places, fault_within}
 use Rattle.plus_tokens.specs.Items.{Item, tok, bad, piece_of, items_step, items_from, items_at, Stands}
 
 pub stands : (text : List ℕ) (from : ℕ) (t : Token) → first_token text from ≡ Ok (Some t) → Stands text from t
@@ -48,28 +45,3 @@ at_none text from le e =
 pub at_fault : (text : List ℕ) (from : ℕ) (f : LexFault) → from ≤ length text → first_token text from ≡ Err f → items_at text from ≡ bad f ∷ []
 at_fault text from f le e =
     one_more (length text + 1 - from) text from (omega arith) ∙ ap (items_step (items_from (length text + 1 - from - 1) text) text) e
-
-pub shorter_at : (text : List ℕ) (at : ℕ) (t : Token) → at ≤ length text → first_token text at ≡ Ok (Some t) → length (items_at text t.«end») < length (items_at text at)
-shorter_at text at t le e = let l = ap length (at_token text at t le e) in omega (arith, l)
-
--- ---- what was found, as the tokens tell it
-
-pub found_items : (text : List ℕ) (at : ℕ) (r : Result (Option Token) LexFault) → at ≤ length text → r ≡ first_token text at
-    → MatchResult r (λ o. MatchOption o (items_at text at ≡ []) (λ t. items_at text at ≡ tok (piece_of text t) ∷ items_at text t.«end»)) (λ f. items_at text at ≡ bad f ∷ [])
-found_items text at (Ok None) le e = at_none text at le (sym e)
-found_items text at (Ok (Some t)) le e = at_token text at t le (sym e)
-found_items text at (Err f) le e = at_fault text at f le (sym e)
-
-pub found_stands : (text : List ℕ) (at : ℕ) (r : Result (Option Token) LexFault) → r ≡ first_token text at → IfOk r (λ o. IfSome o (λ t. Stands text at t))
-found_stands text at (Ok None) e = tt
-found_stands text at (Ok (Some t)) e = stands text at t (sym e)
-found_stands text at (Err f) e = tt
-
-pub found_few : (text : List ℕ) (at : ℕ) (r : Result (Option Token) LexFault) → r ≡ first_token text at → IfOk r (λ o. IfSome o (λ t. HasFewPlaces t.kind))
-found_few text at (Ok None) e = tt
-found_few text at (Ok (Some t)) e = few_places text at t (sym e)
-found_few text at (Err f) e = tt
-
-pub found_within : (text : List ℕ) (at : ℕ) (r : Result (Option Token) LexFault) → r ≡ first_token text at → IfErr r (λ f. byte_of f < length text)
-found_within text at (Ok o) e = tt
-found_within text at (Err f) e = fault_within text at f (sym e)

@@ -1,7 +1,8 @@
 -- What comes next among the tokens of a text.
-use Rattle.std.specs.Prelude.{ℕ, Bool, true, false, if◌then◌else◌, List, [], ◌∷◌, Option, Some, None, Result, Ok, Err}
+use Rattle.std.specs.Prelude.{ℕ, Bool, true, false, not, ◌&&◌, if◌then◌else◌, List, [], ◌∷◌, Option, Some, None, Result, Ok, Err}
 use Rattle.plus_tokens.specs.declared.token.Kind.{Kind}
 use Rattle.plus_tokens.specs.declared.token.LexFault.{LexFault}
+use Rattle.plus_tokens.specs.Ahead.{is_open}
 use Rattle.plus_tokens.specs.Items.{Piece, Item, tok, bad}
 
 -- the token that comes next, and none at the end
@@ -15,6 +16,12 @@ abbrev pub rest_of : List Item → List Item
 rest_of [] = []
 rest_of (bad f ∷ rest) = bad f ∷ rest
 rest_of (tok p ∷ rest) = rest
+
+-- the same, where an opening parenthesis is taken only if one may be opened
+abbrev pub rest_within : Bool → List Item → List Item
+rest_within may_open [] = []
+rest_within may_open (bad f ∷ rest) = bad f ∷ rest
+rest_within may_open (tok p ∷ rest) = if is_open p.kind && not may_open then tok p ∷ rest else rest
 
 -- a token of this kind comes next
 abbrev pub comes : (Kind → Bool) → List Item → Bool

@@ -2,7 +2,7 @@
 
 ghost use Rattle.std.specs.Prelude.{◌≡◌, ◌∷◌, [], ◌+◌, ◌^◌, ◌<◌, ◌≤◌, false, true, Ok, Err, length, IfErr, IfOk, IfSome, MatchOption, MatchResult};
 ghost use Rattle.plus_tokens.specs.Ahead.{is_close, is_colon, is_name, is_open, place_if};
-ghost use Rattle.plus_tokens.specs.Coming.{comes, first_of, is_done, rest_of, without, word_ahead};
+ghost use Rattle.plus_tokens.specs.Coming.{comes, first_of, is_done, rest_of, rest_within, without, word_ahead};
 ghost use Rattle.plus_tokens.specs.First.{first_token};
 ghost use Rattle.plus_tokens.specs.Items.{Stands, bad, items_at, items_of, piece_of, tok};
 ghost use Rattle.plus_tokens.specs.Lowered.{lowered};
@@ -59,23 +59,43 @@ impl<'a> Tokens<'a> {
         ensures few { IfOk result (λ o. IfSome o (λ t. HasFewPlaces t.kind)) }
         ensures within { IfErr result (λ f. byte_of f + 1 < 2 ^ 64) }
     {
-        let Some(token) = token_at(self.text, self.at)? else {
-            return Ok(None);
-        };
-        self.at = token.end;
-        Ok(Some(with_bytes(self.text, &token)))
+        self.next_within(true)
+    }
+
+    /// The same, but an opening parenthesis is read only where one may be opened.
+    #[tactic(auto, using(crate::proofs::Items::at_token, crate::proofs::Items::at_none, crate::proofs::Items::at_fault, crate::proofs::Items::stands, crate::proofs::Sound::few_places, crate::proofs::Sound::fault_within))]
+    pub fn next_within(&mut self, may_open: bool) -> Result<Option<Seen<'a>>, LexFault>
+        ensures gives { MatchResult result
+            (λ o. first_of self.old ≡ Ok (seen_or_none o)) (λ f. first_of self.old ≡ Err f) }
+        ensures leaves { self.new ≡ rest_within may_open self.old }
+        ensures some { IfOk result (λ o. IfSome o (λ t. 0 < length t.word.now)) }
+        ensures few { IfOk result (λ o. IfSome o (λ t. HasFewPlaces t.kind)) }
+        ensures within { IfErr result (λ f. byte_of f + 1 < 2 ^ 64) }
+    {
+        match next_token(self.text, self.at) {
+            Ok(Some(token)) => {
+                if may_open || !matches!(token.kind, Kind::Open) {
+                    self.at = token.end;
+                }
+                Ok(Some(with_bytes(self.text, &token)))
+            }
+            Ok(None) => Ok(None),
+            Err(fault) => Err(fault),
+        }
     }
 
     /// The same, where nothing is read.
+    #[tactic(auto, using(crate::proofs::Items::at_token, crate::proofs::Items::at_none, crate::proofs::Items::at_fault, crate::proofs::Items::stands, crate::proofs::Sound::few_places, crate::proofs::Sound::fault_within))]
     pub fn peek(&self) -> Result<Option<Seen<'a>>, LexFault>
         ensures gives { MatchResult result
             (λ o. first_of self.now ≡ Ok (seen_or_none o)) (λ f. first_of self.now ≡ Err f) }
         ensures within { IfErr result (λ f. byte_of f + 1 < 2 ^ 64) }
     {
-        let Some(token) = token_at(self.text, self.at)? else {
-            return Ok(None);
-        };
-        Ok(Some(with_bytes(self.text, &token)))
+        match next_token(self.text, self.at) {
+            Ok(Some(token)) => Ok(Some(with_bytes(self.text, &token))),
+            Ok(None) => Ok(None),
+            Err(fault) => Err(fault),
+        }
     }
 
     /// The name that comes next, if one does. Else nothing is read.
@@ -150,21 +170,6 @@ fn with_bytes<'a>(text: &'a [u8], token: &Token) -> Seen<'a>
             end: token.end,
         },
     }
-}
-
-// The next token from an offset on, and none at the end.
-fn token_at(text: &[u8], at: usize) -> Result<Option<Token>, LexFault>
-    requires { at ≤ length text.now }
-    ensures gives { MatchResult result
-        (λ o. MatchOption o
-        (items_at text.now at ≡ [])
-        (λ t. items_at text.now at ≡ tok (piece_of text.now t) ∷ items_at text.now t.end))
-        (λ f. items_at text.now at ≡ bad f ∷ []) }
-    ensures stands { IfOk result (λ o. IfSome o (λ t. Stands text.now at t)) }
-    ensures few { IfOk result (λ o. IfSome o (λ t. HasFewPlaces t.kind)) }
-    ensures within { IfErr result (λ f. byte_of f < length text.now) }
-{
-    next_token(text, at)
 }
 
 // The name that comes next from an offset on, and where it ends, if one does.

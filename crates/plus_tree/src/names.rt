@@ -1,6 +1,6 @@
 //! Names, and where they stand.
 
-ghost use Rattle.std.specs.Prelude.{◌≡◌, [], IfOk, map};
+ghost use Rattle.std.specs.Prelude.{◌≡◌, ◌≤◌, [], IfOk, length, map, take};
 ghost use Rattle.plus_tokens.specs.Lowered.{lowered};
 
 use plus_tokens::Span;
@@ -47,6 +47,11 @@ impl Name {
     pub fn of_word(alloc: Global, word: &[u8]) -> Result<Name, AllocError>
         ensures { IfOk result (λ name. name ≡ lowered word.now) }
     {
+        if word.len() <= 16 {
+            return Ok(Name {
+                bytes: SmallVec::from_buf_and_len(alloc, small_letters(word), word.len()),
+            });
+        }
         let lower: SmallVec<u8, 16> = word.iter().map(|b| b.to_ascii_lowercase()).collect(alloc)?;
         Ok(Name { bytes: lower })
     }
@@ -57,6 +62,18 @@ impl Name {
     {
         self.bytes.as_slice()
     }
+}
+
+// The bytes of a short word in small letters, at the front of an array.
+fn small_letters(word: &[u8]) -> [u8; 16]
+    requires { length word.now ≤ 16 }
+    ensures { take (length word.now) result ≡ lowered word.now }
+{
+    let mut bytes = [0; 16];
+    for i in 0..word.len() {
+        bytes[i] = word[i].to_ascii_lowercase();
+    }
+    bytes
 }
 
 /// A name where it stands in a text.
