@@ -1,6 +1,6 @@
 //! Names, and where they stand.
 
-ghost use Rattle.std.specs.Prelude.{◌≡◌, ◌≤◌, [], IfOk, length, map, take};
+ghost use Rattle.std.specs.Prelude.{◌≡◌, ◌≤◌, [], IfOk, length, map};
 ghost use Rattle.plus_tokens.specs.Lowered.{lowered};
 
 use plus_tokens::Span;
@@ -48,9 +48,7 @@ impl Name {
         ensures { IfOk result (λ name. name ≡ lowered word.now) }
     {
         if word.len() <= 16 {
-            return Ok(Name {
-                bytes: SmallVec::from_buf_and_len(alloc, small_letters(word), word.len()),
-            });
+            return Ok(short_name(alloc, word));
         }
         let lower: SmallVec<u8, 16> = word.iter().map(|b| b.to_ascii_lowercase()).collect(alloc)?;
         Ok(Name { bytes: lower })
@@ -64,16 +62,16 @@ impl Name {
     }
 }
 
-// The bytes of a short word in small letters, at the front of an array.
-fn small_letters(word: &[u8]) -> [u8; 16]
+// The name that a word of few bytes spells.
+fn short_name(alloc: Global, word: &[u8]) -> Name
     requires { length word.now ≤ 16 }
-    ensures { take (length word.now) result ≡ lowered word.now }
+    ensures { result ≡ lowered word.now }
 {
-    let mut bytes = [0; 16];
-    for i in 0..word.len() {
-        bytes[i] = word[i].to_ascii_lowercase();
+    let mut bytes = SmallVec::new(alloc);
+    for b in word {
+        bytes.push_reserved(b.to_ascii_lowercase());
     }
-    bytes
+    Name { bytes }
 }
 
 /// A name where it stands in a text.
