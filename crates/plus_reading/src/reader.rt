@@ -77,11 +77,10 @@ impl<'a> Reader<'a> {
         ensures room_left { OnOk result (0 < room) }
         ensures shorter { OnOk result (length self.new < length self.old) }
     {
-        let token = self.next(room)?;
-        if is_open(token.kind) {
-            Ok(token)
-        } else {
-            Err(TextFault::Form { span: token.span })
+        match self.next(room) {
+            Ok(token) if is_open(token.kind) => Ok(token),
+            Ok(token) => Err(TextFault::Form { span: token.span }),
+            Err(fault) => Err(fault),
         }
     }
 
@@ -91,11 +90,10 @@ impl<'a> Reader<'a> {
         ensures gives { Gives seen self.new result (close_of room self.old) }
         ensures shorter { OnOk result (length self.new < length self.old) }
     {
-        let token = self.next(room)?;
-        if is_close(token.kind) {
-            Ok(token)
-        } else {
-            Err(TextFault::Form { span: token.span })
+        match self.next(room) {
+            Ok(token) if is_close(token.kind) => Ok(token),
+            Ok(token) => Err(TextFault::Form { span: token.span }),
+            Err(fault) => Err(fault),
         }
     }
 
