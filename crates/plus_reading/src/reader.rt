@@ -103,10 +103,10 @@ impl<'a> Reader<'a> {
         ensures gives { Gives seen self.new result (name_of room self.old) }
         ensures shorter { OnOk result (length self.new < length self.old) }
     {
-        let token = self.next(room)?;
-        match token.kind {
-            Kind::Name => Ok(token),
-            _ => Err(TextFault::Form { span: token.span }),
+        match self.next(room) {
+            Ok(token) if matches!(token.kind, Kind::Name) => Ok(token),
+            Ok(token) => Err(TextFault::Form { span: token.span }),
+            Err(fault) => Err(fault),
         }
     }
 
@@ -116,10 +116,10 @@ impl<'a> Reader<'a> {
         ensures gives { Gives seen self.new result (plain_of room self.old) }
         ensures shorter { OnOk result (length self.new < length self.old) }
     {
-        let token = self.next(room)?;
-        match head_of(&token) {
-            HeadWord::Plain => Ok(token),
-            _ => Err(TextFault::Form { span: token.span }),
+        match self.next(room) {
+            Ok(token) if matches!(head_of(&token), HeadWord::Plain) => Ok(token),
+            Ok(token) => Err(TextFault::Form { span: token.span }),
+            Err(fault) => Err(fault),
         }
     }
 
