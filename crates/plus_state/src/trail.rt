@@ -7,6 +7,7 @@ use crate::states::State;
 use plus_number::exact::Exact;
 use std::alloc::{AllocError, Global};
 use std::marker::Model;
+use std::mem;
 
 /// A state, the one before the last step, and what that step changed. A step costs what it changes:
 /// the state before follows by making the changes of the step before.
@@ -42,14 +43,14 @@ impl<Q: Exact> Trail<Q> {
         })
     }
 
-    /// Makes a step. It takes no memory.
-    pub fn step(&mut self, changes: Changes<Q>)
-        requires { RisesIn self.old.state changes }
-        ensures { self.new ≡ record { state = patched self.old.state changes; before = self.old.state } }
+    /// Makes a step. It takes no memory, and leaves that of the changes of the step before.
+    pub fn step(&mut self, changes: &mut Changes<Q>)
+        requires { RisesIn self.old.state changes.old }
+        ensures { self.new ≡ record { state = patched self.old.state changes.old; before = self.old.state } }
     {
         self.before.patch(&self.last);
-        self.state.patch(&changes);
-        self.last = changes;
+        self.state.patch(changes);
+        mem::swap(&mut self.last, changes);
     }
 
     /// The state after the last step.

@@ -24,6 +24,7 @@ use plus_stretch::halt::Halt;
 use plus_stretch::search;
 use std::alloc::{AllocError, Global};
 use std::marker::Model;
+use std::mem;
 
 // So many changes are kept of an entry, however small the states are.
 const FEW: usize = 64;
@@ -45,6 +46,8 @@ pub struct EntryStates<Q: Exact> {
     past: Option<Changes<Q>>,
     // one more copy of the state now, which moves where time is searched
     ahead: Option<State<Q>>,
+    // changes that are needed no more, for their memory
+    spare: Changes<Q>,
 }
 
 impl<Q: Exact> Model for EntryStates<Q> {
@@ -133,7 +136,7 @@ impl<Q: Exact> EntryStates<Q> {
     pub fn begin(
         alloc: Global,
         initial: &State<Q>,
-        literals: Changes<Q>,
+        mut literals: Changes<Q>,
     ) -> Result<EntryStates<Q>, AllocError>
         requires { RisesIn initial.now literals }
         ensures { IfOk result (λ e. e ≡ record {
@@ -145,17 +148,18 @@ impl<Q: Exact> EntryStates<Q> {
         let mut trail = Trail::new(alloc, initial.copy(alloc)?)?;
         let arrival = initial.copy(alloc)?;
         let past = literals.copy(alloc)?;
-        trail.step(literals);
+        trail.step(&mut literals);
         Ok(EntryStates {
             trail,
             arrival,
             past: Some(past),
             ahead: None,
+            spare: literals,
         })
     }
 
     /// Makes a step within the entry.
-    pub fn step(&mut self, changes: Changes<Q>) -> Result<(), AllocError>
+    pub fn step(&mut self, mut changes: Changes<Q>) -> Result<(), AllocError>
         requires { RisesIn self.old.state changes }
         ensures ok { OnOk result (self.new ≡ record self.old {
           state = patched self.old.state changes;
@@ -166,7 +170,8 @@ impl<Q: Exact> EntryStates<Q> {
         let most = self.most();
         self.past = noted(self.past.take(), &changes, most)?;
         patch_some(&mut self.ahead, &changes);
-        self.trail.step(changes);
+        self.trail.step(&mut changes);
+        self.spare = changes;
         Ok(())
     }
 
@@ -191,6 +196,13 @@ impl<Q: Exact> EntryStates<Q> {
                 Ok(Changes::none(alloc))
             }
         }
+    }
+
+    /// Changes that are needed no more: whatever they are, another step may use their memory.
+    pub fn take_spare(&mut self, alloc: Global) -> Changes<Q>
+        ensures { self.new ≡ self.old }
+    {
+        mem::replace(&mut self.spare, Changes::none(alloc))
     }
 
     // A state equal to the present one: the one ahead, or else a new copy.
@@ -272,7 +284,9 @@ impl<Q: Exact> EntryStates<Q> {
         let kept = self.catch_up(alloc)?;
         self.arrival.patch(&moves);
         ahead.patch(&past);
-        self.trail.step(joined(literals, moves));
+        let mut changes = joined(literals, moves);
+        self.trail.step(&mut changes);
+        self.spare = changes;
         self.past = Some(renewed(kept, past));
         self.ahead = Some(ahead);
         Ok(())
@@ -320,6 +334,7 @@ impl<Q: Exact> EntryStates<Q> {
             arrival: state.copy(alloc)?,
             past: Some(Changes::none(alloc)),
             ahead: None,
+            spare: Changes::none(alloc),
         })
     }
 
@@ -332,6 +347,7 @@ impl<Q: Exact> EntryStates<Q> {
             arrival: self.arrival.copy(alloc)?,
             past: copied(alloc, &self.past)?,
             ahead: None,
+            spare: Changes::none(alloc),
         })
     }
 }

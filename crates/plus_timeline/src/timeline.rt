@@ -24,7 +24,7 @@ ghost use Rattle.plus_timeline.specs.Advance.{IsAhead, EntersAt, AdvanceTold};
 ghost use Rattle.plus_timeline.specs.Forked.{forked};
 ghost use Rattle.plus_timeline.specs.Closing.{CanClose, IsReachedBy};
 
-use crate::effect::action_changes;
+use crate::effect::action_changes_in;
 use crate::entry::{EntryStates, Reached};
 use crate::literals::{are_there, bound, literal_changes};
 use crate::next::Next;
@@ -201,8 +201,9 @@ impl<Q: Exact> Timeline<Q> {
             self.end();
             return Err(Stop::Memory);
         }
-        match action_changes(self.alloc(), self.state(), action, line) {
-            Ok(changes) => match self.put_changes(changes) {
+        let mut changes = self.take_spare();
+        match action_changes_in(&mut changes, self.alloc(), self.state(), action, line) {
+            Ok(()) => match self.put_changes(changes) {
                 Ok(()) => Ok(()),
                 Err(_) => {
                     self.end();
@@ -675,6 +676,13 @@ impl<Q: Exact> Timeline<Q> {
     {
         self.answer = Some(Next::There);
         self.acted = false;
+    }
+
+    // Changes that are needed no more, for their memory.
+    fn take_spare(&mut self) -> Changes<Q>
+        ensures { self.new ≡ self.old }
+    {
+        self.states.take_spare(self.alloc)
     }
 
     // Goes on in the state after an action, which changed this.

@@ -9,7 +9,7 @@ use Rattle.plus_state.specs.Tests.{tests_of}
 use Rattle.plus_state.specs.Steps.{AllPass, FirstStop, asks, fault, joint_steps}
 use Rattle.plus_state.specs.View.{action_of, effect_of, overflow_of}
 use Rattle.plus_timeline.proofs.Acted.{condition_unfit, condition_fails, effects_fail, effects_pass}
-use Rattle.plus_timeline.proofs.effect.action_changes.Goals as goal
+use Rattle.plus_timeline.proofs.effect.action_changes_in.Goals as goal
 
 pub returns-in-Err-clause-told : goal.returns-in-Err-clause-told
 returns-in-Err-clause-told g c i =
@@ -46,7 +46,7 @@ returns-in-Ok-clause-told g c i =
     record {
       going = refl;
       pass = effects_pass fits i a s t h p;
-      does = record { may = h; effect = subst (λ (es : List Effect). joint es s ≡ Ok (patched s c.in-Ok.changes)) e c.in-Ok.ensures.does.1 };
+      does = record { may = h; effect = subst (λ (es : List Effect). joint es s ≡ Ok (patched s c.joint_changes_in.new.changes)) e c.in-Ok.ensures.does.1 };
     }
 
 pub returns-in-Err-Number-clause-told : goal.returns-in-Err-Number-clause-told
