@@ -1,0 +1,9 @@
+mod Digits
+mod Lexes
+mod Parts
+mod Entries
+mod Cuts
+mod Whole
+mod Room
+mod One
+mod Rows
