@@ -1,4 +1,5 @@
 use Rattle.std.proofs.Common.{refl, ap, ◌∙◌, false, [], ◌++◌}
+use Rattle.std.proofs.lemmas.Result.{err_from_is_err_and}
 use Rattle.plus_number.specs.Frac.{fraction_of}
 use Rattle.plus_state.specs.View.{problem_of, labels_of}
 use Rattle.plus_validator.specs.Account.{progress}
@@ -20,3 +21,8 @@ returns-clause-begins c =
 
 pub write_next-requires-clause-shown : goal.write_next-requires-clause-shown
 write_next-requires-clause-shown c = begun_shown (problem_of fraction_of c.args.ground.now) c.args.happenings c.in_ok-timeline.timeline.line c.in_ok-timeline.ensures.begun
+
+pub returns-in_err-write_next-clause-memory : goal.returns-in_err-write_next-clause-memory
+returns-in_err-write_next-clause-memory c =
+    let p = err_from_is_err_and c.from_residual-in_err-write_next.result c.from_residual-in_err-write_next.ensures.1 in
+    rw (p.1, p.2) refl
