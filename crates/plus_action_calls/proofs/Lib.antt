@@ -1,0 +1,6 @@
+pub mod Called
+pub mod Grounded
+pub mod Within
+pub mod Plain
+pub mod Spelled
+pub mod Saying
