@@ -4,3 +4,4 @@ pub mod Within
 pub mod Plain
 pub mod Spelled
 pub mod Saying
+pub mod Deciding

@@ -1,8 +1,10 @@
 //! The laws, each the contract of a function with an empty body.
 
-ghost use Rattle.std.specs.Prelude.{◌≡◌, ℕ, List, All, Some, map, slice_get};
-ghost use Rattle.plus_fraction.specs.Fraction.{Fraction};
-ghost use Rattle.plus_number.specs.Frac.{IsFrac64};
+ghost use Rattle.std.specs.Prelude.{◌≡◌, ℕ, List, All, Some, map, pos, slice_get};
+ghost use Rattle.plus_fraction.specs.Fraction.{Fraction, whole, ◌<ℚ◌};
+ghost use Rattle.plus_number.specs.declared.frac.Frac64.{Frac64};
+ghost use Rattle.plus_number.specs.Frac.{fraction_of, IsFrac64};
+ghost use Rattle.plus_state.specs.declared.outcome.TimedPlan.{TimedPlan};
 ghost use Rattle.plus_model.specs.Terms.{Action};
 ghost use Rattle.plus_model.specs.Plan.{Instance};
 ghost use Rattle.plus_tree.specs.declared.trees.Call.{Call};
@@ -13,12 +15,16 @@ ghost use Rattle.plus_report.specs.Plans.{plan_text};
 ghost use Rattle.plus_plan.specs.declared.forms.Line.{Line};
 ghost use Rattle.plus_stretch.specs.Tests.{AllPass};
 ghost use Rattle.plus_actions.specs.Actions.{ground_actions, IsGroundable};
-ghost use Rattle.plus_plan_text.specs.Written.{TimedCall, IsPlainCall, written_plan, Say};
+ghost use Rattle.plus_plan_text.specs.Written.{TimedCall, IsPlanTime, IsPlainCall, written_plan, Say};
+ghost use Rattle.plus_planner.specs.Grid.{ticks, lines_from, tick_after, timed, AllTimes};
+ghost use Rattle.plus_planner.specs.Listing.{labels_from, IsPlanOf};
+ghost use Rattle.plus_planning.specs.Planned.{task_of};
 ghost use Rattle.plus_validator.specs.Plans.{pair, lines_meant};
 ghost use Rattle.plus_validator.specs.Asking.{call_tests, instances_of};
 ghost use Rattle.plus_grammar.specs.Texts.{IsDomainText, IsProblemText};
 ghost use Rattle.plus_action_calls.specs.Calls.{IsCalledBy, HasPlainNames, IsPlain};
 ghost use Rattle.plus_action_calls.specs.Plans.{TimedAction, AreGround, HavePlanTimes, AreCalledBy, plan_with, labelled};
+ghost use Rattle.plus_action_calls.specs.Decided.{decided_from, AreCallsOf};
 
 /// Each ground action is what a call names, the one that its label shows.
 pub fn each_ground_action_is_called()
@@ -79,4 +85,29 @@ pub fn lines_mean_actions()
         (last : Fraction) (n : ℕ) (lines : List Line)
         → IsGroundable IsFrac64 d p → AreCalledBy d p acts calls → Say n calls last lines
         → (i : ℕ) → AllPass IsFrac64 (instances_of (pair d p) lines i) }
+{}
+
+/// The decisions of a search are actions at times: its lines are the plan with these, its labels are theirs,
+/// they are ground actions, and where all times are values they are times of a plan.
+pub fn decisions_are_actions()
+    ensures lines { (actions : List Action) (q : Fraction) (n : ℕ) (ds : List ℕ)
+        → lines_from actions q n ds
+        ≡ plan_with (decided_from actions q n ds) (ticks q (tick_after actions n ds)) }
+    ensures labels { (actions : List Action) (q : Fraction) (n : ℕ) (ds : List ℕ)
+        → labels_from actions q n ds ≡ map labelled (decided_from actions q n ds) }
+    ensures ground { (d : Domain) (p : Problem) (q : Fraction) (n : ℕ) (ds : List ℕ)
+        → AreGround d p (decided_from (ground_actions d p) q n ds) }
+    ensures times { (actions : List Action) (q : Fraction) (n : ℕ) (ds : List ℕ)
+        → whole (pos 0) <ℚ q → AllTimes IsFrac64 (lines_from actions q n ds)
+        → HavePlanTimes (decided_from actions q n ds) × IsPlanTime (ticks q (tick_after actions n ds)) }
+{}
+
+/// The plan that a search found has calls that say it: what is written of it is written of these, and
+/// whatever lines say them are the lines of what was decided, and pass what is asked of their instances.
+pub fn found_plan_is_called()
+    ensures { (d : Domain) (p : Problem) (q : Fraction) (ds : List ℕ) (plan : TimedPlan Frac64)
+        → HasPlainNames d p → IsGroundable IsFrac64 d p → whole (pos 0) <ℚ q
+        → AllTimes IsFrac64 (timed (task_of d p q) ds).lines
+        → IsPlanOf fraction_of (task_of d p q) ds plan
+        → (calls : List TimedCall) × (last : Fraction) × AreCallsOf d p q ds plan calls last }
 {}
