@@ -1,0 +1,5 @@
+mod Lifting
+mod Few
+mod Passing
+mod Instances
+mod Accepting
