@@ -1,0 +1,4 @@
+mod Steps
+mod Said
+mod Few
+mod Written
