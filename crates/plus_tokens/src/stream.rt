@@ -50,6 +50,7 @@ impl<'a> Tokens<'a> {
     }
 
     /// The token that comes next, and none at the end.
+    #[inline(always)]
     pub fn next(&mut self) -> Result<Option<Seen<'a>>, LexFault>
         ensures gives { MatchResult result
             (λ o. first_of self.old ≡ Ok (seen_or_none o)) (λ f. first_of self.old ≡ Err f) }
@@ -63,6 +64,7 @@ impl<'a> Tokens<'a> {
     }
 
     /// The same, but an opening parenthesis is read only where one may be opened.
+    #[inline(always)]
     #[tactic(auto, using(crate::proofs::Items::at_token, crate::proofs::Items::at_none, crate::proofs::Items::at_fault, crate::proofs::Items::stands, crate::proofs::Sound::few_places, crate::proofs::Sound::fault_within))]
     pub fn next_within(&mut self, may_open: bool) -> Result<Option<Seen<'a>>, LexFault>
         ensures gives { MatchResult result
@@ -155,6 +157,7 @@ impl<'a> Tokens<'a> {
 }
 
 // A token with its bytes.
+#[inline(always)]
 fn with_bytes<'a>(text: &'a [u8], token: &Token) -> Seen<'a>
     requires order { token.now.start ≤ token.now.end }
     requires inside { token.now.end ≤ length text.now }
