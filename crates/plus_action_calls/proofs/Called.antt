@@ -17,8 +17,8 @@ use Rattle.plus_tree.specs.declared.trees.Domain.{Domain}
 use Rattle.plus_tree.specs.declared.trees.Problem.{Problem}
 use Rattle.plus_types.specs.Types.{Binding, bindings_of, bound_names, names_of, objects_of, is_under}
 use Rattle.plus_types.specs.Faults.{Context, problem_context, action_names}
-use Rattle.plus_numbering.specs.Objects.{places_from, members_of, object_place, object_names}
-use Rattle.plus_numbering.specs.Numbers.{label_of}
+use Rattle.plus_expansion.specs.Objects.{places_from, members_of, object_place, object_names}
+use Rattle.plus_expansion.specs.Numbers.{label_of}
 use Rattle.plus_expansion.specs.Environments.{Environment}
 use Rattle.plus_expansion.specs.Expansion.{action_meant}
 use Rattle.plus_expansion.specs.Calls.{bound_by, called_in, called_by, called_of}

@@ -8,7 +8,7 @@ use Rattle.plus_tree.specs.declared.trees.Schema.{Schema}
 use Rattle.plus_tree.specs.declared.trees.Domain.{Domain}
 use Rattle.plus_tree.specs.declared.trees.Problem.{Problem}
 use Rattle.plus_types.specs.Faults.{problem_context}
-use Rattle.plus_numbering.specs.Objects.{object_names}
+use Rattle.plus_expansion.specs.Objects.{object_names}
 use Rattle.plus_expansion.specs.Calls.{called_of}
 use Rattle.plus_actions.specs.Actions.{choices_from, instance_in, named_by, ground_actions}
 use Rattle.plus_action_calls.specs.Calls.{IsCalledBy}

@@ -9,7 +9,7 @@ use Rattle.plus_tree.specs.declared.trees.Domain.{Domain}
 use Rattle.plus_tree.specs.declared.trees.Problem.{Problem}
 use Rattle.plus_report.specs.Plans.{Timed, plan_text}
 use Rattle.plus_plan.specs.declared.forms.Line.{Line}
-use Rattle.plus_numbering.specs.Numbers.{label_of}
+use Rattle.plus_expansion.specs.Numbers.{label_of}
 use Rattle.plus_expansion.specs.Calls.{called_of}
 use Rattle.plus_stretch.specs.Tests.{AllPass}
 use Rattle.plus_actions.specs.Actions.{ground_actions, IsGroundable}

@@ -7,7 +7,7 @@ use Rattle.plus_tree.specs.declared.trees.Domain.{Domain}
 use Rattle.plus_tree.specs.declared.trees.Problem.{Problem}
 use Rattle.plus_types.specs.Types.{names_of, objects_of}
 use Rattle.plus_types.specs.Faults.{action_names}
-use Rattle.plus_numbering.specs.Numbers.{label_of}
+use Rattle.plus_expansion.specs.Numbers.{label_of}
 use Rattle.plus_expansion.specs.Calls.{called_of}
 use Rattle.plus_plan_text.specs.Written.{IsPlainName}
 

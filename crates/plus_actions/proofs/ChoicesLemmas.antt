@@ -3,9 +3,9 @@ use Rattle.std.proofs.Common.{◌≡◌, ℕ, List, [], ◌∷◌, ◌++◌, len
 use Rattle.std.proofs.lemmas.List.Concat.{length-flat_map}
 use Rattle.plus_tree.specs.declared.terms.TypedName.{TypedName}
 use Rattle.plus_types.specs.Faults.{Context}
-use Rattle.plus_numbering.specs.Objects.{members_of}
-use Rattle.plus_limits.specs.Sizes.{held, choices}
-use Rattle.plus_limits.proofs.Sums.{sum_by-same}
+use Rattle.plus_expansion.specs.Objects.{members_of}
+use Rattle.plus_numbering.specs.Sizes.{held, choices}
+use Rattle.plus_numbering.proofs.Sums.{sum_by-same}
 use Rattle.plus_actions.specs.Actions.{choices_from}
 
 pub choices-length : (c : Context) (vs : List TypedName) (chosen : List ℕ) → length (choices_from c vs chosen) ≡ choices c vs

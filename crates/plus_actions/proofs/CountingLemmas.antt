@@ -7,15 +7,16 @@ use Rattle.plus_tree.specs.declared.trees.Schema.{Schema}
 use Rattle.plus_tree.specs.declared.trees.Domain.{Domain}
 use Rattle.plus_tree.specs.declared.trees.Problem as tree
 use Rattle.plus_types.specs.Faults.{Context, problem_context}
-use Rattle.plus_numbering.specs.declared.faults.Count.TheVariants.{Actions, Nodes}
+use Rattle.plus_expansion.specs.declared.counts.Count.TheVariants.{Actions, Nodes}
 use Rattle.plus_numbering.specs.declared.faults.CountFault.{CountFault}
 use Rattle.plus_numbering.specs.declared.faults.CountFault.TheVariants.{TooMany}
-use Rattle.plus_numbering.specs.Counts.{Counted, first_over, RefusesCount}
+use Rattle.plus_expansion.specs.Counts.{Counted, first_over}
+use Rattle.plus_numbering.specs.Refusals.{RefusesCount}
 use Rattle.plus_expansion.specs.Environments.{Environment}
 use Rattle.plus_expansion.specs.Expansion.{action_meant}
 use Rattle.plus_expansion.specs.Nodes.{action_nodes}
-use Rattle.plus_limits.specs.Sizes.{held, instances, schema_size, schemas_size}
-use Rattle.plus_limits.proofs.Nodes.{condition-nodes, effect-nodes, instances-length, instances-nodes}
+use Rattle.plus_numbering.specs.Sizes.{held, instances, schema_size, schemas_size}
+use Rattle.plus_numbering.proofs.Nodes.{condition-nodes, effect-nodes, instances-length, instances-nodes}
 use Rattle.plus_fraction.specs.Fraction.{Fraction}
 use Rattle.plus_actions.specs.Actions.{all_instances, action_counts, IsGroundable}
 use Rattle.plus_actions.specs.Inside.{IsInside}

@@ -17,7 +17,7 @@ use Rattle.plus_tree.specs.declared.trees.Domain.{Domain}
 use Rattle.plus_tree.specs.declared.trees.Problem as tree
 use Rattle.plus_types.specs.Faults.{Context, problem_context, action_names, is_well_typed}
 use Rattle.plus_literal.specs.Value.{LiteralFits}
-use Rattle.plus_numbering.specs.Objects.{members_of, object_place, object_names}
+use Rattle.plus_expansion.specs.Objects.{members_of, object_place, object_names}
 use Rattle.plus_expansion.specs.Environments.{Environment}
 use Rattle.plus_state.specs.Fits.{ActionFits}
 use Rattle.plus_expansion.specs.Expansion.{action_meant, expanded}
@@ -25,7 +25,7 @@ use Rattle.plus_expansion.specs.Calls.{bound_by, called_in, called_by, called_of
 use Rattle.plus_expansion.specs.Nodes.{action_nodes}
 use Rattle.plus_expansion.specs.Literals.{schema_literals, literals_in}
 use Rattle.plus_expansion.proofs.Fitting.{instances_fit}
-use Rattle.plus_limits.specs.Sizes.{choices, schema_size, instances, schemas_size}
+use Rattle.plus_numbering.specs.Sizes.{choices, schema_size, instances, schemas_size}
 use Rattle.plus_ground.specs.Refusals.{IsTooLarge, HasUnfit}
 use Rattle.plus_ground.proofs.ExpressionsLemmas.{all_left, all_right, all_first}
 use Rattle.plus_ground.proofs.EnvironmentsLemmas.{more_given}

@@ -12,15 +12,15 @@ use Rattle.plus_tree.specs.declared.trees.Problem as tree
 use Rattle.plus_types.specs.declared.faults.File.TheVariants as files
 use Rattle.plus_types.specs.Faults.{Context, problem_context}
 use Rattle.plus_literal.specs.Value.{LiteralFits}
-use Rattle.plus_numbering.specs.declared.faults.Count.TheVariants.{Actions, Nodes}
-use Rattle.plus_numbering.specs.Counts.{Counted, first_over}
-use Rattle.plus_numbering.specs.Objects.{members_of, object_names}
+use Rattle.plus_expansion.specs.declared.counts.Count.TheVariants.{Actions, Nodes}
+use Rattle.plus_expansion.specs.Counts.{Counted, first_over}
+use Rattle.plus_expansion.specs.Objects.{members_of, object_names}
 use Rattle.plus_expansion.specs.Expansion.{action_meant, instances_of, expanded}
 use Rattle.plus_expansion.specs.Calls.{called_of}
 use Rattle.plus_expansion.specs.Nodes.{action_nodes}
 use Rattle.plus_expansion.specs.Literals.{schema_literals}
 use Rattle.plus_expansion.specs.Counting.{most_nodes}
-use Rattle.plus_limits.specs.Unfit.{IsFirstUnfitAt}
+use Rattle.plus_expansion.specs.Unfit.{IsFirstUnfitAt}
 use Rattle.plus_ground.specs.declared.faults.GroundFault.{GroundFault}
 use Rattle.plus_ground.specs.declared.faults.GroundFault.TheVariants as faults
 

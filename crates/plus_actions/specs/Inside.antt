@@ -8,7 +8,7 @@ use Rattle.plus_types.specs.Faults.{problem_context}
 use Rattle.plus_literal.specs.Value.{LiteralFits}
 use Rattle.plus_expansion.specs.Literals.{schema_literals}
 use Rattle.plus_expansion.specs.Counting.{most_nodes}
-use Rattle.plus_limits.specs.Sizes.{schema_size, schemas_size}
+use Rattle.plus_numbering.specs.Sizes.{schema_size, schemas_size}
 
 -- its actions have not too many nodes, and no literal that is no value of the type of numbers
 pub record IsInside (fits : Fraction → Type 0) (d : Domain) (p : tree.Problem) : Type 0 where

@@ -4,7 +4,7 @@ ghost use Rattle.std.specs.Prelude.{◌≡◌, ◌++◌, [], map, IfOk, OnOk, sl
 ghost use Rattle.plus_state.specs.View.{action_of};
 ghost use Rattle.plus_types.specs.Faults.{problem_context};
 ghost use Rattle.plus_types.specs.Types.{bound_names};
-ghost use Rattle.plus_numbering.specs.Objects.{object_names};
+ghost use Rattle.plus_expansion.specs.Objects.{object_names};
 ghost use Rattle.plus_expansion.specs.Calls.{called_of};
 ghost use Rattle.plus_actions.specs.Actions.{instance_in};
 ghost use Rattle.plus_actions.specs.Inside.{IsInside};

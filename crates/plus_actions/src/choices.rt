@@ -4,8 +4,7 @@ ghost use Rattle.std.specs.Prelude.{◌≡◌, [], ◌∷◌, ◌++◌, IfOk, On
 ghost use Rattle.plus_numbering.specs.Numbered.{context};
 ghost use Rattle.plus_actions.specs.Actions.{choices_from};
 
-use plus_limits::sizes;
-use plus_numbering::Numbering;
+use plus_numbering::{Numbering, sizes};
 use plus_tree::TypedName;
 use smallvec::SmallVec;
 use std::alloc::{AllocError, Global};

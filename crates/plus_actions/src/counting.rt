@@ -1,12 +1,13 @@
 //! Counts of ground actions and their nodes.
 
 ghost use Rattle.std.specs.Prelude.{◌≡◌, None, MatchResult};
-ghost use Rattle.plus_numbering.specs.Counts.{first_over, RefusesCount};
+ghost use Rattle.plus_expansion.specs.Counts.{first_over};
+ghost use Rattle.plus_numbering.specs.Refusals.{RefusesCount};
 ghost use Rattle.plus_actions.specs.Actions.{action_counts};
 
-use plus_limits::MOST_NODES;
-use plus_limits::counting::{few, instances, nodes};
-use plus_numbering::{Count, CountFault, Numbering};
+use plus_expansion::Count;
+use plus_numbering::counting::{few, instances, nodes};
+use plus_numbering::{CountFault, MOST_NODES, Numbering};
 
 // How many ground actions there may be.
 const MOST_ACTIONS: u32 = 10_000;

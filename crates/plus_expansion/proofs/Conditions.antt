@@ -11,7 +11,7 @@ use Rattle.plus_tree.specs.Cond.{Cond, Conds, c_all, c_any, c_not, c_imply, c_fo
 use Rattle.plus_types.specs.Types.{Binding, bindings_of}
 use Rattle.plus_types.specs.Faults.{Context, variables_faults, expr_faults, exprs_faults, cond_faults, conds_faults}
 use Rattle.plus_types.proofs.SoundLemmas.{left-none, right-none}
-use Rattle.plus_numbering.specs.Numbers.{ground_names}
+use Rattle.plus_expansion.specs.Numbers.{ground_names}
 use Rattle.plus_expansion.specs.Environments.{Environment, environments}
 use Rattle.plus_expansion.specs.Expansion.{grouped, chained, expression_meant, expressions_meant, condition_meant, conditions_meant}
 use Rattle.plus_expansion.proofs.Members.{Stands, AreNew, environments-stand, variables-new}

@@ -12,7 +12,7 @@ use Rattle.plus_tree.specs.declared.trees.Domain.{Domain}
 use Rattle.plus_tree.specs.declared.trees.Problem as tree
 use Rattle.plus_types.specs.Faults.{Context, domain_context, problem_context, type_faults, action_names}
 use Rattle.plus_types.specs.Types.{bindings_of}
-use Rattle.plus_numbering.specs.Counts.{Counted, first_over}
+use Rattle.plus_expansion.specs.Counts.{Counted, first_over}
 use Rattle.plus_expansion.specs.Environments.{Environment}
 use Rattle.plus_expansion.specs.Expansion.{event_meant, process_meant, action_meant, truths_from, values_from, expanded}
 use Rattle.plus_expansion.specs.Nodes.{condition_nodes, event_nodes, process_nodes, problem_nodes}

@@ -1,3 +1,7 @@
+pub mod Places
+pub mod Within
+pub mod ObjectsLemmas
+pub mod GroundNames
 pub mod Above
 pub mod Members
 pub mod Uses

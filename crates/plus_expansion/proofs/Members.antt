@@ -13,7 +13,7 @@ use Rattle.plus_types.specs.Types.{is_among, Binding, bindings_of, bound_names, 
 use Rattle.plus_types.specs.Faults.{Context, fault_where, bound_faults, member_faults, list_faults, variables_faults}
 use Rattle.plus_types.proofs.SoundLemmas.{left-none, right-none}
 use Rattle.plus_types.proofs.TypesLemmas.{or-right, bytes-swap, same-bytes}
-use Rattle.plus_numbering.specs.Objects.{places_from, members_of, object_place}
+use Rattle.plus_expansion.specs.Objects.{places_from, members_of, object_place}
 use Rattle.plus_expansion.specs.Environments.{Environment, environments, bound_object}
 use Rattle.plus_expansion.specs.Calls.{bound_by}
 use Rattle.plus_expansion.proofs.Above.{or-map}

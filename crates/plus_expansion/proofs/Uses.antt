@@ -11,10 +11,10 @@ use Rattle.plus_types.specs.declared.faults.Wrong.{Wrong}
 use Rattle.plus_types.specs.Types.{Binding, kind_of, is_under}
 use Rattle.plus_types.specs.Faults.{Context, fault_where, params_of, kind_of_faults, argument_faults, arguments_faults, declared_faults, use_faults}
 use Rattle.plus_types.proofs.SoundLemmas.{left-none, right-none}
-use Rattle.plus_numbering.specs.Objects.{extents_of}
-use Rattle.plus_numbering.specs.Numbers.{ground_names, number_of}
-use Rattle.plus_numbering.proofs.Places.{are_members}
-use Rattle.plus_numbering.proofs.Within.{number-within}
+use Rattle.plus_expansion.specs.Objects.{extents_of}
+use Rattle.plus_expansion.specs.Numbers.{ground_names, number_of}
+use Rattle.plus_expansion.proofs.Places.{are_members}
+use Rattle.plus_expansion.proofs.Within.{number-within}
 use Rattle.plus_expansion.specs.Environments.{Environment, term_object, use_objects, atom_number, fluent_number}
 use Rattle.plus_expansion.proofs.Members.{Stands, is_member, member-under, place-member, bound-member}
 

@@ -9,7 +9,7 @@ use Rattle.plus_tree.specs.declared.trees.Schema.{Schema}
 use Rattle.plus_tree.specs.declared.trees.Domain.{Domain}
 use Rattle.plus_tree.specs.declared.trees.Problem as tree
 use Rattle.plus_types.specs.Faults.{Context, problem_context, action_names}
-use Rattle.plus_numbering.specs.Objects.{members_of, object_place}
+use Rattle.plus_expansion.specs.Objects.{members_of, object_place}
 use Rattle.plus_expansion.specs.Environments.{Environment}
 use Rattle.plus_expansion.specs.Expansion.{action_meant}
 

@@ -6,8 +6,8 @@ use Rattle.plus_tree.specs.declared.trees.Domain.{Domain}
 use Rattle.plus_tree.specs.declared.trees.Problem as tree
 use Rattle.plus_types.specs.Faults.{problem_context}
 use Rattle.plus_literal.specs.Value.{LiteralFits}
-use Rattle.plus_numbering.specs.declared.faults.Count.TheVariants.{Processes, Events, Nodes}
-use Rattle.plus_numbering.specs.Counts.{Counted, first_over, name_counts}
+use Rattle.plus_expansion.specs.declared.counts.Count.TheVariants.{Processes, Events, Nodes}
+use Rattle.plus_expansion.specs.Counts.{Counted, first_over, name_counts}
 use Rattle.plus_expansion.specs.Expansion.{expanded}
 use Rattle.plus_expansion.specs.Nodes.{problem_nodes}
 use Rattle.plus_expansion.specs.Literals.{literals_of}

@@ -7,8 +7,8 @@ use Rattle.plus_tree.specs.declared.terms.Term.TheVariants.{Object, Variable}
 use Rattle.plus_tree.specs.declared.terms.TypedName.{TypedName}
 use Rattle.plus_tree.specs.declared.terms.Use.{Use}
 use Rattle.plus_types.specs.Faults.{Context}
-use Rattle.plus_numbering.specs.Objects.{members_of, object_place}
-use Rattle.plus_numbering.specs.Numbers.{number_of}
+use Rattle.plus_expansion.specs.Objects.{members_of, object_place}
+use Rattle.plus_expansion.specs.Numbers.{number_of}
 
 -- an object, by its place, for each variable; those of outer lists stand before those of inner ones
 abbrev pub Environment : Type 0

@@ -26,8 +26,8 @@ use Rattle.plus_tree.specs.Effect as effects
 use Rattle.plus_tree.specs.Effect.{Effects, e_all, e_forall, e_when, e_leaf, no_effects, more_effects}
 use Rattle.plus_types.specs.Faults.{Context, problem_context, is_clock}
 use Rattle.plus_literal.specs.Value.{literal_value}
-use Rattle.plus_numbering.specs.Objects.{object_names}
-use Rattle.plus_numbering.specs.Numbers.{ground_names, ground_labels, label_of}
+use Rattle.plus_expansion.specs.Objects.{object_names}
+use Rattle.plus_expansion.specs.Numbers.{ground_names, ground_labels, label_of}
 use Rattle.plus_expansion.specs.Environments.{Environment, environments, term_object, atom_number, fluent_number}
 
 -- ---- expressions

@@ -6,8 +6,8 @@ use Rattle.plus_state.specs.Fits.{ProblemFits, ActionFits}
 use Rattle.plus_tree.specs.declared.trees.Domain.{Domain}
 use Rattle.plus_tree.specs.declared.trees.Problem as tree
 use Rattle.plus_types.specs.Faults.{is_well_typed, problem_context}
-use Rattle.plus_numbering.specs.Counts.{first_over}
-use Rattle.plus_numbering.specs.Numbers.{ground_names}
+use Rattle.plus_expansion.specs.Counts.{first_over}
+use Rattle.plus_expansion.specs.Numbers.{ground_names}
 use Rattle.plus_expansion.specs.Expansion.{expanded}
 use Rattle.plus_expansion.specs.Calls.{called_of}
 use Rattle.plus_expansion.specs.Counting.{counts_of}

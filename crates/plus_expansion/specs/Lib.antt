@@ -1,3 +1,6 @@
+pub mod Objects
+pub mod Numbers
+pub mod Counts
 pub mod Environments
 pub mod Expansion
 pub mod Calls
@@ -5,3 +8,4 @@ pub mod Nodes
 pub mod Literals
 pub mod Counting
 pub mod Laws
+pub mod Unfit

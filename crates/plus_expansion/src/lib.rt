@@ -2,4 +2,7 @@
 //! laws about them.
 #![tactic(auto)]
 
+pub mod counts;
 pub mod laws;
+
+pub use counts::Count;

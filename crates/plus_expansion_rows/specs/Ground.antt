@@ -11,9 +11,9 @@ use Rattle.plus_tree.specs.Expr.{Expr, x_sum, x_product, x_minus, x_quotient, ex
 use Rattle.plus_tree.specs.Cond.{Cond, c_not, c_imply}
 use Rattle.plus_types.specs.declared.faults.File.TheVariants as files
 use Rattle.plus_types.specs.Faults.{Context, problem_context, type_faults}
-use Rattle.plus_numbering.specs.Objects.{members_of}
-use Rattle.plus_numbering.specs.Numbers.{number_of}
-use Rattle.plus_numbering.specs.Counts.{first_over}
+use Rattle.plus_expansion.specs.Objects.{members_of}
+use Rattle.plus_expansion.specs.Numbers.{number_of}
+use Rattle.plus_expansion.specs.Counts.{first_over}
 use Rattle.plus_expansion.specs.Environments.{environments, bound_object}
 use Rattle.plus_expansion.specs.Expansion.{expanded, labels_meant, instances_of, action_meant, condition_meant, expression_meant, timed_meant}
 use Rattle.plus_expansion.specs.Calls.{called_of}

@@ -11,7 +11,7 @@ use Rattle.std.specs.Ordering.{nat_cmp, ordering_index}
 use Rattle.plus_model.specs.Running.{IsRising}
 use Rattle.plus_types.specs.Types.{Binding, is_under}
 use Rattle.plus_types.specs.Faults.{Context}
-use Rattle.plus_numbering.specs.Objects.{places_from, members_of}
+use Rattle.plus_expansion.specs.Objects.{places_from, members_of}
 
 -- ---- the objects of a type
 rise_from : (n m : ℕ) (xs : List ℕ) → n ≤ m → IsRising m xs → IsRising n xs

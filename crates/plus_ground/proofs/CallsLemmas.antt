@@ -20,8 +20,8 @@ use Rattle.plus_tree.specs.declared.trees.Problem.{Problem}
 use Rattle.plus_types.specs.declared.faults.File.{File}
 use Rattle.plus_types.specs.declared.faults.File.TheVariants as files
 use Rattle.plus_types.specs.Faults.{Context, problem_context, action_names}
-use Rattle.plus_numbering.specs.Objects.{members_of, object_place, extents_of, tuples, object_names}
-use Rattle.plus_numbering.specs.Numbers.{ground_names, ground_names_from, ground_labels, label_of}
+use Rattle.plus_expansion.specs.Objects.{members_of, object_place, extents_of, tuples, object_names}
+use Rattle.plus_expansion.specs.Numbers.{ground_names, ground_names_from, ground_labels, label_of}
 use Rattle.plus_expansion.specs.Environments.{Environment}
 use Rattle.plus_expansion.specs.Expansion.{action_meant, process_meant, event_meant, condition_meant, instances_of, initial_state, timed_meant, expanded, labels_meant}
 use Rattle.plus_expansion.specs.Calls.{called_of, bound_by}
@@ -32,7 +32,7 @@ use Rattle.plus_tokens.specs.declared.span.Span.{Span}
 use Rattle.plus_expansion.specs.Nodes.{action_nodes}
 use Rattle.plus_expansion.specs.Counting.{IsGroundable}
 use Rattle.plus_expansion.proofs.Fitting.{expansion_fits, instances_fit}
-use Rattle.plus_limits.specs.Unfit.{IsFirstUnfitAt}
+use Rattle.plus_expansion.specs.Unfit.{IsFirstUnfitAt}
 use Rattle.plus_ground.specs.Refusals.{IsTooLarge, HasUnfit, IsInstance}
 use Rattle.plus_ground.proofs.ExpressionsLemmas.{all_left, all_right, all_first, all_rest, all_more}
 

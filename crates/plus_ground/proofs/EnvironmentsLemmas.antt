@@ -9,9 +9,9 @@ use Rattle.std.specs.Str.{bytes_eq}
 use Rattle.plus_types.specs.Faults.{Context}
 use Rattle.plus_tree.specs.declared.terms.TypedName.{TypedName}
 use Rattle.plus_tree.specs.declared.terms.Use.{Use}
-use Rattle.plus_numbering.specs.Objects.{members_of}
-use Rattle.plus_numbering.specs.Numbers.{number_of}
-use Rattle.plus_numbering.specs.Counts.{first_over, name_counts}
+use Rattle.plus_expansion.specs.Objects.{members_of}
+use Rattle.plus_expansion.specs.Numbers.{number_of}
+use Rattle.plus_expansion.specs.Counts.{first_over, name_counts}
 use Rattle.plus_expansion.specs.Environments.{Environment, environments, bound_object, use_objects, atom_number, fluent_number}
 
 not_first : {A : Type 0} (b : Bool) (x : A) (r : Option A) → cond b (Some x) r ≡ None → b ≡ false

@@ -15,7 +15,7 @@ use Rattle.plus_tree.specs.declared.trees.Init.{Init}
 use Rattle.plus_tree.specs.declared.trees.Init.TheVariants.{Holds, Absent, Value, At, AtNot}
 use Rattle.plus_types.specs.Faults.{Context}
 use Rattle.plus_literal.specs.Value.{literal_value}
-use Rattle.plus_numbering.specs.Numbers.{ground_names}
+use Rattle.plus_expansion.specs.Numbers.{ground_names}
 use Rattle.plus_expansion.specs.Environments.{atom_number, fluent_number}
 use Rattle.plus_expansion.specs.Expansion.{truths_from, values_from, value_given, held_by, given_by, initial_state}
 use Rattle.plus_ground.specs.Entered.{with_atom, with_first, with_value, entered}

@@ -9,7 +9,7 @@ use Rattle.plus_tree.specs.Effect as tree
 use Rattle.plus_tree.specs.Effect.{Effects, e_all, e_forall, e_when, e_leaf, no_effects, more_effects}
 use Rattle.plus_model.specs.Terms.{Effect, Rate}
 use Rattle.plus_types.specs.Faults.{Context}
-use Rattle.plus_numbering.specs.Objects.{members_of}
+use Rattle.plus_expansion.specs.Objects.{members_of}
 use Rattle.plus_expansion.specs.Environments.{Environment, environments}
 use Rattle.plus_expansion.specs.Expansion.{condition_meant, leaf_meant, effects_meant, all_effects_meant, rates_meant, all_rates_meant}
 use Rattle.plus_ground.specs.Nothing.{writes_nothing, write_nothing, have_objects}

@@ -8,11 +8,11 @@ use Rattle.plus_tokens.specs.declared.span.Span.{Span}
 use Rattle.plus_tree.specs.declared.trees.Domain.{Domain}
 use Rattle.plus_tree.specs.declared.trees.Problem as tree
 use Rattle.plus_literal.specs.Value.{LiteralFits}
-use Rattle.plus_numbering.specs.Counts.{first_over}
+use Rattle.plus_expansion.specs.Counts.{first_over}
 use Rattle.plus_expansion.specs.Nodes.{action_nodes}
 use Rattle.plus_expansion.specs.Literals.{call_literals}
 use Rattle.plus_expansion.specs.Counting.{most_nodes, counts_of}
-use Rattle.plus_limits.specs.Unfit.{IsUnfit, IsFirstUnfitAt}
+use Rattle.plus_expansion.specs.Unfit.{IsUnfit, IsFirstUnfitAt}
 use Rattle.plus_ground.specs.declared.faults.GroundFault.{GroundFault}
 use Rattle.plus_ground.specs.declared.faults.GroundFault.TheVariants as ground
 use Rattle.plus_ground.specs.declared.faults.InstanceFault.{InstanceFault}

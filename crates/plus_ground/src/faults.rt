@@ -4,7 +4,8 @@ ghost use Rattle.std.specs.Prelude.{◌≡◌};
 ghost use Rattle.plus_ground.specs.declared.faults.GroundFault.TheVariants as ground_faults;
 ghost use Rattle.plus_ground.specs.declared.faults.InstanceFault.TheVariants as instance_faults;
 
-use plus_numbering::{Count, CountFault};
+use plus_expansion::Count;
+use plus_numbering::CountFault;
 use plus_tree::Span;
 use plus_types::File;
 use std::alloc::{AllocError, AllocFailed};

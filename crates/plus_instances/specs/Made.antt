@@ -6,7 +6,7 @@ use Rattle.plus_state.specs.Fits.{ActionFits}
 use Rattle.plus_state.specs.View.{action_of}
 use Rattle.plus_types.specs.declared.typed.Typed.{Typed}
 use Rattle.plus_numbering.specs.Tables.{context}
-use Rattle.plus_numbering.specs.Numbers.{ground_names}
+use Rattle.plus_expansion.specs.Numbers.{ground_names}
 use Rattle.plus_expansion.specs.Calls.{called_of}
 use Rattle.plus_ground.specs.Refusals.{IsInstance}
 use Rattle.plus_instances.specs.declared.instances.Kept.{Kept}

@@ -9,7 +9,7 @@ use Rattle.plus_fraction.specs.Fraction.{Fraction}
 use Rattle.plus_number.specs.declared.frac.Frac64.{Frac64}
 use Rattle.plus_number.specs.Frac.{fraction_of, IsFrac64}
 use Rattle.plus_tree.specs.declared.trees.Call.{Call}
-use Rattle.plus_numbering.specs.Numbers.{label_of}
+use Rattle.plus_expansion.specs.Numbers.{label_of}
 use Rattle.plus_steps.specs.Stepped.{Move, Act, Tick, time_of_step, timed_acts, steps_after}
 use Rattle.plus_steps.specs.Laws.{CallName}
 use Rattle.plus_translation.specs.Laws.{stripped}

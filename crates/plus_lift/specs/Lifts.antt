@@ -6,7 +6,7 @@ use Rattle.plus_number.specs.Frac.{fraction_of, IsFrac64}
 use Rattle.plus_tree.specs.declared.trees.Call.{Call}
 use Rattle.plus_state.specs.declared.term.Sign.TheVariants.{Times}
 use Rattle.plus_state.specs.declared.outcome.TimedPlan.{TimedPlan}
-use Rattle.plus_numbering.specs.Numbers.{label_of}
+use Rattle.plus_expansion.specs.Numbers.{label_of}
 use Rattle.plus_steps.specs.Stepped.{Move, Act, Tick, time_of_step, timed}
 use Rattle.plus_steps.specs.Laws.{CallName}
 use Rattle.plus_translation.specs.Laws.{stripped}

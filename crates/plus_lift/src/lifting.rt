@@ -3,7 +3,7 @@
 ghost use Rattle.std.specs.Prelude.{◌≡◌, ◌<◌, ◌^◌, pos, IfOk, MatchResult};
 ghost use Rattle.plus_fraction.specs.Fraction.{whole};
 ghost use Rattle.plus_number.specs.Frac.{fraction_of};
-ghost use Rattle.plus_numbering.specs.Numbers.{label_of};
+ghost use Rattle.plus_expansion.specs.Numbers.{label_of};
 ghost use Rattle.plus_steps.specs.Stepped.{time_of_step};
 ghost use Rattle.plus_lift.specs.Lifts.{IsOverflow, IsLifted, IsNotLifted};
 

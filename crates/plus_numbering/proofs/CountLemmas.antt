@@ -2,12 +2,13 @@
 use Rattle.std.proofs.Common.{◌≡◌, ℕ, ◌<◌, ◌≤◌, ap, sym, ◌∙◌, length, cond, nat_lt, Option, Some, None, ⊎_elim}
 use Rattle.std.proofs.lemmas.Bool.{cases_lt}
 use Rattle.plus_types.specs.Faults.{Context}
-use Rattle.plus_numbering.specs.Numbers.{ground_names}
-use Rattle.plus_numbering.specs.declared.faults.Count.{Count}
-use Rattle.plus_numbering.specs.declared.faults.Count.TheVariants.{Atoms, Fluents}
+use Rattle.plus_expansion.specs.Numbers.{ground_names}
+use Rattle.plus_expansion.specs.declared.counts.Count.{Count}
+use Rattle.plus_expansion.specs.declared.counts.Count.TheVariants.{Atoms, Fluents}
 use Rattle.plus_numbering.specs.declared.faults.CountFault.{CountFault}
 use Rattle.plus_numbering.specs.declared.faults.CountFault.TheVariants.{TooMany, Memory}
-use Rattle.plus_numbering.specs.Counts.{Counted, first_over, name_counts, RefusesCount, IsOver}
+use Rattle.plus_expansion.specs.Counts.{Counted, first_over, name_counts}
+use Rattle.plus_numbering.specs.Refusals.{RefusesCount, IsOver}
 use Rattle.plus_numbering.proofs.RankLemmas.{lt-true, lt-false}
 
 pub not-over : (m n : ℕ) (c : Counted) (rest : Option Counted) → n ≤ m → cond (nat_lt m n) (Some c) rest ≡ rest

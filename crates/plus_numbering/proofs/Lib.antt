@@ -1,7 +1,4 @@
-pub mod Places
-pub mod Within
 pub mod PutLemmas
-pub mod ObjectsLemmas
 pub mod SizeLemmas
 pub mod RankLemmas
 pub mod NumberLemmas
@@ -10,3 +7,9 @@ pub mod TupleLemmas
 pub mod CountLemmas
 pub mod KindLemmas
 pub mod LabelLemmas
+pub mod Holding
+pub mod Sums
+pub mod Nodes
+pub mod Steps
+pub mod LimitLemmas
+pub mod Unfits

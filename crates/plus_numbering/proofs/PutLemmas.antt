@@ -14,10 +14,10 @@ use Rattle.plus_tree.specs.declared.terms.TypedName.{TypedName}
 use Rattle.plus_types.specs.Types.{is_among, Binding, bindings_of, is_under}
 use Rattle.plus_types.proofs.KindsLemmas.{map-append}
 use Rattle.plus_types.proofs.TypesLemmas.{same-bytes, bytes-self, bytes-swap}
-use Rattle.plus_numbering.specs.Objects.{places_from}
+use Rattle.plus_expansion.specs.Objects.{places_from}
 use Rattle.plus_numbering.specs.Tables.{places_of, IsPlace, AreBelow, ends_with, once}
-use Rattle.plus_numbering.proofs.ObjectsLemmas.{places-append, length-bindings}
-use Rattle.plus_numbering.proofs.Places.{same-number}
+use Rattle.plus_expansion.proofs.ObjectsLemmas.{places-append, length-bindings}
+use Rattle.plus_expansion.proofs.Places.{same-number}
 
 -- ---- the place of a name
 

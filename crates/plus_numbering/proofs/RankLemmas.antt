@@ -7,38 +7,9 @@ use Rattle.std.proofs.lemmas.List.{length-map}
 use Rattle.std.proofs.lemmas.Bool.{cases_lt}
 use Rattle.std.proofs.lemmas.Bool.Decides.{Decides-ltb}
 use Rattle.std.proofs.lemmas.Nat.{mul-add-lt}
-use Rattle.plus_numbering.specs.Objects.{tuples}
+use Rattle.plus_expansion.specs.Objects.{tuples}
+use Rattle.plus_expansion.proofs.Places.{place-below, place-here, place-there}
 use Rattle.plus_numbering.proofs.SizeLemmas.{blocks, length-tuples}
-
--- ---- first places in two lists, one after the other
-
-pub place-below : {X : Type 0} (p : X → Bool) (xs : List X) → position_or_len p xs ≤ length xs
-place-below p [] = omega arith
-place-below p (x ∷ xs) = by (p x) (place-below p xs)
-  where
-    by : (b : Bool) → position_or_len p xs ≤ length xs → cond (not b) (1 + position_or_len p xs) 0 ≤ length (x ∷ xs)
-    by true more = omega arith
-    by false more = omega arith
-
-pub place-here : {X : Type 0} (p : X → Bool) (xs ys : List X) → position_or_len p xs < length xs → position_or_len p (xs ++ ys) ≡ position_or_len p xs
-place-here p [] ys h = absurd (omega arith)
-place-here p (x ∷ xs) ys h = by (p x) h (place-here p xs ys)
-  where
-    by :
-        (b : Bool) → cond (not b) (1 + position_or_len p xs) 0 < length (x ∷ xs) → (position_or_len p xs < length xs → position_or_len p (xs ++ ys) ≡ position_or_len p xs)
-        → cond (not b) (1 + position_or_len p (xs ++ ys)) 0 ≡ cond (not b) (1 + position_or_len p xs) 0
-    by true h more = refl
-    by false h more = ap (λ n. 1 + n) (more (omega arith))
-
-pub place-there : {X : Type 0} (p : X → Bool) (xs ys : List X) → position_or_len p xs ≡ length xs → position_or_len p (xs ++ ys) ≡ length xs + position_or_len p ys
-place-there p [] ys h = let z : position_or_len p ys ≡ 0 + position_or_len p ys = omega arith in z
-place-there p (x ∷ xs) ys h = by (p x) h (place-there p xs ys)
-  where
-    by :
-        (b : Bool) → cond (not b) (1 + position_or_len p xs) 0 ≡ length (x ∷ xs) → (position_or_len p xs ≡ length xs → position_or_len p (xs ++ ys) ≡ length xs + position_or_len p ys)
-        → cond (not b) (1 + position_or_len p (xs ++ ys)) 0 ≡ length (x ∷ xs) + position_or_len p ys
-    by true h more = absurd (omega arith)
-    by false h more = let q : position_or_len p (xs ++ ys) ≡ length xs + position_or_len p ys = more (omega arith) in omega arith
 
 -- ---- a list of objects among those that begin alike
 

@@ -4,8 +4,8 @@ use Rattle.std.specs.List.{position_or_len}
 use Rattle.std.proofs.lemmas.Bool.{cases_lt}
 use Rattle.plus_tree.specs.declared.terms.TypedName.{TypedName}
 use Rattle.plus_types.specs.Faults.{Context}
-use Rattle.plus_numbering.specs.Objects.{members_of, extents_of, tuples}
-use Rattle.plus_numbering.proofs.ObjectsLemmas.{Rises, rises-places, rises-order, rises-place, place-nowhere}
+use Rattle.plus_expansion.specs.Objects.{members_of, extents_of, tuples}
+use Rattle.plus_expansion.proofs.ObjectsLemmas.{Rises, rises-places, rises-order, rises-place, place-nowhere}
 use Rattle.plus_numbering.proofs.SizeLemmas.{extents-step, size-step}
 use Rattle.plus_numbering.proofs.RankLemmas.{placed, placed-more, placed-lost, some-more, few-more, few-fits}
 

@@ -6,8 +6,8 @@ use Rattle.std.proofs.lemmas.Bool.{cases_lt}
 use Rattle.plus_tree.specs.declared.terms.TypedName.{TypedName}
 use Rattle.plus_tree.specs.declared.trees.Head.{Head}
 use Rattle.plus_types.specs.Faults.{Context}
-use Rattle.plus_numbering.specs.Objects.{members_of, extents_of, tuples}
-use Rattle.plus_numbering.specs.Numbers.{ground_names_from}
+use Rattle.plus_expansion.specs.Objects.{members_of, extents_of, tuples}
+use Rattle.plus_expansion.specs.Numbers.{ground_names_from}
 use Rattle.plus_numbering.specs.Tables.{starts_from}
 
 -- each first member, with each of these

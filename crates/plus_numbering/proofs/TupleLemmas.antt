@@ -5,7 +5,7 @@ use Rattle.std.proofs.lemmas.Nat.{div-add-mod', div_below}
 use Rattle.std.proofs.Math.Nat.{mul-div_right}
 use Rattle.plus_tree.specs.declared.terms.TypedName.{TypedName}
 use Rattle.plus_types.specs.Faults.{Context}
-use Rattle.plus_numbering.specs.Objects.{members_of, extents_of, tuples}
+use Rattle.plus_expansion.specs.Objects.{members_of, extents_of, tuples}
 use Rattle.plus_numbering.proofs.SizeLemmas.{blocks, extents-step, size-step}
 
 pub at-first : (xs ys : List (List ℕ)) (i : ℕ) → i < length xs → get_or (xs ++ ys) i [] ≡ get_or xs i []

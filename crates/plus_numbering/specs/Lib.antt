@@ -1,6 +1,5 @@
-pub mod Objects
-pub mod Numbers
-pub mod Limits
-pub mod Counts
 pub mod Tables
 pub mod Numbered
+pub mod Refusals
+pub mod Sizes
+pub mod Tested

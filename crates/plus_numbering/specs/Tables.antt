@@ -6,7 +6,7 @@ use Rattle.plus_tree.specs.declared.terms.TypedName.{TypedName}
 use Rattle.plus_tree.specs.declared.trees.Head.{Head}
 use Rattle.plus_types.specs.declared.typed.Typed.{Typed}
 use Rattle.plus_types.specs.Faults.{Context, problem_context}
-use Rattle.plus_numbering.specs.Objects.{extents_of, tuples}
+use Rattle.plus_expansion.specs.Objects.{extents_of, tuples}
 
 -- what a well-typed pair declares
 abbrev pub context : Typed → Context

@@ -1,11 +1,11 @@
 //! The objects of a well-typed pair by their types.
 
-ghost use Rattle.plus_numbering.specs.Limits.{MOST_OBJECTS};
 ghost use Rattle.std.specs.Prelude.{◌≡◌, ℕ, List, map, false, ◌+◌, ◌<◌, ◌≤◌, ◌^◌, [], ◌∷◌, ◌++◌, length, slice_index_or, if◌then◌else◌, OnOk, IfOk};
 ghost use Rattle.std.specs.List.{position_or_len};
 ghost use Rattle.std.specs.Str.{bytes_eq};
 ghost use Rattle.plus_types.specs.Types.{is_among, is_under, bindings_of, bound_names, objects_of};
-ghost use Rattle.plus_numbering.specs.Objects.{places_from, members_of};
+ghost use Rattle.plus_expansion.specs.Counts.{most_objects};
+ghost use Rattle.plus_expansion.specs.Objects.{places_from, members_of};
 ghost use Rattle.plus_numbering.specs.Tables.{context, places_of, once, IsPlace, AreBelow};
 
 use plus_tree::TypedName;
@@ -20,7 +20,7 @@ pub struct Extents<'a> {
     names: Names,
     lists: Vec<Vec<u32>>,
     ghost sizes: { length names ≡ length lists.items },
-    ghost few: { length (objects_of typed.now.domain typed.now.problem) ≤ MOST_OBJECTS },
+    ghost few: { length (objects_of typed.now.domain typed.now.problem) ≤ most_objects },
     ghost lists_are: { (kind : List ℕ) → places_of names (map (λ v. v.items) lists.items) kind ≡ members_of (context typed.now) kind },
 }
 
@@ -165,7 +165,7 @@ fn put_objects<'a>(
 impl<'a> Extents<'a> {
     /// Finds the objects of each type.
     pub fn new(alloc: Global, typed: &'a Typed) -> Result<Extents<'a>, AllocError>
-        requires { length (objects_of typed.now.domain typed.now.problem) ≤ MOST_OBJECTS }
+        requires { length (objects_of typed.now.domain typed.now.problem) ≤ most_objects }
         ensures { IfOk result (λ m. m.typed.now ≡ typed.now) }
     {
         let mut names = Names::new(alloc);
@@ -196,7 +196,7 @@ impl<'a> Extents<'a> {
     pub fn numbered(&self, number: usize, kind: &[u8]) -> &[u32]
         requires { number ≡ position_or_len (bytes_eq kind.now) self.now.names }
         ensures members { result.now ≡ members_of (context self.now.typed.now) kind.now }
-        ensures few { length result.now ≤ MOST_OBJECTS }
+        ensures few { length result.now ≤ most_objects }
     {
         if number < self.lists.len() {
             self.lists[number].as_slice()
@@ -208,7 +208,7 @@ impl<'a> Extents<'a> {
     /// The objects of a type, in order.
     pub fn of_type(&self, kind: &[u8]) -> &[u32]
         ensures members { result.now ≡ members_of (context self.now.typed.now) kind.now }
-        ensures few { length result.now ≤ MOST_OBJECTS }
+        ensures few { length result.now ≤ most_objects }
     {
         places(&self.names, &self.lists, kind)
     }

@@ -1,22 +1,11 @@
-//! What is counted, and the refusal of what is too many.
+//! The refusal of what is too many.
 
 ghost use Rattle.std.specs.Prelude.{◌≡◌};
 ghost use Rattle.plus_numbering.specs.declared.faults.CountFault.TheVariants as count_faults;
 
+use plus_expansion::Count;
 use std::alloc::{AllocError, AllocFailed};
 use thiserror::Error;
-
-/// What is counted.
-#[derive(Clone, Copy, Debug, PartialEq, Eq)]
-pub enum Count {
-    Objects,
-    Atoms,
-    Fluents,
-    Processes,
-    Events,
-    Actions,
-    Nodes,
-}
 
 /// Why the ground atoms and fluents of a pair are not numbered.
 #[derive(Debug, Drop, Error)]

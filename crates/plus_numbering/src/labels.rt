@@ -1,8 +1,8 @@
 //! The labels of ground atoms and fluents.
 
 ghost use Rattle.std.specs.Prelude.{◌≡◌, ◌<◌, ◌++◌, [], map, length, slice_index_or, IfOk, OnOk};
-ghost use Rattle.plus_numbering.specs.Objects.{extents_of, tuples, object_names};
-ghost use Rattle.plus_numbering.specs.Numbers.{label_of, ground_labels};
+ghost use Rattle.plus_expansion.specs.Objects.{extents_of, tuples, object_names};
+ghost use Rattle.plus_expansion.specs.Numbers.{label_of, ground_labels};
 ghost use Rattle.plus_numbering.specs.Tables.{context, starts_from, list_numbers};
 
 use crate::extents::Extents;

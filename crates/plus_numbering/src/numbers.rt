@@ -3,8 +3,8 @@
 ghost use Rattle.std.specs.Prelude.{◌≡◌, ℕ, ◌<◌, ◌≤◌, ◌^◌, map, length, get_or, nat_eq, MatchOption, IfOk};
 ghost use Rattle.std.specs.List.{position_or_len};
 ghost use Rattle.std.specs.Str.{bytes_eq};
-ghost use Rattle.plus_numbering.specs.Objects.{extents_of, tuples};
-ghost use Rattle.plus_numbering.specs.Numbers.{ground_names, number_of};
+ghost use Rattle.plus_expansion.specs.Objects.{extents_of, tuples};
+ghost use Rattle.plus_expansion.specs.Numbers.{ground_names, number_of};
 ghost use Rattle.plus_numbering.specs.Tables.{context, starts_from, list_numbers};
 
 use crate::extents::Extents;

@@ -1,13 +1,14 @@
 //! How many ground atoms or fluents there are, and where those of each predicate or function begin.
 
 ghost use Rattle.std.specs.Prelude.{◌≡◌, ◌+◌, ◌<◌, ◌≤◌, ◌^◌, min, length, MatchResult};
-ghost use Rattle.plus_numbering.specs.Objects.{extents_of, tuples};
-ghost use Rattle.plus_numbering.specs.Numbers.{ground_names};
-ghost use Rattle.plus_numbering.specs.Counts.{IsOver};
+ghost use Rattle.plus_expansion.specs.Objects.{extents_of, tuples};
+ghost use Rattle.plus_expansion.specs.Numbers.{ground_names};
+ghost use Rattle.plus_numbering.specs.Refusals.{IsOver};
 ghost use Rattle.plus_numbering.specs.Tables.{context, starts_from};
 
 use crate::extents::Extents;
-use crate::faults::{Count, CountFault};
+use crate::faults::CountFault;
+use plus_expansion::Count;
 use plus_tree::{Head, TypedName};
 use std::alloc::Global;
 

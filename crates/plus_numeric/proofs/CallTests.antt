@@ -14,9 +14,9 @@ use Rattle.plus_tree.specs.declared.trees.Problem as tree
 use Rattle.plus_tree.specs.declared.trees.Call.{Call}
 use Rattle.plus_types.specs.declared.faults.File.TheVariants as files
 use Rattle.plus_literal.specs.Value.{LiteralFits}
-use Rattle.plus_limits.specs.Unfit.{IsFirstUnfitAt}
-use Rattle.plus_numbering.specs.Counts.{Counted}
-use Rattle.plus_numbering.specs.declared.faults.Count.TheVariants.{Nodes}
+use Rattle.plus_expansion.specs.Unfit.{IsFirstUnfitAt}
+use Rattle.plus_expansion.specs.Counts.{Counted}
+use Rattle.plus_expansion.specs.declared.counts.Count.TheVariants.{Nodes}
 use Rattle.plus_expansion.specs.Nodes.{action_nodes}
 use Rattle.plus_expansion.specs.Literals.{call_literals}
 use Rattle.plus_expansion.specs.Counting.{most_nodes}

@@ -5,8 +5,8 @@ use Rattle.std.proofs.lemmas.Grind.{common_steps}
 use Rattle.std.proofs.lemmas.List.Elements.{All-head, All-tail}
 use Rattle.plus_state.proofs.Testing.{pass_none, pass_one, pass_append, fail_here, fail_right, none_fails}
 use Rattle.plus_state.specs.Tested as tested
-use Rattle.plus_limits.specs.Unfit.{IsFirstUnfit}
-use Rattle.plus_numbering.specs.Counts.{Counted, first_over}
+use Rattle.plus_expansion.specs.Unfit.{IsFirstUnfit}
+use Rattle.plus_expansion.specs.Counts.{Counted, first_over}
 use Rattle.plus_numeric.specs.Tests.{Test, count, Passes, AllPass, FirstFailing}
 
 -- ---- counts

@@ -30,7 +30,7 @@ use Rattle.plus_stepped.specs.Asked.{unless, action_tests, goal_tests}
 use Rattle.plus_stepped.proofs.Layers.{steps_carry}
 use Rattle.plus_stepped.proofs.Actions.{node_no_breach, no_action}
 use Rattle.plus_types.specs.declared.faults.File.TheVariants as files
-use Rattle.plus_numbering.specs.declared.faults.Count.TheVariants.{Nodes}
+use Rattle.plus_expansion.specs.declared.counts.Count.TheVariants.{Nodes}
 use Rattle.plus_expansion.specs.Nodes.{action_nodes}
 use Rattle.plus_expansion.specs.Literals.{call_literals}
 use Rattle.plus_expansion.specs.Counting.{most_nodes}

@@ -9,9 +9,9 @@ use Rattle.plus_tree.specs.declared.trees.Domain.{Domain}
 use Rattle.plus_tree.specs.declared.trees.Problem as tree
 use Rattle.plus_types.specs.declared.faults.File.{File}
 use Rattle.plus_literal.specs.Value.{LiteralFits}
-use Rattle.plus_limits.specs.Unfit.{IsUnfit}
-use Rattle.plus_numbering.specs.declared.faults.Count.{Count}
-use Rattle.plus_numbering.specs.Counts.{Counted, first_over}
+use Rattle.plus_expansion.specs.Unfit.{IsUnfit}
+use Rattle.plus_expansion.specs.declared.counts.Count.{Count}
+use Rattle.plus_expansion.specs.Counts.{Counted, first_over}
 use Rattle.plus_expansion.specs.Literals.{literals_of}
 use Rattle.plus_expansion.specs.Counting.{counts_of, IsGroundable}
 use Rattle.plus_numeric.specs.declared.level.Place.{Place}

@@ -16,8 +16,8 @@ use Rattle.plus_tree.specs.declared.trees.Domain.{Domain}
 use Rattle.plus_tree.specs.declared.trees.Problem as tree
 use Rattle.plus_tree.specs.declared.trees.Call.{Call}
 use Rattle.plus_types.specs.declared.faults.File.{File}
-use Rattle.plus_numbering.specs.declared.faults.Count.{Count}
-use Rattle.plus_numbering.specs.Counts.{Counted}
+use Rattle.plus_expansion.specs.declared.counts.Count.{Count}
+use Rattle.plus_expansion.specs.Counts.{Counted}
 use Rattle.plus_ground.specs.Refusals.{RefusesGround}
 use Rattle.plus_ground.specs.declared.faults.GroundFault.TheVariants as faults
 use Rattle.plus_expansion.specs.Expansion.{expanded, labels_meant}

@@ -9,7 +9,7 @@ use Rattle.plus_tree.specs.declared.trees.Problem as tree
 use Rattle.plus_types.specs.declared.faults.File.{File}
 use Rattle.plus_types.specs.declared.faults.File.TheVariants as files
 use Rattle.plus_tree.specs.declared.terms.Literal.{Literal}
-use Rattle.plus_numbering.specs.declared.faults.Count.TheVariants.{Nodes}
+use Rattle.plus_expansion.specs.declared.counts.Count.TheVariants.{Nodes}
 use Rattle.plus_plan.specs.declared.forms.Line.{Line}
 use Rattle.plus_plan.specs.declared.forms.Line.TheVariants.{Blank, Act, End, Step}
 use Rattle.plus_plan.specs.declared.forms.PlanForm.TheVariants.{Untimed}

@@ -5,7 +5,7 @@ use Rattle.plus_state.specs.Tested as tested
 use Rattle.plus_tree.specs.declared.terms.Literal.{Literal}
 use Rattle.plus_types.specs.declared.faults.File.{File}
 use Rattle.plus_literal.specs.Value.{LiteralFits}
-use Rattle.plus_numbering.specs.Counts.{Counted}
+use Rattle.plus_expansion.specs.Counts.{Counted}
 use Rattle.plus_plan.specs.declared.faults.PlanFault.{PlanFault}
 use Rattle.plus_plan.specs.declared.faults.PlanFault.TheVariants.{NotLine, LineTooLong, Memory}
 use Rattle.plus_stepped.specs.Tests as stepped

@@ -11,8 +11,8 @@ use Rattle.plus_state.specs.declared.term.Overflow.{Overflow}
 use Rattle.plus_state.specs.declared.outcome.Breach.{Breach}
 use Rattle.plus_state.specs.declared.outcome.Breach.TheVariants as breaches
 use Rattle.plus_state.specs.declared.outcome.Limit.TheVariants.{Number}
-use Rattle.plus_numbering.specs.declared.faults.Count.{Count}
-use Rattle.plus_numbering.specs.declared.faults.Count.TheVariants as counts
+use Rattle.plus_expansion.specs.declared.counts.Count.{Count}
+use Rattle.plus_expansion.specs.declared.counts.Count.TheVariants as counts
 use Rattle.plus_plan.specs.declared.faults.PlanFault.{PlanFault}
 use Rattle.plus_plan.specs.declared.faults.PlanFault.TheVariants as faults
 use Rattle.plus_expansion.specs.Expansion.{expanded, labels_meant}

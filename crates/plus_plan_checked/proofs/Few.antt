@@ -12,7 +12,7 @@ use Rattle.plus_tree.specs.declared.trees.Schema.{Schema}
 use Rattle.plus_tree.specs.declared.trees.Domain.{Domain}
 use Rattle.plus_tree.specs.declared.trees.Problem.{Problem}
 use Rattle.plus_types.specs.Faults.{Context, problem_context, action_names}
-use Rattle.plus_numbering.specs.Objects.{members_of, object_place}
+use Rattle.plus_expansion.specs.Objects.{members_of, object_place}
 use Rattle.plus_expansion.specs.Environments.{Environment}
 use Rattle.plus_expansion.specs.Calls.{bound_by, called_in, called_by, called_of}
 use Rattle.plus_plan_text.specs.Written.{TimedCall, HasFewArguments, written_plan, HasShortLines}

@@ -9,7 +9,7 @@ use Rattle.plus_fraction.specs.Fraction.{Fraction}
 use Rattle.plus_tokens.specs.Bytes.{is_letter, is_digit, is_name_byte}
 use Rattle.plus_tokens.specs.Spelling.{Each}
 use Rattle.plus_tokens.proofs.Runs.{apart}
-use Rattle.plus_numbering.specs.Numbers.{spaced, label_of}
+use Rattle.plus_expansion.specs.Numbers.{spaced, label_of}
 use Rattle.plus_report.specs.Text.{bottom_text, fraction_text}
 use Rattle.plus_report.specs.Plans.{act_line, end_line}
 use Rattle.plus_plan.specs.Cut.{with_front, lines_of, goes_on}

@@ -6,7 +6,7 @@ use Rattle.plus_fraction.specs.Fraction.{Fraction}
 use Rattle.plus_tokens.specs.declared.token.Kind.TheVariants as kinds
 use Rattle.plus_tokens.specs.Bytes.{is_letter}
 use Rattle.plus_tokens.specs.Spelling.{begins}
-use Rattle.plus_numbering.specs.Numbers.{label_of}
+use Rattle.plus_expansion.specs.Numbers.{label_of}
 use Rattle.plus_report.specs.Text.{fraction_text}
 use Rattle.plus_plan.specs.declared.forms.Time.{Time}
 use Rattle.plus_plan.specs.declared.forms.Line.TheVariants as lines

@@ -17,7 +17,7 @@ use Rattle.plus_tokens.specs.Bytes.{ends_number}
 use Rattle.plus_tokens.specs.Spelling.{begins}
 use Rattle.plus_tokens.specs.Lowered.{lowered}
 use Rattle.plus_tree.specs.declared.trees.Call.{Call}
-use Rattle.plus_numbering.specs.Numbers.{spaced, label_of}
+use Rattle.plus_expansion.specs.Numbers.{spaced, label_of}
 use Rattle.plus_report.specs.Text.{bottom_text, fraction_text}
 use Rattle.plus_plan.specs.declared.forms.Time.{Time}
 use Rattle.plus_tokens.specs.Items.{Piece}

@@ -4,7 +4,7 @@ use Rattle.std.specs.Prelude.{◌==◌, codes, decimal, All}
 use Rattle.std.specs.Fmt.{signed_decimal}
 use Rattle.std.proofs.lemmas.List.Elements.{All-nil, All-cons, All-head, All-tail}
 use Rattle.plus_fraction.specs.Fraction.{Fraction}
-use Rattle.plus_numbering.specs.Numbers.{spaced, label_of}
+use Rattle.plus_expansion.specs.Numbers.{spaced, label_of}
 use Rattle.plus_report.specs.Text.{bottom_text, fraction_text}
 use Rattle.plus_plan.specs.Cut.{lines_of}
 use Rattle.plus_plan_text.specs.Written.{TimedCall, IsPlainName, IsPlanTime, IsPlainCall, HasFewArguments, written_plan, HasShortLines}

@@ -6,7 +6,7 @@ use Rattle.plus_number.specs.Frac.{IsFrac64}
 use Rattle.plus_tokens.specs.Spelling.{IsName}
 use Rattle.plus_tokens.specs.Lowered.{lowered}
 use Rattle.plus_tree.specs.declared.trees.Call.{Call}
-use Rattle.plus_numbering.specs.Numbers.{label_of}
+use Rattle.plus_expansion.specs.Numbers.{label_of}
 use Rattle.plus_report.specs.Plans.{Timed, plan_text}
 use Rattle.plus_plan.specs.declared.forms.Time.{Time}
 use Rattle.plus_plan.specs.declared.forms.Line.{Line}

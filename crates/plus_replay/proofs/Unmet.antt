@@ -9,7 +9,7 @@ use Rattle.plus_state.specs.Fits.{Fits, StateFits, ActionFits}
 use Rattle.plus_state.specs.View.{problem_of}
 use Rattle.plus_types.specs.declared.typed.Typed.{Typed}
 use Rattle.plus_numbering.specs.Tables.{context}
-use Rattle.plus_numbering.specs.Numbers.{ground_names}
+use Rattle.plus_expansion.specs.Numbers.{ground_names}
 use Rattle.plus_timeline.specs.Timeline.{TimelineView}
 use Rattle.plus_timeline.specs.Serving.{Serves}
 use Rattle.plus_replay.specs.Replay.{IsGroundOf}

@@ -25,8 +25,8 @@ use Rattle.plus_tree.specs.Effect as effects
 use Rattle.plus_tree.specs.Effect.{Effects, e_all, e_forall, e_when, e_leaf, no_effects, more_effects}
 use Rattle.plus_types.specs.Faults.{Context, is_clock}
 use Rattle.plus_literal.specs.Value.{literal_value}
-use Rattle.plus_numbering.specs.Objects.{members_of, extents_of, tuples, object_place}
-use Rattle.plus_numbering.specs.Numbers.{ground_names_from, ground_names, is_same, head_names, number_of}
+use Rattle.plus_expansion.specs.Objects.{members_of, extents_of, tuples, object_place}
+use Rattle.plus_expansion.specs.Numbers.{ground_names_from, ground_names, is_same, head_names, number_of}
 use Rattle.plus_expansion.specs.Environments.{Environment, environments, term_object, use_objects, atom_number, fluent_number}
 use Rattle.plus_expansion.specs.Expansion.{chained, expression_meant, expressions_meant, test_meant, condition_meant, conditions_meant, write_meant, leaf_meant, effects_meant, all_effects_meant, factor_meant, amount_meant, rate_meant, rates_meant, all_rates_meant, instance_label, event_meant, process_meant, action_meant, instances_of, held_by, given_by, truths_from, values_from, initial_state, literal_at, timed_by, by_time, timed_meant}
 use Rattle.plus_expansion.specs.Calls.{bound_by}

@@ -16,7 +16,7 @@ use Rattle.plus_tree.specs.Effect as effects
 use Rattle.plus_tree.specs.Effect.{Effects, e_all, e_when, effects_of}
 use Rattle.plus_types.specs.Types.{bindings_of}
 use Rattle.plus_types.specs.Faults.{Context}
-use Rattle.plus_numbering.specs.Numbers.{ground_names, head_names}
+use Rattle.plus_expansion.specs.Numbers.{ground_names, head_names}
 use Rattle.plus_expansion.specs.Environments.{Environment, environments}
 use Rattle.plus_expansion.specs.Expansion.{expression_meant, condition_meant, conditions_meant, effects_meant, all_effects_meant, event_meant, process_meant, action_meant, instances_of}
 use Rattle.plus_expansion.proofs.Members.{Stands}

@@ -17,9 +17,9 @@ use Rattle.plus_tree.specs.declared.trees.Init.{Init}
 use Rattle.plus_tree.specs.declared.trees.Init.TheVariants.{Holds, Absent, Value, At, AtNot}
 use Rattle.plus_types.specs.Faults.{Context, use_faults, initial_faults, valued_after, init_faults}
 use Rattle.plus_types.proofs.SoundLemmas.{left-none, right-none}
-use Rattle.plus_numbering.specs.Objects.{members_of, extents_of, tuples}
-use Rattle.plus_numbering.specs.Numbers.{ground_names, ground_names_from, head_names, number_of}
-use Rattle.plus_numbering.proofs.Places.{same-number}
+use Rattle.plus_expansion.specs.Objects.{members_of, extents_of, tuples}
+use Rattle.plus_expansion.specs.Numbers.{ground_names, ground_names_from, head_names, number_of}
+use Rattle.plus_expansion.proofs.Places.{same-number}
 use Rattle.plus_expansion.specs.Environments.{environments, atom_number, fluent_number}
 use Rattle.plus_expansion.specs.Expansion.{held_by, given_by, truths_from, value_given, values_from, initial_state, timed_meant, event_meant, instances_of}
 use Rattle.plus_literal.specs.Value.{literal_value}

@@ -15,8 +15,8 @@ use Rattle.plus_tree.specs.Effect as effects
 use Rattle.plus_tree.specs.Effect.{Effects, e_when, effects_of}
 use Rattle.plus_types.specs.Types.{bindings_of}
 use Rattle.plus_types.specs.Faults.{Context}
-use Rattle.plus_numbering.specs.Objects.{extents_of, tuples}
-use Rattle.plus_numbering.specs.Numbers.{ground_names, head_names, number_of}
+use Rattle.plus_expansion.specs.Objects.{extents_of, tuples}
+use Rattle.plus_expansion.specs.Numbers.{ground_names, head_names, number_of}
 use Rattle.plus_expansion.specs.Environments.{Environment, environments, term_object, use_objects, atom_number}
 use Rattle.plus_expansion.specs.Expansion.{condition_meant, effects_meant, event_meant}
 use Rattle.plus_expansion.proofs.WellTyped.{SchemaTyped}

@@ -17,8 +17,8 @@ use Rattle.plus_tree.specs.Cond.{c_any, conds_of}
 use Rattle.plus_types.specs.Types.{Binding, bindings_of, bound_names}
 use Rattle.plus_types.specs.Faults.{Context, domain_context, problem_context, type_faults}
 use Rattle.plus_types.proofs.TypesLemmas.{same-bytes}
-use Rattle.plus_numbering.specs.Objects.{object_place}
-use Rattle.plus_numbering.specs.Numbers.{ground_names, head_names}
+use Rattle.plus_expansion.specs.Objects.{object_place}
+use Rattle.plus_expansion.specs.Numbers.{ground_names, head_names}
 use Rattle.plus_expansion.specs.Environments.{Environment, fluent_number}
 use Rattle.plus_expansion.specs.Expansion.{effects_meant, timed_by, action_meant, expanded}
 use Rattle.plus_expansion.specs.Calls.{bound_by, called_in, called_by, called_of}

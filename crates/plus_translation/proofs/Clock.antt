@@ -26,10 +26,9 @@ use Rattle.plus_tree.specs.Effect as effects
 use Rattle.plus_types.specs.Faults.{Context, use_faults, initial_faults, valued_after, init_faults}
 use Rattle.plus_types.proofs.SoundLemmas.{left-none, right-none}
 use Rattle.plus_literal.specs.Value.{literal_value}
-use Rattle.plus_numbering.specs.Numbers.{ground_names, head_names, is_same, number_of}
-use Rattle.plus_numbering.proofs.NumberLemmas.{ground-none, length-names}
-use Rattle.plus_numbering.proofs.RankLemmas.{place-there}
-use Rattle.plus_numbering.proofs.Places.{same-number}
+use Rattle.plus_expansion.specs.Numbers.{ground_names, head_names, is_same, number_of}
+use Rattle.plus_expansion.proofs.GroundNames.{ground-none, length-names}
+use Rattle.plus_expansion.proofs.Places.{place-there, same-number}
 use Rattle.plus_expansion.specs.Environments.{atom_number, fluent_number}
 use Rattle.plus_expansion.specs.Expansion.{write_meant, effects_meant, literal_at, timed_by, insert_timed, by_time, timed_meant}
 use Rattle.plus_steps.specs.Stepped.{time_of_step}

@@ -25,9 +25,9 @@ use Rattle.plus_types.specs.declared.faults.Wrong.TheVariants.{Arity}
 use Rattle.plus_types.proofs.SoundLemmas.{right-none}
 use Rattle.plus_types.proofs.TypesLemmas.{same-bytes, bytes-self}
 use Rattle.plus_literal.specs.Value.{literal_value}
-use Rattle.plus_numbering.specs.Objects.{object_place}
-use Rattle.plus_numbering.specs.Numbers.{number_of}
-use Rattle.plus_numbering.proofs.Places.{same-number}
+use Rattle.plus_expansion.specs.Objects.{object_place}
+use Rattle.plus_expansion.specs.Numbers.{number_of}
+use Rattle.plus_expansion.proofs.Places.{same-number}
 use Rattle.plus_expansion.specs.Environments.{term_object, use_objects, atom_number}
 use Rattle.plus_expansion.specs.Expansion.{held_by, literal_at, timed_by, timed_meant}
 use Rattle.plus_expansion.proofs.Uses.{Widens, atom-within}

@@ -10,8 +10,8 @@ use Rattle.plus_model.specs.Value.{holds}
 use Rattle.plus_tree.specs.declared.trees.Schema.{Schema}
 use Rattle.plus_tree.specs.Cond.{Cond, c_not, c_atom}
 use Rattle.plus_types.specs.Faults.{Context}
-use Rattle.plus_numbering.specs.Objects.{extents_of, tuples}
-use Rattle.plus_numbering.specs.Numbers.{ground_names, head_names}
+use Rattle.plus_expansion.specs.Objects.{extents_of, tuples}
+use Rattle.plus_expansion.specs.Numbers.{ground_names, head_names}
 use Rattle.plus_expansion.specs.Environments.{Environment, environments, atom_number}
 use Rattle.plus_expansion.specs.Expansion.{condition_meant, effects_meant, event_meant, instances_of}
 use Rattle.plus_expansion.proofs.WellTyped.{SchemaTyped}

@@ -25,7 +25,7 @@ use Rattle.plus_types.specs.Faults.{Context, is_clock, is_rate, is_rate_amount, 
 use Rattle.plus_types.specs.declared.faults.Wrong.TheVariants.{RateForm}
 use Rattle.plus_types.proofs.TypesLemmas.{same-bytes}
 use Rattle.plus_types.proofs.SoundLemmas.{left-none, right-none}
-use Rattle.plus_numbering.specs.Objects.{members_of}
+use Rattle.plus_expansion.specs.Objects.{members_of}
 use Rattle.plus_expansion.specs.Environments.{Environment, environments, bound_object, fluent_number}
 use Rattle.plus_expansion.specs.Expansion.{expression_meant, condition_meant, write_meant, effects_meant, amount_meant, rate_meant, rates_meant, all_rates_meant}
 use Rattle.plus_expansion.proofs.Members.{Stands, AreNew, is_member, stands-more, variables-new}

@@ -12,9 +12,9 @@ use Rattle.plus_types.specs.Types.{Binding, bound_names, kind_of}
 use Rattle.plus_types.specs.Faults.{Context, term_name, term_faults, known_faults, kind_of_faults, argument_faults, arguments_faults}
 use Rattle.plus_types.proofs.SoundLemmas.{left-none, right-none}
 use Rattle.plus_types.proofs.TypesLemmas.{same-bytes}
-use Rattle.plus_numbering.specs.Numbers.{ground_names, head_names, is_same, number_of}
-use Rattle.plus_numbering.proofs.RankLemmas.{place-below}
-use Rattle.plus_numbering.proofs.NumberLemmas.{ground-none, length-names}
+use Rattle.plus_expansion.specs.Numbers.{ground_names, head_names, is_same, number_of}
+use Rattle.plus_expansion.proofs.Places.{place-below}
+use Rattle.plus_expansion.proofs.GroundNames.{ground-none, length-names}
 use Rattle.plus_expansion.specs.Environments.{term_object}
 
 -- what stands at a place that was found passes the test

@@ -14,12 +14,11 @@ use Rattle.plus_tree.specs.declared.trees.Head.{Head}
 use Rattle.plus_tree.specs.declared.trees.Schema.{Schema}
 use Rattle.plus_types.specs.Faults.{Context}
 use Rattle.plus_types.proofs.TypesLemmas.{bytes-self, same-bytes}
-use Rattle.plus_numbering.specs.Objects.{members_of, extents_of, tuples}
-use Rattle.plus_numbering.specs.Numbers.{ground_names_from, ground_names, is_same, head_names, number_of}
-use Rattle.plus_numbering.proofs.ObjectsLemmas.{Rises, rises-places}
-use Rattle.plus_numbering.proofs.Places.{any-begun, any-blocks}
-use Rattle.plus_numbering.proofs.RankLemmas.{place-here, place-there}
-use Rattle.plus_numbering.proofs.NumberLemmas.{own, length-own, ground-here, ground-other, ground-none, length-names}
+use Rattle.plus_expansion.specs.Objects.{members_of, extents_of, tuples}
+use Rattle.plus_expansion.specs.Numbers.{ground_names_from, ground_names, is_same, head_names, number_of}
+use Rattle.plus_expansion.proofs.ObjectsLemmas.{Rises, rises-places}
+use Rattle.plus_expansion.proofs.Places.{any-begun, any-blocks, place-here, place-there}
+use Rattle.plus_expansion.proofs.GroundNames.{own, length-own, ground-here, ground-other, ground-none, length-names}
 use Rattle.plus_expansion.specs.Environments.{Environment, environments, bound_object}
 use Rattle.plus_expansion.proofs.Members.{all-flat}
 use Rattle.plus_translation.specs.Renamed.{numeral, fresh_name, renamed_list}

@@ -27,8 +27,8 @@ use Rattle.plus_types.specs.Types.{Binding, bindings_of, bound_names, kind_of}
 use Rattle.plus_types.specs.Faults.{Context, params_of, term_kind, term_faults, known_faults, kind_of_faults, argument_faults, arguments_faults, declared_faults, use_faults, expr_faults, exprs_faults, variables_faults, cond_faults, conds_faults, fault_where, write_faults, leaf_faults, leaves_faults, effect_faults, effects_faults}
 use Rattle.plus_types.proofs.SoundLemmas.{left-none, right-none}
 use Rattle.plus_types.proofs.TypesLemmas.{bytes-self}
-use Rattle.plus_numbering.specs.Objects.{members_of}
-use Rattle.plus_numbering.specs.Numbers.{number_of}
+use Rattle.plus_expansion.specs.Objects.{members_of}
+use Rattle.plus_expansion.specs.Numbers.{number_of}
 use Rattle.plus_expansion.specs.Environments.{Environment, environments, bound_object, term_object, use_objects, atom_number, fluent_number}
 use Rattle.plus_expansion.specs.Expansion.{chained, expression_meant, expressions_meant, test_meant, condition_meant, conditions_meant, write_meant, leaf_meant, effects_meant, all_effects_meant}
 use Rattle.plus_expansion.proofs.Members.{Stands, AreNew, is_member, stands-more, variables-new}

@@ -17,7 +17,7 @@ use Rattle.plus_tree.specs.Effect.{Effects, e_all, e_forall, e_when, e_leaf, no_
 use Rattle.plus_types.specs.Types.{Binding, bindings_of}
 use Rattle.plus_types.specs.Faults.{Context, variables_faults, cond_faults, leaf_faults, leaves_faults, effect_faults, effects_faults}
 use Rattle.plus_types.proofs.SoundLemmas.{left-none, right-none}
-use Rattle.plus_numbering.specs.Objects.{members_of}
+use Rattle.plus_expansion.specs.Objects.{members_of}
 use Rattle.plus_expansion.specs.Environments.{Environment, environments, bound_object}
 use Rattle.plus_expansion.specs.Expansion.{condition_meant, write_meant, leaf_meant, effects_meant, all_effects_meant}
 use Rattle.plus_expansion.proofs.Members.{Stands, AreNew, is_member, stands-more, variables-new}

@@ -8,10 +8,10 @@ use Rattle.plus_tree.specs.declared.terms.TypedName.{TypedName}
 use Rattle.plus_tree.specs.declared.trees.Head.{Head}
 use Rattle.plus_types.specs.Types.{Binding}
 use Rattle.plus_types.specs.Faults.{Context}
-use Rattle.plus_numbering.specs.Objects.{places_from, members_of, extents_of, tuples}
-use Rattle.plus_numbering.specs.Numbers.{ground_names_from, ground_names, is_same, head_names, number_of}
-use Rattle.plus_numbering.proofs.RankLemmas.{place-below, place-here}
-use Rattle.plus_numbering.proofs.NumberLemmas.{ground-none, length-names}
+use Rattle.plus_expansion.specs.Objects.{places_from, members_of, extents_of, tuples}
+use Rattle.plus_expansion.specs.Numbers.{ground_names_from, ground_names, is_same, head_names, number_of}
+use Rattle.plus_expansion.proofs.Places.{place-below, place-here}
+use Rattle.plus_expansion.proofs.GroundNames.{ground-none, length-names}
 
 -- the second context has the types and objects of the first
 pub record SameWorld (c c' : Context) : Type 0 where

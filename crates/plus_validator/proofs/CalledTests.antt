@@ -10,7 +10,7 @@ use Rattle.plus_tokens.specs.declared.span.Span.{Span}
 use Rattle.plus_tree.specs.declared.terms.Literal.{Literal}
 use Rattle.plus_tree.specs.declared.trees.Call.{Call}
 use Rattle.plus_literal.specs.Value.{LiteralFits}
-use Rattle.plus_limits.specs.Unfit.{IsFirstUnfitAt}
+use Rattle.plus_expansion.specs.Unfit.{IsFirstUnfitAt}
 use Rattle.plus_plan.specs.declared.forms.Line.{Line}
 use Rattle.plus_plan.specs.declared.forms.Line.TheVariants as lines
 use Rattle.plus_plan.specs.declared.forms.Time.{Time}

@@ -10,7 +10,7 @@ use Rattle.plus_state.specs.declared.problem.Ground.{Ground}
 use Rattle.plus_tree.specs.declared.trees.Domain.{Domain}
 use Rattle.plus_tree.specs.declared.trees.Problem as tree
 use Rattle.plus_types.specs.Faults.{problem_context}
-use Rattle.plus_numbering.specs.Numbers.{ground_names}
+use Rattle.plus_expansion.specs.Numbers.{ground_names}
 use Rattle.plus_validator.specs.Playing.{IsGroundOf}
 
 pub instance_fits : {E : Ghosts Frac64} (d : Domain) (p : tree.Problem) (g : Ground Frac64 E) (a : Action) → IsGroundOf d p g

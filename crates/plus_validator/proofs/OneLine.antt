@@ -9,9 +9,9 @@ use Rattle.plus_tree.specs.declared.trees.Domain.{Domain}
 use Rattle.plus_tree.specs.declared.trees.Problem.{Problem}
 use Rattle.plus_types.specs.declared.faults.File.{File}
 use Rattle.plus_literal.specs.Value.{LiteralFits}
-use Rattle.plus_numbering.specs.Counts.{Counted}
+use Rattle.plus_expansion.specs.Counts.{Counted}
 use Rattle.plus_expansion.specs.Literals.{literals_of}
-use Rattle.plus_limits.specs.Unfit.{IsFirstUnfit}
+use Rattle.plus_expansion.specs.Unfit.{IsFirstUnfit}
 use Rattle.plus_ground.specs.declared.faults.GroundFault.{GroundFault}
 use Rattle.plus_ground.specs.declared.faults.GroundFault.TheVariants as faults
 use Rattle.plus_ground.specs.Refusals.{RefusesGround}

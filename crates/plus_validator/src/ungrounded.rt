@@ -2,14 +2,16 @@
 ghost use Rattle.std.specs.Prelude.{◌≡◌};
 ghost use Rattle.plus_ground.specs.Refusals.{RefusesGround};
 ghost use Rattle.plus_number.specs.Frac.{IsFrac64};
-ghost use Rattle.plus_numbering.specs.Counts.{name_counts, RefusesCount};
+ghost use Rattle.plus_expansion.specs.Counts.{name_counts};
+ghost use Rattle.plus_numbering.specs.Refusals.{RefusesCount};
 ghost use Rattle.plus_tree.specs.declared.trees.Domain.{Domain};
 ghost use Rattle.plus_tree.specs.declared.trees.Problem.{Problem};
 ghost use Rattle.plus_types.specs.Faults.{problem_context};
 ghost use Rattle.plus_validator.specs.Validates.{kind_meant, file_meant, fault_meant};
 
+use plus_expansion::Count;
 use plus_ground::GroundFault;
-use plus_numbering::{Count, CountFault};
+use plus_numbering::CountFault;
 use plus_report::{Early, Kinds, Text};
 use plus_types::File;
 

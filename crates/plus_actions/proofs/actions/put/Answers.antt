@@ -1,7 +1,7 @@
 use Rattle.std.proofs.Common.{◌∙◌, ap, map}
 use Rattle.plus_state.specs.View.{action_of}
 use Rattle.plus_types.specs.Faults.{problem_context}
-use Rattle.plus_numbering.specs.Objects.{object_names}
+use Rattle.plus_expansion.specs.Objects.{object_names}
 use Rattle.plus_ground.proofs.EnvironmentsLemmas.{none_given}
 use Rattle.plus_actions.proofs.InstancesLemmas.{named_with, one_call, all_calls}
 use Rattle.plus_actions.proofs.actions.put.Goals as goal

@@ -1,6 +1,6 @@
 use Rattle.std.proofs.Common.{◌≡◌, take}
 use Rattle.plus_types.specs.Faults.{problem_context}
-use Rattle.plus_numbering.specs.Objects.{object_names}
+use Rattle.plus_expansion.specs.Objects.{object_names}
 use Rattle.plus_actions.proofs.calls.args.Given as goal
 
 -- the names of the objects so far

@@ -2,7 +2,7 @@ use Rattle.std.proofs.Common.{refl}
 use Rattle.std.specs.List.{flat_map}
 use Rattle.std.proofs.lemmas.Result.{err_from_is_err_and}
 use Rattle.plus_expansion.specs.Literals.{schema_literals}
-use Rattle.plus_limits.proofs.Unfits.{member_fits, member_unfit}
+use Rattle.plus_numbering.proofs.Unfits.{member_fits, member_unfit}
 use Rattle.plus_actions.proofs.literals.fit.Goals as goal
 
 pub schemas-preserved : goal.schemas-preserved

@@ -1,7 +1,7 @@
 use Rattle.std.proofs.Common.{drop}
 use Rattle.std.specs.List.{flat_map}
 use Rattle.plus_expansion.specs.Literals.{schema_literals}
-use Rattle.plus_limits.proofs.Unfits.{Left}
+use Rattle.plus_numbering.proofs.Unfits.{Left}
 use Rattle.plus_actions.proofs.literals.fit.Given as goal
 
 -- the literals of those walked so far fit

@@ -2,7 +2,7 @@ use Rattle.std.proofs.Common.{◌≡◌, ◌∙◌, ap, sym, subst, true, ◌++�
 use Rattle.std.specs.Prelude.{IfOk, Option, Some, None}
 use Rattle.std.specs.List.{list_any}
 use Rattle.plus_types.specs.Faults.{problem_context}
-use Rattle.plus_numbering.specs.Objects.{members_of, object_place}
+use Rattle.plus_expansion.specs.Objects.{members_of, object_place}
 use Rattle.plus_expansion.specs.Environments.{Environment}
 use Rattle.plus_expansion.specs.Calls.{bound_by}
 use Rattle.plus_ground.proofs.AmongLemmas.{members_rise}

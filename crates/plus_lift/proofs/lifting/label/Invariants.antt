@@ -1,5 +1,5 @@
 use Rattle.std.proofs.Common.{◌≡◌, [], ◌∷◌, ◌++◌, drop}
-use Rattle.plus_numbering.specs.Numbers.{spaced, label_of}
+use Rattle.plus_expansion.specs.Numbers.{spaced, label_of}
 use Rattle.plus_lift.proofs.lifting.label.Given as goal
 
 -- with the names that are still to come, the text is the label

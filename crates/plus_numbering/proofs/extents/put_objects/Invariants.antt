@@ -1,6 +1,6 @@
 use Rattle.std.proofs.Common.{◌≡◌, ℕ, List, ◌+◌, ◌++◌, length, map, take}
 use Rattle.plus_types.specs.Types.{is_among, is_under, bindings_of}
-use Rattle.plus_numbering.specs.Objects.{places_from}
+use Rattle.plus_expansion.specs.Objects.{places_from}
 use Rattle.plus_numbering.specs.Tables.{places_of}
 use Rattle.plus_numbering.proofs.extents.put_objects.Given as goal
 

@@ -1,7 +1,7 @@
 use Rattle.std.proofs.Common.{◌≡◌, ◌++◌, map, take}
 use Rattle.plus_types.specs.Faults.{problem_context}
-use Rattle.plus_numbering.specs.Objects.{extents_of, tuples, object_names}
-use Rattle.plus_numbering.specs.Numbers.{label_of}
+use Rattle.plus_expansion.specs.Objects.{extents_of, tuples, object_names}
+use Rattle.plus_expansion.specs.Numbers.{label_of}
 use Rattle.plus_numbering.proofs.labels.add_labels.Given as goal
 
 abbrev pub invariant-places : goal.invariant-places

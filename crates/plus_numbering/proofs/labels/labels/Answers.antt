@@ -2,8 +2,8 @@ use Rattle.std.proofs.Common.{◌∙◌, ◌+◌, ◌++◌, ap, sym, length, dro
 use Rattle.std.proofs.lemmas.List.{length-map}
 use Rattle.plus_tree.specs.declared.trees.Head.{Head}
 use Rattle.plus_types.specs.Faults.{problem_context}
-use Rattle.plus_numbering.specs.Objects.{extents_of, tuples, object_names}
-use Rattle.plus_numbering.specs.Numbers.{label_of, ground_labels}
+use Rattle.plus_expansion.specs.Objects.{extents_of, tuples, object_names}
+use Rattle.plus_expansion.specs.Numbers.{label_of, ground_labels}
 use Rattle.plus_numbering.proofs.SizeLemmas.{length-starts, heads-step}
 use Rattle.plus_numbering.proofs.NumberLemmas.{own-starts, starts-rise}
 use Rattle.plus_numbering.specs.Tables.{list_numbers}

@@ -1,6 +1,6 @@
 use Rattle.std.proofs.Common.{◌≡◌, ◌++◌, drop}
 use Rattle.plus_types.specs.Faults.{problem_context}
-use Rattle.plus_numbering.specs.Numbers.{ground_labels}
+use Rattle.plus_expansion.specs.Numbers.{ground_labels}
 use Rattle.plus_numbering.proofs.labels.labels.Given as goal
 
 abbrev pub invariant-heads : goal.invariant-heads

@@ -4,7 +4,7 @@ use Rattle.std.specs.Str.{bytes_eq}
 use Rattle.std.proofs.lemmas.List.{length-map}
 use Rattle.plus_tree.specs.declared.terms.TypedName.{TypedName}
 use Rattle.plus_types.specs.Faults.{problem_context}
-use Rattle.plus_numbering.specs.Objects.{members_of, extents_of, tuples}
+use Rattle.plus_expansion.specs.Objects.{members_of, extents_of, tuples}
 use Rattle.plus_numbering.proofs.TupleLemmas.{parted}
 use Rattle.plus_numbering.proofs.KindLemmas.{number-at}
 use Rattle.plus_numbering.proofs.labels.objects_at.Goals as goal

@@ -1,6 +1,6 @@
 use Rattle.std.proofs.Common.{◌≡◌, ◌<◌, [], ◌++◌, drop, length, get_or}
 use Rattle.plus_types.specs.Faults.{problem_context}
-use Rattle.plus_numbering.specs.Objects.{extents_of, tuples}
+use Rattle.plus_expansion.specs.Objects.{extents_of, tuples}
 use Rattle.plus_numbering.proofs.labels.objects_at.Given as goal
 
 -- the objects so far, and the list that stands at what is left among those of the parameters that are left

@@ -1,7 +1,7 @@
 use Rattle.std.proofs.Common.{◌≡◌, [], ◌∷◌, ◌++◌, drop}
 use Rattle.plus_types.specs.Faults.{problem_context}
-use Rattle.plus_numbering.specs.Objects.{object_names}
-use Rattle.plus_numbering.specs.Numbers.{spaced, label_of}
+use Rattle.plus_expansion.specs.Objects.{object_names}
+use Rattle.plus_expansion.specs.Numbers.{spaced, label_of}
 use Rattle.plus_numbering.proofs.labels.spell.Given as goal
 
 -- with the names that are still to come, the text is the label

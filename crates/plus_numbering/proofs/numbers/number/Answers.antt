@@ -4,12 +4,13 @@ use Rattle.std.specs.Str.{bytes_eq}
 use Rattle.std.proofs.lemmas.List.{length-map}
 use Rattle.plus_tree.specs.declared.trees.Head.{Head}
 use Rattle.plus_types.specs.Faults.{problem_context}
-use Rattle.plus_numbering.specs.Objects.{extents_of, tuples}
-use Rattle.plus_numbering.specs.Numbers.{head_names}
+use Rattle.plus_expansion.specs.Objects.{extents_of, tuples}
+use Rattle.plus_expansion.specs.Numbers.{head_names}
 use Rattle.plus_numbering.specs.Tables.{list_numbers}
 use Rattle.plus_numbering.proofs.SizeLemmas.{length-starts}
 use Rattle.plus_numbering.proofs.KindLemmas.{kinds-at}
-use Rattle.plus_numbering.proofs.NumberLemmas.{all-starts, own-starts, starts-rise, length-names, number-none, number-found, number-nowhere}
+use Rattle.plus_numbering.proofs.NumberLemmas.{all-starts, own-starts, starts-rise, number-none, number-found, number-nowhere}
+use Rattle.plus_expansion.proofs.GroundNames.{length-names}
 use Rattle.plus_numbering.proofs.numbers.number.Goals as goal
 
 pub bounds-starts-declared : goal.bounds-starts-declared

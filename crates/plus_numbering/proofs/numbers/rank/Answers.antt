@@ -5,8 +5,9 @@ use Rattle.std.proofs.lemmas.List.{length-map}
 use Rattle.plus_tree.specs.declared.terms.TypedName.{TypedName}
 use Rattle.plus_types.specs.Faults.{problem_context}
 use Rattle.plus_types.proofs.TypesLemmas.{drop-past}
-use Rattle.plus_numbering.specs.Objects.{members_of, extents_of, tuples}
-use Rattle.plus_numbering.proofs.RankLemmas.{placed-start, placed-end, place-below, nowhere-other}
+use Rattle.plus_expansion.specs.Objects.{members_of, extents_of, tuples}
+use Rattle.plus_numbering.proofs.RankLemmas.{placed-start, placed-end, nowhere-other}
+use Rattle.plus_expansion.proofs.Places.{place-below}
 use Rattle.plus_numbering.proofs.RankSteps.{members-order, rank-few, rank-found, rank-lost, length-extents}
 use Rattle.plus_numbering.proofs.KindLemmas.{number-at}
 use Rattle.plus_numbering.proofs.numbers.rank.Goals as goal

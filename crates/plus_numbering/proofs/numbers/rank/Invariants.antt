@@ -2,7 +2,7 @@ use Rattle.std.proofs.Common.{◌≡◌, ◌+◌, ◌*◌, ◌<◌, ◌≤◌, d
 use Rattle.std.specs.List.{position_or_len}
 use Rattle.std.specs.Str.{bytes_eq}
 use Rattle.plus_types.specs.Faults.{problem_context}
-use Rattle.plus_numbering.specs.Objects.{extents_of, tuples}
+use Rattle.plus_expansion.specs.Objects.{extents_of, tuples}
 use Rattle.plus_numbering.proofs.RankLemmas.{placed}
 use Rattle.plus_numbering.proofs.numbers.rank.Given as goal
 

@@ -1,6 +1,6 @@
 use Rattle.std.proofs.Common.{◌≡◌, ◌∙◌, ◌+◌, ◌-◌, ◌*◌, ◌^◌, ap, sym, min, length, drop, arith}
 use Rattle.plus_types.specs.Faults.{problem_context}
-use Rattle.plus_numbering.specs.Objects.{members_of, extents_of, tuples}
+use Rattle.plus_expansion.specs.Objects.{members_of, extents_of, tuples}
 use Rattle.plus_numbering.proofs.SizeLemmas.{size-step, held-more}
 use Rattle.plus_numbering.proofs.starts.size.Goals as goal
 

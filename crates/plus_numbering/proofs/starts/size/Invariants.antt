@@ -1,6 +1,6 @@
 use Rattle.std.proofs.Common.{◌≡◌, ◌+◌, ◌*◌, ◌≤◌, min, drop, length}
 use Rattle.plus_types.specs.Faults.{problem_context}
-use Rattle.plus_numbering.specs.Objects.{extents_of, tuples}
+use Rattle.plus_expansion.specs.Objects.{extents_of, tuples}
 use Rattle.plus_numbering.proofs.starts.size.Given as goal
 
 -- the product so far times the number for the parameters that are left

@@ -1,8 +1,8 @@
 use Rattle.std.proofs.Common.{◌≡◌, ◌∙◌, ◌+◌, ap, refl, min, length, drop, arith}
 use Rattle.plus_types.specs.Faults.{problem_context}
 use Rattle.plus_types.proofs.TypesLemmas.{drop-past}
-use Rattle.plus_numbering.specs.Objects.{extents_of, tuples}
-use Rattle.plus_numbering.specs.Numbers.{ground_names}
+use Rattle.plus_expansion.specs.Objects.{extents_of, tuples}
+use Rattle.plus_expansion.specs.Numbers.{ground_names}
 use Rattle.plus_numbering.proofs.SizeLemmas.{count, length-ground, heads-step}
 use Rattle.plus_numbering.proofs.starts.starts.Goals as goal
 

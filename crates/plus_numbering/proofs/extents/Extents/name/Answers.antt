@@ -1,6 +1,6 @@
 use Rattle.std.proofs.Common.{◌≡◌, ◌∙◌, ◌-◌, ◌<◌, ap, sym, length, get_or, arith}
 use Rattle.plus_tree.specs.declared.terms.TypedName.{TypedName}
-use Rattle.plus_numbering.proofs.ObjectsLemmas.{named-constant, named-object}
+use Rattle.plus_expansion.proofs.ObjectsLemmas.{named-constant, named-object}
 use Rattle.plus_numbering.proofs.extents.Extents.name.Goals as goal
 
 pub returns-then-place-constants : goal.returns-then-place-constants

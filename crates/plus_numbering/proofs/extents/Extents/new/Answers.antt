@@ -1,7 +1,7 @@
 use Rattle.std.proofs.Common.{◌∙◌, ◌++◌, ap, length}
 use Rattle.plus_types.specs.Types.{bindings_of}
-use Rattle.plus_numbering.specs.Objects.{places_from}
-use Rattle.plus_numbering.proofs.ObjectsLemmas.{places-pair}
+use Rattle.plus_expansion.specs.Objects.{places_from}
+use Rattle.plus_expansion.proofs.ObjectsLemmas.{places-pair}
 use Rattle.plus_numbering.proofs.PutLemmas.{start-none, below-first}
 use Rattle.plus_numbering.proofs.extents.Extents.new.Goals as goal
 

@@ -2,9 +2,9 @@ use Rattle.std.proofs.Common.{◌≡◌, ◌∙◌, ◌<◌, ℕ, Vec, Global, a
 use Rattle.std.specs.Str.{bytes_eq}
 use Rattle.plus_types.specs.Types.{bindings_of, objects_of}
 use Rattle.plus_types.specs.Faults.{problem_context}
-use Rattle.plus_numbering.specs.Objects.{members_of}
+use Rattle.plus_expansion.specs.Objects.{members_of}
 use Rattle.plus_numbering.proofs.PutLemmas.{place-some, places-at, shown-at}
-use Rattle.plus_numbering.proofs.ObjectsLemmas.{length-places, length-bindings}
+use Rattle.plus_expansion.proofs.ObjectsLemmas.{length-places, length-bindings}
 use Rattle.plus_numbering.proofs.KindLemmas.{position-within}
 use Rattle.plus_numbering.proofs.extents.Extents.numbered.Goals as goal
 

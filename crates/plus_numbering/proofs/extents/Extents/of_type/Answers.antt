@@ -1,8 +1,8 @@
 use Rattle.std.proofs.Common.{◌≡◌, length, ap, ◌∙◌, arith}
 use Rattle.plus_types.specs.Types.{bindings_of, objects_of}
 use Rattle.plus_types.specs.Faults.{problem_context}
-use Rattle.plus_numbering.specs.Objects.{members_of}
-use Rattle.plus_numbering.proofs.ObjectsLemmas.{length-places, length-bindings}
+use Rattle.plus_expansion.specs.Objects.{members_of}
+use Rattle.plus_expansion.proofs.ObjectsLemmas.{length-places, length-bindings}
 use Rattle.plus_numbering.proofs.extents.Extents.of_type.Goals as goal
 
 pub returns-clause-few : goal.returns-clause-few

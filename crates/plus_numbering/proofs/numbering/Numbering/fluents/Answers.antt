@@ -1,7 +1,7 @@
 use Rattle.std.proofs.Common.{◌≡◌, ◌∙◌, ap, length, get_or, arith}
 use Rattle.std.proofs.lemmas.List.{get_or_read}
 use Rattle.plus_types.specs.Faults.{problem_context}
-use Rattle.plus_numbering.specs.Numbers.{ground_names}
+use Rattle.plus_expansion.specs.Numbers.{ground_names}
 use Rattle.plus_numbering.proofs.SizeLemmas.{length-starts}
 use Rattle.plus_numbering.proofs.NumberLemmas.{all-starts}
 use Rattle.plus_numbering.proofs.CountLemmas.{few-fluents}

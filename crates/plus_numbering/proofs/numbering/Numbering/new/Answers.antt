@@ -3,10 +3,10 @@ use Rattle.std.proofs.lemmas.Result.{err_from_is_err_and}
 use Rattle.plus_tree.specs.declared.trees.Head.{Head}
 use Rattle.plus_types.specs.declared.typed.Typed.{Typed}
 use Rattle.plus_types.specs.Faults.{problem_context}
-use Rattle.plus_numbering.specs.Numbers.{ground_names}
-use Rattle.plus_numbering.specs.Counts.{IsOver}
+use Rattle.plus_expansion.specs.Numbers.{ground_names}
+use Rattle.plus_numbering.specs.Refusals.{IsOver}
 use Rattle.plus_numbering.specs.Tables.{starts_from, list_numbers}
-use Rattle.plus_numbering.specs.declared.faults.Count.TheVariants.{Atoms, Fluents}
+use Rattle.plus_expansion.specs.declared.counts.Count.TheVariants.{Atoms, Fluents}
 use Rattle.plus_numbering.proofs.CountLemmas.{refuses-atoms, refuses-fluents}
 use Rattle.plus_numbering.proofs.numbering.Numbering.new.Goals as goal
 

@@ -1,3 +1,0 @@
-pub mod Unfit
-pub mod Sizes
-pub mod Tested
