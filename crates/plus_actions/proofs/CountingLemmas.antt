@@ -8,8 +8,8 @@ use Rattle.plus_tree.specs.declared.trees.Domain.{Domain}
 use Rattle.plus_tree.specs.declared.trees.Problem as tree
 use Rattle.plus_types.specs.Faults.{Context, problem_context}
 use Rattle.plus_expansion.specs.declared.counts.Count.TheVariants.{Actions, Nodes}
-use Rattle.plus_numbering.specs.declared.faults.CountFault.{CountFault}
-use Rattle.plus_numbering.specs.declared.faults.CountFault.TheVariants.{TooMany}
+use Rattle.plus_numbering.specs.declared.faults.GroundFault.{GroundFault}
+use Rattle.plus_numbering.specs.declared.faults.GroundFault.TheVariants.{TooMany, Literal, Memory}
 use Rattle.plus_expansion.specs.Counts.{Counted, first_over}
 use Rattle.plus_numbering.specs.Refusals.{RefusesCount}
 use Rattle.plus_expansion.specs.Environments.{Environment}
@@ -18,7 +18,7 @@ use Rattle.plus_expansion.specs.Nodes.{action_nodes}
 use Rattle.plus_numbering.specs.Sizes.{held, instances, schema_size, schemas_size}
 use Rattle.plus_numbering.proofs.Nodes.{condition-nodes, effect-nodes, instances-length, instances-nodes}
 use Rattle.plus_fraction.specs.Fraction.{Fraction}
-use Rattle.plus_actions.specs.Actions.{all_instances, action_counts, IsGroundable}
+use Rattle.plus_actions.specs.Actions.{all_instances, action_counts, IsGroundable, RefusesActions}
 use Rattle.plus_actions.specs.Inside.{IsInside}
 
 pub action-nodes : (c : Context) (a : Schema) (env : Environment) → action_nodes (action_meant c a env) ≡ schema_size c false a
@@ -77,7 +77,7 @@ nodes_over d p h k =
 
 -- the actions pass their limit
 pub too_many :
-    (d : Domain) (p : tree.Problem) (xs : List Schema) (n : ℕ) (fault : CountFault) → xs ≡ d.actions → n ≡ held (instances (problem_context d p) xs)
+    (d : Domain) (p : tree.Problem) (xs : List Schema) (n : ℕ) (fault : GroundFault) → xs ≡ d.actions → n ≡ held (instances (problem_context d p) xs)
     → (fault ≡ TooMany Actions 10000) × (10000 < n) → RefusesCount (action_counts d p) fault
 too_many d p xs n fault s e h =
     let over = subst (λ (m : ℕ). 10000 < m) (e ∙ ap (λ (ys : List Schema). held (instances (problem_context d p) ys)) s) h.1 in
@@ -85,7 +85,7 @@ too_many d p xs n fault s e h =
 
 -- they do not, and this is what their nodes come to
 pub both_counted :
-    {A : Type 0} (d : Domain) (p : tree.Problem) (xs : List Schema) (n m : ℕ) (r : Result A CountFault) → xs ≡ d.actions → n ≡ held (instances (problem_context d p) xs) → n ≤ 10000
+    {A : Type 0} (d : Domain) (p : tree.Problem) (xs : List Schema) (n m : ℕ) (r : Result A GroundFault) → xs ≡ d.actions → n ≡ held (instances (problem_context d p) xs) → n ≤ 10000
     → m ≡ held (schemas_size (problem_context d p) (schema_size (problem_context d p) false) xs) → MatchResult r (λ _. m ≤ 1000000) (λ e. (e ≡ TooMany Nodes 1000000) × (1000000 < m))
     → MatchResult r (λ _. first_over (action_counts d p) ≡ None) (RefusesCount (action_counts d p))
 both_counted d p xs n m (Ok u) s e h f g =
@@ -95,6 +95,12 @@ both_counted d p xs n m (Err fault) s e h f g =
     let few = subst (λ (k : ℕ). k ≤ 10000) (e ∙ ap (λ (ys : List Schema). held (instances (problem_context d p) ys)) s) h in
     let over = subst (λ (k : ℕ). 1000000 < k) (f ∙ ap (λ (ys : List Schema). held (schemas_size (problem_context d p) (schema_size (problem_context d p) false) ys)) s) g.1 in
     subst (RefusesCount (action_counts d p)) (sym g.0) (nodes_over d p few over)
+
+-- a count that passes its limit is why there are no ground actions
+pub refused : (fits : Fraction → Type 0) (d : Domain) (p : tree.Problem) (fault : GroundFault) → RefusesCount (action_counts d p) fault → RefusesActions fits d p fault
+refused fits d p (TooMany kind most) h = h
+refused fits d p (Literal file span) h = absurd h
+refused fits d p Memory h = tt
 
 -- ---- no limit is passed
 

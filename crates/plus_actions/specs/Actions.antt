@@ -21,8 +21,8 @@ use Rattle.plus_expansion.specs.Nodes.{action_nodes}
 use Rattle.plus_expansion.specs.Literals.{schema_literals}
 use Rattle.plus_expansion.specs.Counting.{most_nodes}
 use Rattle.plus_expansion.specs.Unfit.{IsFirstUnfitAt}
-use Rattle.plus_ground.specs.declared.faults.GroundFault.{GroundFault}
-use Rattle.plus_ground.specs.declared.faults.GroundFault.TheVariants as faults
+use Rattle.plus_numbering.specs.declared.faults.GroundFault.{GroundFault}
+use Rattle.plus_numbering.specs.declared.faults.GroundFault.TheVariants as faults
 
 -- The lists of objects that begin with these and go on with one of the type of each of these parameters: one for each
 -- choice, the first parameter changing slowest.

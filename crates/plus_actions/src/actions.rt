@@ -9,9 +9,8 @@ use crate::calls::{add, call};
 use crate::choices::choices;
 use crate::counting::within;
 use crate::literals::fit;
-use plus_ground::GroundFault;
 use plus_literal::FromParts;
-use plus_numbering::{CountFault, Numbering};
+use plus_numbering::{GroundFault, Numbering};
 use plus_state::Action;
 use plus_tree::Schema;
 use plus_types::File;
@@ -61,13 +60,7 @@ fn test<Q: FromParts>(numbering: &Numbering) -> Result<(), GroundFault>
         (λ _. IsGroundable Q.fits numbering.now.typed.now.domain numbering.now.typed.now.problem)
         (RefusesActions Q.fits numbering.now.typed.now.domain numbering.now.typed.now.problem) }
 {
-    match within(numbering) {
-        Ok(()) => {}
-        Err(CountFault::TooMany { kind, most }) => {
-            return Err(GroundFault::TooMany { kind, most });
-        }
-        Err(CountFault::Memory) => return Err(GroundFault::Memory),
-    }
+    within(numbering)?;
     match fit::<Q>(numbering.typed.domain().actions.as_slice()) {
         Ok(()) => Ok(()),
         Err(span) => Err(GroundFault::Literal {

@@ -7,14 +7,14 @@ ghost use Rattle.plus_actions.specs.Actions.{action_counts};
 
 use plus_expansion::Count;
 use plus_numbering::counting::{few, instances, nodes};
-use plus_numbering::{CountFault, MOST_NODES, Numbering};
+use plus_numbering::{GroundFault, MOST_NODES, Numbering};
 
 // How many ground actions there may be.
 const MOST_ACTIONS: u32 = 10_000;
 
 /// Tests that there are at most 10,000 ground actions, and that these have at most 1,000,000 nodes
 /// together. Nothing that is counted is built.
-pub fn within(numbering: &Numbering) -> Result<(), CountFault>
+pub fn within(numbering: &Numbering) -> Result<(), GroundFault>
     ensures { MatchResult result
         (λ _. first_over (action_counts numbering.now.typed.now.domain numbering.now.typed.now.problem) ≡ None)
         (RefusesCount (action_counts numbering.now.typed.now.domain numbering.now.typed.now.problem)) }

@@ -9,3 +9,4 @@ pub mod TimedLemmas
 pub mod CallsLemmas
 pub mod NothingLemmas
 pub mod AmongLemmas
+pub mod RefusalLemmas

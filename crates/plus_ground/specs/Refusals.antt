@@ -13,8 +13,8 @@ use Rattle.plus_expansion.specs.Nodes.{action_nodes}
 use Rattle.plus_expansion.specs.Literals.{call_literals}
 use Rattle.plus_expansion.specs.Counting.{most_nodes, counts_of}
 use Rattle.plus_expansion.specs.Unfit.{IsUnfit, IsFirstUnfitAt}
-use Rattle.plus_ground.specs.declared.faults.GroundFault.{GroundFault}
-use Rattle.plus_ground.specs.declared.faults.GroundFault.TheVariants as ground
+use Rattle.plus_numbering.specs.declared.faults.GroundFault.{GroundFault}
+use Rattle.plus_numbering.specs.declared.faults.GroundFault.TheVariants as ground
 use Rattle.plus_ground.specs.declared.faults.InstanceFault.{InstanceFault}
 use Rattle.plus_ground.specs.declared.faults.InstanceFault.TheVariants as instances
 

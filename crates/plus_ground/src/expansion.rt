@@ -16,12 +16,12 @@ ghost use Rattle.plus_ground.specs.Refusals.{IsInstance, RefusesGround, RefusesC
 
 use crate::conditions::condition;
 use crate::environments::Environment;
-use crate::faults::{GroundFault, InstanceFault};
+use crate::faults::InstanceFault;
 use crate::initial::initial;
 use crate::schemas::{action, events, processes};
 use crate::timed_literals::timed_literals;
 use plus_literal::FromParts;
-use plus_numbering::{CountFault, Numbering, fit, is_small, schema_fits, within};
+use plus_numbering::{GroundFault, Numbering, fit, is_small, schema_fits, within};
 use plus_state::{Action, Ground};
 use plus_tree::{Call, Name, Schema, TypedName};
 use plus_types::Typed;
@@ -33,20 +33,8 @@ fn limits<Q: FromParts>(numbering: &Numbering) -> Result<(), GroundFault>
         (λ _. IsGroundable Q.fits numbering.now.typed.now.domain numbering.now.typed.now.problem)
         (RefusesGround Q.fits numbering.now.typed.now.domain numbering.now.typed.now.problem) }
 {
-    match within(numbering) {
-        Ok(()) => {}
-        Err(CountFault::TooMany { kind, most }) => {
-            return Err(GroundFault::TooMany { kind, most });
-        }
-        Err(CountFault::Memory) => return Err(GroundFault::Memory),
-    }
-    match fit::<Q>(numbering.typed) {
-        Ok(()) => Ok(()),
-        Err(unfit) => Err(GroundFault::Literal {
-            file: unfit.file,
-            span: unfit.span,
-        }),
-    }
+    within(numbering)?;
+    fit::<Q>(numbering.typed)
 }
 
 // The ground problem of a pair inside the limits, whose literals are values of the type of numbers.

@@ -13,4 +13,4 @@ mod schemas;
 mod timed_literals;
 
 pub use expansion::{ground, instance};
-pub use faults::{GroundFault, InstanceFault};
+pub use faults::InstanceFault;

@@ -5,8 +5,8 @@ use Rattle.plus_types.specs.Faults.{Context}
 use Rattle.plus_expansion.specs.Numbers.{ground_names}
 use Rattle.plus_expansion.specs.declared.counts.Count.{Count}
 use Rattle.plus_expansion.specs.declared.counts.Count.TheVariants.{Atoms, Fluents}
-use Rattle.plus_numbering.specs.declared.faults.CountFault.{CountFault}
-use Rattle.plus_numbering.specs.declared.faults.CountFault.TheVariants.{TooMany, Memory}
+use Rattle.plus_numbering.specs.declared.faults.GroundFault.{GroundFault}
+use Rattle.plus_numbering.specs.declared.faults.GroundFault.TheVariants.{TooMany, Literal, Memory}
 use Rattle.plus_expansion.specs.Counts.{Counted, first_over, name_counts}
 use Rattle.plus_numbering.specs.Refusals.{RefusesCount, IsOver}
 use Rattle.plus_numbering.proofs.RankLemmas.{lt-true, lt-false}
@@ -17,8 +17,9 @@ not-over m n c rest h = ap (λ b. cond b (Some c) rest) (lt-false m n h)
 pub over : (m n : ℕ) (c : Counted) (rest : Option Counted) → m < n → cond (nat_lt m n) (Some c) rest ≡ Some c
 over m n c rest h = ap (λ b. cond b (Some c) rest) (lt-true m n h)
 
-pub refuses-atoms : (c : Context) (e : CountFault) → length c.objects ≤ 10000 → IsOver Atoms 200000 (length (ground_names c c.predicates)) e → RefusesCount (name_counts c) e
+pub refuses-atoms : (c : Context) (e : GroundFault) → length c.objects ≤ 10000 → IsOver Atoms 200000 (length (ground_names c c.predicates)) e → RefusesCount (name_counts c) e
 refuses-atoms c Memory h o = tt
+refuses-atoms c (Literal file span) h o = absurd o
 refuses-atoms c (TooMany k m) h o =
     let n = length (ground_names c c.predicates) in (
       n,
@@ -27,9 +28,10 @@ refuses-atoms c (TooMany k m) h o =
     )
 
 pub refuses-fluents :
-    (c : Context) (e : CountFault) → length c.objects ≤ 10000 → length (ground_names c c.predicates) ≤ 200000 → IsOver Fluents 50000 (length (ground_names c c.functions)) e
+    (c : Context) (e : GroundFault) → length c.objects ≤ 10000 → length (ground_names c c.predicates) ≤ 200000 → IsOver Fluents 50000 (length (ground_names c c.functions)) e
     → RefusesCount (name_counts c) e
 refuses-fluents c Memory h a o = tt
+refuses-fluents c (Literal file span) h a o = absurd o
 refuses-fluents c (TooMany k m) h a o =
     let n = length (ground_names c c.functions) in (
       n,

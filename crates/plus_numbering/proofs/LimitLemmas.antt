@@ -6,7 +6,7 @@ use Rattle.plus_tree.specs.declared.trees.Domain.{Domain}
 use Rattle.plus_tree.specs.declared.trees.Problem as tree
 use Rattle.plus_types.specs.Faults.{Context, problem_context}
 use Rattle.plus_expansion.specs.declared.counts.Count.TheVariants.{Processes, Events, Nodes}
-use Rattle.plus_numbering.specs.declared.faults.CountFault.TheVariants.{TooMany}
+use Rattle.plus_numbering.specs.declared.faults.GroundFault.TheVariants.{TooMany}
 use Rattle.plus_expansion.specs.Counts.{Counted, first_over, name_counts}
 use Rattle.plus_numbering.specs.Refusals.{RefusesCount}
 use Rattle.plus_expansion.specs.Environments.{Environment}

@@ -10,7 +10,7 @@ ghost use Rattle.plus_expansion.specs.Counting.{most_nodes, counts_of};
 ghost use Rattle.plus_numbering.specs.Sizes.{held, instances, schema_size, schemas_size, problem_size};
 ghost use Rattle.plus_numbering.specs.Numbered.{context};
 
-use crate::faults::CountFault;
+use crate::faults::GroundFault;
 use crate::held::{product, sum};
 use crate::numbering::Numbering;
 use crate::sizes;
@@ -67,11 +67,11 @@ fn problem(numbering: &Numbering<'_>) -> u32
 }
 
 /// Tests that there are not too many of a kind.
-pub fn few(kind: Count, most: u32, number: u32) -> Result<(), CountFault>
-    ensures { MatchResult result (λ _. number ≤ most) (λ e. (e ≡ CountFault.TooMany kind most) × (most < number)) }
+pub fn few(kind: Count, most: u32, number: u32) -> Result<(), GroundFault>
+    ensures { MatchResult result (λ _. number ≤ most) (λ e. (e ≡ GroundFault.TooMany kind most) × (most < number)) }
 {
     if number > most {
-        Err(CountFault::TooMany { kind, most })
+        Err(GroundFault::TooMany { kind, most })
     } else {
         Ok(())
     }
@@ -80,7 +80,7 @@ pub fn few(kind: Count, most: u32, number: u32) -> Result<(), CountFault>
 /// Tests that there are at most 10,000 ground processes, 10,000 ground events, and 1,000,000 nodes of
 /// these and the goal together. Nothing that is counted is built.
 #[tactic(auto, using(crate::proofs::LimitLemmas::limits))]
-pub fn within(numbering: &Numbering) -> Result<(), CountFault>
+pub fn within(numbering: &Numbering) -> Result<(), GroundFault>
     ensures { MatchResult result
         (λ _. first_over (counts_of numbering.now.typed.now.domain numbering.now.typed.now.problem) ≡ None)
         (RefusesCount (counts_of numbering.now.typed.now.domain numbering.now.typed.now.problem)) }

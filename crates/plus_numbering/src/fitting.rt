@@ -4,22 +4,17 @@ ghost use Rattle.std.specs.Prelude.{[], ◌∷◌, ◌++◌, All, MatchResult};
 ghost use Rattle.std.specs.List.{flat_map};
 ghost use Rattle.plus_literal.specs.Value.{LiteralFits};
 ghost use Rattle.plus_expansion.specs.Literals.{expression_literals, condition_literals, write_literals, effect_literals, init_literals, literals_of, schema_literals};
-ghost use Rattle.plus_expansion.specs.Unfit.{IsFirstUnfitAt, IsFirstUnfitIn};
+ghost use Rattle.plus_expansion.specs.Unfit.{IsFirstUnfitAt};
+ghost use Rattle.plus_numbering.specs.Refusals.{RefusesLiteral};
 ghost use Rattle.plus_numbering.specs.Tested.{Tests};
 
+use crate::faults::GroundFault;
 use plus_literal::{FromParts, literal};
 use plus_tree::{
     CondNode, CondTree, Domain, EffectNode, EffectTree, ExprNode, ExprTree, Init, Leaf, LeafNode,
     Literal, Problem, Schema, Span,
 };
 use plus_types::{File, Typed};
-
-/// A literal of a text that is no value of the type of numbers.
-#[derive(Clone, Copy, Debug, PartialEq, Eq)]
-pub struct Unfit {
-    pub file: File,
-    pub span: Span,
-}
 
 #[tactic(auto, using(crate::proofs::Unfits::walking))]
 fn number<Q: FromParts>(value: &Literal) -> Result<(), Span>
@@ -187,19 +182,19 @@ fn domain<Q: FromParts>(domain: &Domain) -> Result<(), Span>
 /// Tests that the literals of the initial state, the goal, the processes and the events are values of the
 /// type of numbers, and answers the first that is none.
 #[tactic(auto, using(crate::proofs::Unfits::files))]
-pub fn fit<Q: FromParts>(typed: &Typed) -> Result<(), Unfit>
+pub fn fit<Q: FromParts>(typed: &Typed) -> Result<(), GroundFault>
     ensures { MatchResult result
         (λ _. All (λ l. LiteralFits Q.fits l.1) (literals_of typed.now.domain typed.now.problem))
-        (λ u. IsFirstUnfitIn Q.fits (literals_of typed.now.domain typed.now.problem) u.file u.span) }
+        (RefusesLiteral Q.fits (literals_of typed.now.domain typed.now.problem)) }
 {
     if let Err(span) = problem::<Q>(typed.problem()) {
-        return Err(Unfit {
+        return Err(GroundFault::Literal {
             file: File::Problem,
             span,
         });
     }
     if let Err(span) = domain::<Q>(typed.domain()) {
-        return Err(Unfit {
+        return Err(GroundFault::Literal {
             file: File::Domain,
             span,
         });

@@ -15,6 +15,6 @@ pub mod sizes;
 mod starts;
 
 pub use counting::{MOST_NODES, is_small, within};
-pub use faults::CountFault;
-pub use fitting::{Unfit, fit, schema_fits};
+pub use faults::GroundFault;
+pub use fitting::{fit, schema_fits};
 pub use numbering::Numbering;

@@ -12,7 +12,7 @@ ghost use Rattle.plus_expansion.specs.Counts.{first_over, name_counts};
 ghost use Rattle.plus_numbering.specs.Refusals.{RefusesCount};
 
 use crate::extents::Extents;
-use crate::faults::CountFault;
+use crate::faults::GroundFault;
 use crate::labels::{label, labels};
 use crate::limits::{MOST_ATOMS, MOST_FLUENTS, MOST_OBJECTS};
 use crate::numbers::{kinds, number};
@@ -46,14 +46,14 @@ impl<'a> Numbering<'a> {
     /// Numbers the ground atoms and fluents of a pair. `TooMany` comes where there are more than
     /// 10,000 objects, else where there are more than 200,000 ground atoms, else where there are more
     /// than 50,000 ground fluents.
-    pub fn new(alloc: Global, typed: &'a Typed) -> Result<Numbering<'a>, CountFault>
+    pub fn new(alloc: Global, typed: &'a Typed) -> Result<Numbering<'a>, GroundFault>
         ensures of { IfOk result (λ n. n.typed.now ≡ typed.now) }
         ensures counts { MatchResult result
             (λ _. first_over (name_counts (context typed.now)) ≡ None)
             (RefusesCount (name_counts (context typed.now))) }
     {
         if typed.objects.len() > MOST_OBJECTS {
-            return Err(CountFault::TooMany {
+            return Err(GroundFault::TooMany {
                 kind: Count::Objects,
                 most: MOST_OBJECTS as u32,
             });

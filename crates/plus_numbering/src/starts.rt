@@ -7,7 +7,7 @@ ghost use Rattle.plus_numbering.specs.Refusals.{IsOver};
 ghost use Rattle.plus_numbering.specs.Tables.{context, starts_from};
 
 use crate::extents::Extents;
-use crate::faults::CountFault;
+use crate::faults::GroundFault;
 use plus_expansion::Count;
 use plus_tree::{Head, TypedName};
 use std::alloc::Global;
@@ -33,7 +33,7 @@ pub fn starts(
     heads: &[Head],
     kind: Count,
     most: u32,
-) -> Result<Vec<u32>, CountFault>
+) -> Result<Vec<u32>, GroundFault>
     requires { most < 2 ^ 31 }
     ensures { MatchResult result
         (λ s. (s.items ≡ starts_from (context extents.now.typed.now) 0 heads.now)
@@ -46,7 +46,7 @@ pub fn starts(
         starts.push(start)?;
         start += size(extents, head.params.as_slice(), most);
         if start > most {
-            return Err(CountFault::TooMany { kind, most });
+            return Err(GroundFault::TooMany { kind, most });
         }
     }
     starts.push(start)?;

@@ -19,7 +19,7 @@ use Rattle.plus_types.specs.declared.faults.File.{File}
 use Rattle.plus_expansion.specs.declared.counts.Count.{Count}
 use Rattle.plus_expansion.specs.Counts.{Counted}
 use Rattle.plus_ground.specs.Refusals.{RefusesGround}
-use Rattle.plus_ground.specs.declared.faults.GroundFault.TheVariants as faults
+use Rattle.plus_numbering.specs.declared.faults.GroundFault.TheVariants as faults
 use Rattle.plus_expansion.specs.Expansion.{expanded, labels_meant}
 use Rattle.plus_expansion.specs.Counting.{IsGroundable}
 use Rattle.plus_report.specs.declared.verdicts.Verdict.{Verdict}

@@ -8,9 +8,6 @@ ghost use Rattle.plus_number.specs.Frac.{fraction_of, IsFrac64};
 ghost use Rattle.plus_state.specs.View.{problem_of, labels_of};
 ghost use Rattle.plus_tree.specs.declared.trees.Domain.{Domain};
 ghost use Rattle.plus_tree.specs.declared.trees.Problem.{Problem};
-ghost use Rattle.plus_types.specs.Faults.{problem_context};
-ghost use Rattle.plus_expansion.specs.Counts.{name_counts};
-ghost use Rattle.plus_numbering.specs.Refusals.{RefusesCount};
 ghost use Rattle.plus_expansion.specs.Expansion.{expanded, labels_meant};
 ghost use Rattle.plus_expansion.specs.Counting.{IsGroundable};
 ghost use Rattle.plus_ground.specs.Refusals.{RefusesGround};
@@ -30,10 +27,10 @@ use crate::play::Play;
 use crate::source::Source;
 use crate::told::{told, told_early};
 use plus_expansion::Count;
-use plus_ground::{GroundFault, ground};
+use plus_ground::ground;
 use plus_io::{Failed, Shelf};
 use plus_number::frac::Frac64;
-use plus_numbering::{CountFault, Numbering};
+use plus_numbering::{GroundFault, Numbering};
 use plus_plan::{PlanForm, PlanReader};
 use plus_report::{Early, Kinds, Text, Verdict, Word};
 use plus_state::problem::Ground;
@@ -123,16 +120,6 @@ fn ungrounded(alloc: Global, source: Source, fault: GroundFault) -> Stop
             },
         ),
         GroundFault::Memory => Stop::NoMemory,
-    }
-}
-
-// The refusal of a pair of which too many are counted.
-fn ground_fault(fault: CountFault) -> GroundFault
-    ensures { (d : Domain) (p : Problem) → RefusesCount (name_counts (problem_context d p)) fault → RefusesGround IsFrac64 d p result }
-{
-    match fault {
-        CountFault::TooMany { kind, most } => GroundFault::TooMany { kind, most },
-        CountFault::Memory => GroundFault::Memory,
     }
 }
 
@@ -301,6 +288,6 @@ pub fn numeric<S: Shelf>(
     }
     match Numbering::new(alloc, typed) {
         Ok(numbering) => numeric_numbered(alloc, &numbering, source, shelf, plan, keep),
-        Err(fault) => Err(ungrounded(alloc, source, ground_fault(fault))),
+        Err(fault) => Err(ungrounded(alloc, source, fault)),
     }
 }

@@ -6,8 +6,8 @@ use Rattle.plus_number.specs.declared.frac.Frac64.{Frac64}
 use Rattle.plus_tree.specs.declared.trees.Domain.{Domain}
 use Rattle.plus_tree.specs.declared.trees.Problem.{Problem}
 use Rattle.plus_types.specs.Faults.{is_well_typed}
-use Rattle.plus_ground.specs.declared.faults.GroundFault.{GroundFault}
-use Rattle.plus_ground.specs.declared.faults.GroundFault.TheVariants.{TooMany, Literal, Memory}
+use Rattle.plus_numbering.specs.declared.faults.GroundFault.{GroundFault}
+use Rattle.plus_numbering.specs.declared.faults.GroundFault.TheVariants.{TooMany, Literal, Memory}
 use Rattle.plus_planner.specs.declared.searching.Answer.{Answer}
 use Rattle.plus_planner.specs.declared.searching.Answer.TheVariants as answers
 use Rattle.plus_planning.specs.Planned.{IsPlanned}

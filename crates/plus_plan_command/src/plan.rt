@@ -12,10 +12,10 @@ ghost use Rattle.plus_planning.specs.Planned.{IsPlanned};
 ghost use Rattle.plus_plan_command.specs.Plan.{search_refusal, answer_status, answer_text, IsUnsearched, PlansPair, Plans};
 
 use plus_expansion::Count;
-use plus_ground::GroundFault;
 use plus_interval::Interval;
 use plus_io::{MemSink, Shelf};
 use plus_number::frac::Frac64;
+use plus_numbering::GroundFault;
 use plus_pair::pair::{Refusal, pair, release, text_for};
 use plus_planner::Answer;
 use plus_planning::{none_line, plan, spent_line};

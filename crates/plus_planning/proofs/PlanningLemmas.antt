@@ -12,7 +12,7 @@ use Rattle.plus_tree.specs.declared.trees.Domain.{Domain}
 use Rattle.plus_tree.specs.declared.trees.Problem.{Problem}
 use Rattle.plus_expansion.specs.Expansion.{expanded}
 use Rattle.plus_expansion.specs.Counting as pair
-use Rattle.plus_ground.specs.declared.faults.GroundFault.{GroundFault}
+use Rattle.plus_numbering.specs.declared.faults.GroundFault.{GroundFault}
 use Rattle.plus_ground.specs.Refusals.{RefusesGround}
 use Rattle.plus_actions.specs.Actions.{ground_actions, AllFit, RefusesActions}
 use Rattle.plus_planner.specs.declared.searching.Answer.{Answer}

@@ -1,35 +1,19 @@
 //! From a well-typed pair to what a search answers.
 ghost use Rattle.std.specs.Prelude.{◌≡◌, ◌<◌, ◌≤◌, pos, map, IfOk, IfErr};
 ghost use Rattle.plus_fraction.specs.Fraction.{whole, ◌<ℚ◌};
-ghost use Rattle.plus_number.specs.Frac.{fraction_of, IsFrac64};
-ghost use Rattle.plus_tree.specs.declared.trees.Domain.{Domain};
-ghost use Rattle.plus_tree.specs.declared.trees.Problem.{Problem};
+ghost use Rattle.plus_number.specs.Frac.{fraction_of};
 ghost use Rattle.plus_state.specs.View.{problem_of, action_of};
-ghost use Rattle.plus_types.specs.Faults.{problem_context};
-ghost use Rattle.plus_expansion.specs.Counts.{name_counts};
-ghost use Rattle.plus_numbering.specs.Refusals.{RefusesCount};
 ghost use Rattle.plus_expansion.specs.Expansion.{expanded};
-ghost use Rattle.plus_ground.specs.Refusals.{RefusesGround};
 ghost use Rattle.plus_actions.specs.Actions.{ground_actions};
 ghost use Rattle.plus_planning.specs.Planned.{IsInside, IsPlanned, IsUnplanned};
 
 use plus_actions::ground_actions;
-use plus_ground::{GroundFault, ground};
+use plus_ground::ground;
 use plus_number::frac::Frac64;
-use plus_numbering::{CountFault, Numbering};
+use plus_numbering::{GroundFault, Numbering};
 use plus_planner::{Answer, ByGoal, Planner};
 use plus_types::Typed;
 use std::alloc::Global;
-
-// The refusal of a pair of which too many are counted.
-fn ground_fault(fault: CountFault) -> GroundFault
-    ensures { (d : Domain) (p : Problem) → RefusesCount (name_counts (problem_context d p)) fault → RefusesGround IsFrac64 d p result }
-{
-    match fault {
-        CountFault::TooMany { kind, most } => GroundFault::TooMany { kind, most },
-        CountFault::Memory => GroundFault::Memory,
-    }
-}
 
 // The planner of a pair whose ground atoms and fluents are numbered.
 fn planner(
@@ -89,8 +73,6 @@ pub fn plan(
     ensures planned { IfOk result (IsPlanned typed.now.domain typed.now.problem (fraction_of interval) decisions tries) }
     ensures unplanned { IfErr result (IsUnplanned typed.now.domain typed.now.problem) }
 {
-    match Numbering::new(alloc, typed) {
-        Ok(numbering) => search(alloc, &numbering, interval, decisions, tries),
-        Err(fault) => Err(ground_fault(fault)),
-    }
+    let numbering = Numbering::new(alloc, typed)?;
+    search(alloc, &numbering, interval, decisions, tries)
 }

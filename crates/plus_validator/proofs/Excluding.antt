@@ -8,8 +8,8 @@ use Rattle.plus_tree.specs.declared.trees.Problem.{Problem}
 use Rattle.plus_tree.specs.declared.terms.Literal.{Literal}
 use Rattle.plus_types.specs.declared.faults.File.{File}
 use Rattle.plus_literal.specs.Value.{LiteralFits}
-use Rattle.plus_ground.specs.declared.faults.GroundFault.{GroundFault}
-use Rattle.plus_ground.specs.declared.faults.GroundFault.TheVariants as faults
+use Rattle.plus_numbering.specs.declared.faults.GroundFault.{GroundFault}
+use Rattle.plus_numbering.specs.declared.faults.GroundFault.TheVariants as faults
 use Rattle.plus_ground.specs.Refusals.{RefusesGround}
 use Rattle.plus_expansion.specs.Counting.{IsGroundable}
 use Rattle.plus_validator.specs.Validates.{TellsFault}

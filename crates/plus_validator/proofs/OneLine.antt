@@ -12,8 +12,8 @@ use Rattle.plus_literal.specs.Value.{LiteralFits}
 use Rattle.plus_expansion.specs.Counts.{Counted}
 use Rattle.plus_expansion.specs.Literals.{literals_of}
 use Rattle.plus_expansion.specs.Unfit.{IsFirstUnfit}
-use Rattle.plus_ground.specs.declared.faults.GroundFault.{GroundFault}
-use Rattle.plus_ground.specs.declared.faults.GroundFault.TheVariants as faults
+use Rattle.plus_numbering.specs.declared.faults.GroundFault.{GroundFault}
+use Rattle.plus_numbering.specs.declared.faults.GroundFault.TheVariants as faults
 use Rattle.plus_ground.specs.Refusals.{RefusesGround}
 use Rattle.plus_report.specs.declared.refusals.Early.TheVariants as es
 use Rattle.plus_report.specs.Refusals.{early_text}

@@ -9,8 +9,8 @@ use Rattle.plus_types.specs.declared.faults.File.{File}
 use Rattle.plus_types.specs.declared.faults.File.TheVariants as files
 use Rattle.plus_expansion.specs.declared.counts.Count.{Count}
 use Rattle.plus_expansion.specs.declared.counts.Count.TheVariants as counts
-use Rattle.plus_ground.specs.declared.faults.GroundFault.{GroundFault}
-use Rattle.plus_ground.specs.declared.faults.GroundFault.TheVariants as faults
+use Rattle.plus_numbering.specs.declared.faults.GroundFault.{GroundFault}
+use Rattle.plus_numbering.specs.declared.faults.GroundFault.TheVariants as faults
 use Rattle.plus_ground.specs.Refusals.{RefusesGround}
 use Rattle.plus_report.specs.declared.refusals.Kinds.{Kinds}
 use Rattle.plus_report.specs.declared.refusals.Kinds.TheVariants as kinds

@@ -22,11 +22,11 @@ use crate::judge::Outcome;
 use crate::judgement::sum_up;
 use crate::run::Run;
 use crate::stream::{Ending, play_file};
-use crate::ungrounded::{early_of, ground_fault};
-use plus_ground::{GroundFault, ground};
+use crate::ungrounded::early_of;
+use plus_ground::ground;
 use plus_io::{Shelf, Sink, write_all};
 use plus_number::frac::Frac64;
-use plus_numbering::Numbering;
+use plus_numbering::{GroundFault, Numbering};
 use plus_report::write_early;
 use plus_state::problem::Ground;
 use plus_types::Typed;
@@ -198,6 +198,6 @@ pub fn validate<S: Shelf, O: Sink>(
 {
     match Numbering::new(alloc, typed) {
         Ok(numbering) => validate_numbered(alloc, &numbering, shelf, plan, out, happenings),
-        Err(fault) => refuse(out, ground_fault(fault)),
+        Err(fault) => refuse(out, fault),
     }
 }

@@ -15,10 +15,10 @@ use crate::halt::Halt;
 use crate::judgement::{Judgement, sum_up};
 use crate::memory::Report;
 use crate::stream::play_bytes;
-use crate::ungrounded::{early_of, ground_fault};
-use plus_ground::{GroundFault, ground};
+use crate::ungrounded::early_of;
+use plus_ground::ground;
 use plus_number::frac::Frac64;
-use plus_numbering::Numbering;
+use plus_numbering::{GroundFault, Numbering};
 use plus_report::{Early, Verdict, write_early};
 use plus_state::problem::Ground;
 use plus_types::Typed;
@@ -150,6 +150,6 @@ pub fn judge(
 {
     match Numbering::new(alloc, typed) {
         Ok(numbering) => judge_numbered(alloc, &numbering, text, happenings),
-        Err(fault) => judge_pair(alloc, ground_fault(fault)),
+        Err(fault) => judge_pair(alloc, fault),
     }
 }

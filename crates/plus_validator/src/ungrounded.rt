@@ -1,17 +1,9 @@
 //! Why a pair is not grounded, as it is told.
 ghost use Rattle.std.specs.Prelude.{◌≡◌};
-ghost use Rattle.plus_ground.specs.Refusals.{RefusesGround};
-ghost use Rattle.plus_number.specs.Frac.{IsFrac64};
-ghost use Rattle.plus_expansion.specs.Counts.{name_counts};
-ghost use Rattle.plus_numbering.specs.Refusals.{RefusesCount};
-ghost use Rattle.plus_tree.specs.declared.trees.Domain.{Domain};
-ghost use Rattle.plus_tree.specs.declared.trees.Problem.{Problem};
-ghost use Rattle.plus_types.specs.Faults.{problem_context};
 ghost use Rattle.plus_validator.specs.Validates.{kind_meant, file_meant, fault_meant};
 
 use plus_expansion::Count;
-use plus_ground::GroundFault;
-use plus_numbering::CountFault;
+use plus_numbering::GroundFault;
 use plus_report::{Early, Kinds, Text};
 use plus_types::File;
 
@@ -53,15 +45,5 @@ pub fn early_of(fault: GroundFault) -> Option<Early>
             end: span.end,
         }),
         GroundFault::Memory => None,
-    }
-}
-
-/// The refusal of a pair of which too many are counted.
-pub fn ground_fault(fault: CountFault) -> GroundFault
-    ensures { (d : Domain) (p : Problem) → RefusesCount (name_counts (problem_context d p)) fault → RefusesGround IsFrac64 d p result }
-{
-    match fault {
-        CountFault::TooMany { kind, most } => GroundFault::TooMany { kind, most },
-        CountFault::Memory => GroundFault::Memory,
     }
 }

@@ -3,6 +3,7 @@ use Rattle.plus_tree.specs.declared.trees.Domain.{Domain}
 use Rattle.plus_tree.specs.declared.trees.Problem.{Problem}
 use Rattle.plus_number.specs.Frac.{IsFrac64}
 use Rattle.plus_ground.specs.Refusals.{RefusesGround}
+use Rattle.plus_ground.proofs.RefusalLemmas.{names_refused}
 use Rattle.plus_validator.specs.declared.judge.Judged.{Judged}
 use Rattle.plus_validator.specs.Verdicts.{RefusesPairWith, JudgesText, ungrounded}
 use Rattle.plus_validator.proofs.judge.judge.Goals as goal
@@ -16,7 +17,7 @@ returns-in-Err c =
     let d = c.args.typed.now.domain in
     let p = c.args.typed.now.problem in
     record {
-      judged = if_ok c.judge_pair.result (λ (j : Judged). (d : Domain) (p : Problem) → RefusesGround IsFrac64 d p c.ground_fault.result → RefusesPairWith d p j)
+      judged = if_ok c.judge_pair.result (λ (j : Judged). (d : Domain) (p : Problem) → RefusesGround IsFrac64 d p c.in-Err.fault → RefusesPairWith d p j)
           (JudgesText d p c.args.happenings c.args.text.now)
-          (λ j h. ungrounded (h d p (c.ground_fault.ensures d p c.in-Err.ensures.counts))) c.judge_pair.ensures;
+          (λ j h. ungrounded (h d p (names_refused IsFrac64 d p c.in-Err.fault c.in-Err.ensures.counts))) c.judge_pair.ensures;
     }
