@@ -74,6 +74,7 @@ pub fn firing_among<Q: Exact>(
 }
 
 // What all effects of these events change at once.
+#[inline(always)]
 pub fn changed_together<Q: Exact>(
     alloc: Global,
     ground: &Ground<Q>,

@@ -67,6 +67,7 @@ fn joint_stop<Q: Exact>(stop: JointStop<Q>) -> CascadeStop<Q>
 }
 
 // The round in which these events fire, which are all that hold.
+#[inline(always)]
 fn fire<Q: Exact>(
     alloc: Global,
     cascade: &Cascade,

@@ -34,6 +34,7 @@ fn counted<Q: Exact>(cond: &Cond<Q>) -> u32
 }
 
 // How many comparisons stand in a condition.
+#[inline(always)]
 #[cycle(comparisons)]
 #[tactic(auto, using(crate::proofs::Walking::counting))]
 pub fn comparisons<Q: Exact>(cond: &Cond<Q>) -> u32

@@ -126,6 +126,7 @@ fn note<Q: Exact>(
 /// What so much time at these rates changes: the values of the fluents that move, by their numbers. It
 /// leads there also from the state after any other time at these rates. The refusal is that of `moved`.
 /// No fluent that stands still is visited.
+#[inline(always)]
 pub fn moved_changes<Q: Exact>(
     alloc: Global,
     state: &State<Q>,

@@ -155,6 +155,7 @@ fn calculated<Q: Exact>(
 
 /// Value and slope of an expression in a state, along these rates; none where it has no value. The
 /// refusal is the first test that fails, operands from the left.
+#[inline(always)]
 #[tactic(auto, using(crate::proofs::Joins::joins))]
 pub fn piece<Q: Exact>(
     expr: &Expr<Q>,

@@ -185,6 +185,7 @@ impl<Q: Exact> Rates<Q> {
     }
 
     /// The fluents whose rate is not zero, by their numbers.
+    #[inline(always)]
     pub fn moving(&self, alloc: Global) -> Result<Vec<FluentId>, AllocError>
         ensures { IfOk result (λ fluents. fluent_numbers fluents.items ≡ moving_of self.now) }
     {

@@ -20,6 +20,7 @@ use plus_tree::{CondTree, EffectNode, EffectTree, Leaf, LeafNode};
 use std::alloc::{AllocError, Global};
 
 // The ground form of a write.
+#[inline(always)]
 fn write<Q: FromParts>(
     alloc: Global,
     numbering: &Numbering,

@@ -56,6 +56,7 @@ impl<'a> Environment<'a> {
     }
 
     /// One more variable, inside the others.
+    #[inline(always)]
     pub fn bind(&mut self, name: &'a [u8], object: u32) -> Result<(), AllocError>
         ensures { OnOk result (self.new ≡ self.old ++ (name.now, object) ∷ []) }
     {
@@ -78,6 +79,7 @@ impl<'a> Environment<'a> {
     }
 
     /// An equal environment.
+    #[inline(always)]
     pub fn copy(&self, alloc: Global) -> Result<Environment<'a>, AllocError>
         ensures { IfOk result (λ e. e ≡ self.now) }
     {
@@ -190,6 +192,7 @@ pub fn term_object(numbering: &Numbering, env: &Environment, term: &Term) -> u32
 }
 
 // The objects of the arguments of a use.
+#[inline(always)]
 fn use_objects(
     alloc: Global,
     numbering: &Numbering,
@@ -207,6 +210,7 @@ fn use_objects(
 }
 
 /// The ground atom that a use names.
+#[inline(always)]
 pub fn atom(
     alloc: Global,
     numbering: &Numbering,
@@ -221,6 +225,7 @@ pub fn atom(
 }
 
 /// The ground fluent that a use names.
+#[inline(always)]
 pub fn fluent(
     alloc: Global,
     numbering: &Numbering,

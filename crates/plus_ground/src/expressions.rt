@@ -17,6 +17,7 @@ use plus_tree::{ExprNode, ExprTree, Literal};
 use std::alloc::{AllocError, Global};
 
 /// The number that a literal means, which is a value of the type.
+#[inline(always)]
 pub fn number<Q: FromParts>(number: &Literal) -> Q
     requires { LiteralFits Q.fits number.now }
     ensures { Q.value result ≡ literal_value number.now }

@@ -20,6 +20,7 @@ use plus_tree::{EffectNode, EffectTree, Schema};
 use std::alloc::{AllocError, Global};
 
 // The label of an instance: the name of the schema, and those of its objects.
+#[inline(always)]
 fn label(
     alloc: Global,
     numbering: &Numbering,

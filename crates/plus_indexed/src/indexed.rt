@@ -413,6 +413,7 @@ impl<Q: Exact> Indexed<Q> {
 
     // The events that wait, and the readers of what the last step changed. None where memory is wanting,
     // or where all wait.
+    #[inline(always)]
     fn after_step(&mut self) -> Option<Vec<EventId>>
         ensures kept { self.new ≡ record (self.old) { kept = record (self.old.kept) { events = None } } }
         ensures woken { IfSome result (λ w. StillWoken self.old (event_numbers w.items)) }
@@ -452,6 +453,7 @@ impl<Q: Exact> Indexed<Q> {
     }
 
     // Those wait besides that read what the last step changed.
+    #[inline(always)]
     fn wake_by_step(&mut self)
         ensures kept { self.new ≡ record (self.old) {
           kept = record (self.old.kept) {
@@ -467,6 +469,7 @@ impl<Q: Exact> Indexed<Q> {
     }
 
     // These events wait, and besides the processes that read what the last step changed.
+    #[inline(always)]
     fn note(&mut self, events: Option<Vec<EventId>>)
         ensures kept { self.new ≡ record (self.old) {
           kept = record (self.old.kept) {

@@ -34,6 +34,7 @@ impl Model for Waiting {
 }
 
 // In order, each once. The numbers are a few lists that rise, one behind the other, and this sort merges such.
+#[inline(always)]
 fn sort_once(numbers: &mut Vec<u32>) -> Result<(), AllocError>
     ensures rises { IfOk result (λ _. IsRising 0 numbers.new.items) }
     ensures same { IfOk result (λ _. (k : ℕ) → is_in numbers.new.items k ≡ true ↔ is_in numbers.old.items k ≡ true) }
@@ -143,6 +144,7 @@ impl Waiting {
 }
 
 /// Those that wait, and the readers of all that is changed. None where memory is wanting, or where all wait.
+#[inline(always)]
 pub fn still_waiting<Q: Exact>(
     waiting: Option<Waiting>,
     readers: &Readers,

@@ -24,6 +24,7 @@ pub fn emptied(alloc: Global, events: Option<Vec<EventId>>) -> Vec<EventId>
 }
 
 // The numbers of these events and of the readers of all that is changed, in place of others.
+#[inline(always)]
 fn numbers_woken<Q: Exact>(
     readers: &Readers,
     changes: &Changes<Q>,

@@ -181,6 +181,7 @@ impl<'a> Instances<'a> {
 
     /// The place of the instance of a call, until the next call of `place`. It is made where it is not
     /// kept. An `Err` comes as from `plus_ground::instance`.
+    #[inline(always)]
     pub fn place(&mut self, alloc: Global, call: &Call) -> Result<Place, InstanceFault>
         requires { AreMade self.old }
         ensures kept { StayMade self.old self.new }
@@ -211,6 +212,7 @@ impl<'a> Instances<'a> {
     }
 
     // The place of the small instance of a call with this slot, where it is kept.
+    #[inline(always)]
     fn small_place(&self, slot: usize, call: &Call) -> Option<usize>
         requires { AreMade self.now }
         ensures { IfSome result (λ place.
@@ -222,6 +224,7 @@ impl<'a> Instances<'a> {
     }
 
     // The place of the large instance of a call with this hash, where it is kept.
+    #[inline(always)]
     fn large_place(&self, hash: u64, call: &Call) -> Option<usize>
         requires { AreMade self.now }
         ensures { IfSome result (λ place.

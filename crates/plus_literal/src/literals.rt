@@ -77,6 +77,7 @@ fn power_of_ten(places: u8) -> u128
 }
 
 /// The number that a literal means. It is `Outside` exactly where that is no value of the type.
+#[inline(always)]
 pub fn literal<Q: FromParts>(literal: &Literal) -> Result<Q, Outside>
     ensures { AnswersLiteral Q.value Q.fits literal.now result }
 {

@@ -120,6 +120,7 @@ impl Frac64 {
     }
 
     // the sum
+    #[inline(always)]
     fn added(self, other: Frac64) -> Result<Frac64, Outside>
         ensures { Answers fraction_of IsFrac64 (fraction_of self +ℚ fraction_of other) result }
     {
@@ -131,6 +132,7 @@ impl Frac64 {
     }
 
     // the difference
+    #[inline(always)]
     fn lessened(self, other: Frac64) -> Result<Frac64, Outside>
         ensures { Answers fraction_of IsFrac64 (fraction_of self -ℚ fraction_of other) result }
     {
@@ -199,6 +201,7 @@ impl Exact for Frac64 {
         Frac64::narrow(top, n.unsigned_abs(), d as u64)
     }
 
+    #[inline(always)]
     fn add(self, other: Frac64) -> Result<Frac64, Outside> {
         if self.n == 0 {
             Ok(other)
@@ -207,6 +210,7 @@ impl Exact for Frac64 {
         }
     }
 
+    #[inline(always)]
     fn sub(self, other: Frac64) -> Result<Frac64, Outside> {
         if other.n == 0 {
             Ok(self)

@@ -14,6 +14,7 @@ use std::alloc::{AllocError, Global};
 const USUAL_LEN: usize = 64;
 
 // Makes a text that of a label: the name, and the names of these objects.
+#[inline(always)]
 fn spell(
     extents: &Extents<'_>,
     name: &[u8],

@@ -114,6 +114,7 @@ impl<'a> Numbering<'a> {
 
     /// The ground atom of the predicate with a name and these objects. Where there is none, as with an
     /// object of a wrong type, the number of ground atoms.
+    #[inline(always)]
     pub fn atom(&self, predicate: &[u8], objects: &[u32]) -> AtomId
         ensures { result.0 ≡ number_of (context self.now.typed.now)
             self.now.typed.now.domain.predicates predicate.now objects.now }
@@ -130,6 +131,7 @@ impl<'a> Numbering<'a> {
 
     /// The ground fluent of the function with a name and these objects. Where there is none, as with an
     /// object of a wrong type, the number of ground fluents.
+    #[inline(always)]
     pub fn fluent(&self, function: &[u8], objects: &[u32]) -> FluentId
         ensures { result.0 ≡ number_of (context self.now.typed.now)
             self.now.typed.now.domain.functions function.now objects.now }
@@ -191,6 +193,7 @@ impl<'a> Numbering<'a> {
     }
 
     /// The label of a ground form: the name, and the names of these objects.
+    #[inline(always)]
     pub fn label(&self, alloc: Global, name: &[u8], objects: &[u32]) -> Result<Label, AllocError>
         ensures { IfOk result (λ l. l ≡ label_of name.now
             (object_names (context self.now.typed.now) objects.now)) }

@@ -63,6 +63,7 @@ fn place_in(list: &[u32], object: u32) -> Option<usize>
 
 // The place of these objects among the lists that take one object of each parameter's type, of which
 // there are `size`; where they are none of these, `size`.
+#[inline(always)]
 fn rank(
     extents: &Extents<'_>,
     params: &[TypedName],
@@ -90,6 +91,7 @@ fn rank(
 
 /// The number of the ground atom or fluent of the predicate or function with a name, and of these
 /// objects. Where there is none, how many there are.
+#[inline(always)]
 pub fn number(
     extents: &Extents<'_>,
     declared: &Declared<'_>,

@@ -81,6 +81,7 @@ fn init(alloc: Global, reader: &mut Reader<'_>, room: u8, front: Span) -> Result
 }
 
 // The number that comes next.
+#[inline(always)]
 #[tactic(auto, unfolding(crate::specs::ReadingProblem::literal_next))]
 fn number(reader: &mut Reader<'_>, room: u8) -> Result<Literal, TextFault>
     ensures gives { Gives (λ n. n) reader.new result (literal_next room reader.old) }

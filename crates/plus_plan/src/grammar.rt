@@ -52,6 +52,7 @@ fn divisor(reader: &mut Reader<'_>) -> Result<(u128, Span), Refusal>
 }
 
 // The rest of a time behind its `/`, and its colon.
+#[inline(always)]
 #[tactic(auto, unfolding(crate::specs::Grammar::quotient_of))]
 fn quotient(reader: &mut Reader<'_>, top: u128, front: Span) -> Result<Time, Refusal>
     ensures gives { Gives (λ x. x) reader.new result (quotient_of top front reader.old) }
@@ -108,6 +109,7 @@ fn divided(reader: &mut Reader<'_>, top: u128, places: u8, front: Span) -> Resul
     }
 }
 
+#[inline(always)]
 fn name(alloc: Global, reader: &mut Reader<'_>) -> Result<Name, Refusal>
     ensures gives { Gives (λ x. x) reader.new result (name_of reader.old) }
 {
@@ -118,6 +120,7 @@ fn name(alloc: Global, reader: &mut Reader<'_>) -> Result<Name, Refusal>
 }
 
 // Names up to the closing parenthesis.
+#[inline(always)]
 fn args(alloc: Global, reader: &mut Reader<'_>) -> Result<NameArgs, Refusal>
     ensures gives { Gives (λ x. x) reader.new result (args_of reader.old) }
 {
@@ -134,6 +137,7 @@ fn args(alloc: Global, reader: &mut Reader<'_>) -> Result<NameArgs, Refusal>
 }
 
 // A call behind its opening parenthesis.
+#[inline(always)]
 #[tactic(auto, unfolding(crate::specs::Grammar::call_of))]
 fn call(alloc: Global, reader: &mut Reader<'_>) -> Result<Call, Refusal>
     ensures gives { Gives (λ x. x) reader.new result (call_of reader.old) }
@@ -144,6 +148,7 @@ fn call(alloc: Global, reader: &mut Reader<'_>) -> Result<Call, Refusal>
 }
 
 // Nothing is left.
+#[inline(always)]
 fn end(reader: &mut Reader<'_>) -> Result<(), Refusal>
     ensures gives { Gives (λ _. tt) reader.new result (end_of reader.old) }
 {

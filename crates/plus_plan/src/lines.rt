@@ -49,6 +49,7 @@ fn fault_of(line: u32, size: usize, refusal: Refusal) -> PlanFault
     }
 }
 
+#[inline(always)]
 fn line_of(
     alloc: Global,
     bytes: &[u8],
@@ -68,6 +69,7 @@ fn line_of(
 }
 
 // Puts what these bytes say in place of a line.
+#[inline(always)]
 #[tactic(auto, unfolding(crate::specs::Lines::read_line))]
 pub fn read_line(
     alloc: Global,

@@ -162,6 +162,7 @@ impl PlanReader {
     }
 
     /// The same, but the line is put in place of another, and the answer says whether there is one.
+    #[inline(always)]
     pub fn next_line_in(&mut self, into: &mut Line) -> Result<bool, PlanFault>
         ensures none { (result ≡ Ok false) ↔ IsIdle self.old }
         ensures unchanged { IfOk result (λ found. IsFalse found → self.new ≡ self.old) }

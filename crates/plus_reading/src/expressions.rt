@@ -23,6 +23,7 @@ fn has_sign(negative: bool, digits: u128) -> bool
 }
 
 // The number `digits / 10^places` without zeros at the end of its places, and 0 without a sign.
+#[inline(always)]
 #[tactic(auto, using(crate::proofs::Trimmed::trimming))]
 fn trimmed(negative: bool, digits: u128, places: u8, span: Span) -> Literal
     ensures { result ≡ trimmed negative span places digits }

@@ -85,6 +85,7 @@ impl<'a> Reader<'a> {
     }
 
     /// The closing parenthesis that comes next.
+    #[inline(always)]
     #[tactic(auto, unfolding(crate::specs::Grammar::token_of))]
     pub fn close(&mut self, room: u8) -> Result<Seen<'a>, TextFault>
         ensures gives { Gives seen self.new result (close_of room self.old) }
@@ -111,6 +112,7 @@ impl<'a> Reader<'a> {
     }
 
     /// The name that comes next, which may be that of a predicate.
+    #[inline(always)]
     #[tactic(auto, unfolding(crate::specs::Grammar::token_of))]
     pub fn plain(&mut self, room: u8) -> Result<Seen<'a>, TextFault>
         ensures gives { Gives seen self.new result (plain_of room self.old) }

@@ -65,6 +65,7 @@ pub enum Allowed {
 }
 
 /// Whether a word is this one, in small or large letters.
+#[inline(always)]
 pub fn is_the(word: &[u8], small: &[u8]) -> bool
     requires { lowered small.now ≡ small.now }
     ensures { result ≡ bytes_eq (lowered word.now) small.now }
@@ -73,6 +74,7 @@ pub fn is_the(word: &[u8], small: &[u8]) -> bool
 }
 
 // What a word of changes begins; any other name is plain.
+#[inline(always)]
 fn change_head(word: &[u8]) -> HeadWord
     ensures { result ≡ look (lowered word.now) changes HeadWord.Plain }
 {

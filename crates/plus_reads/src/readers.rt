@@ -19,6 +19,7 @@ pub struct Readers {
 }
 
 // The member with this number reads all these keys.
+#[inline(always)]
 fn add_all(table: &mut Table, keys: &[u32], reader: u32) -> Result<(), AllocError>
     requires { All (λ k. k < length table.old) keys.now }
     ensures { IfOk result (λ _. AddsReader table.old table.new keys.now reader) }

@@ -53,6 +53,7 @@ impl Table {
     }
 
     /// Appends the readers of a key to a list.
+    #[inline(always)]
     pub fn append_readers(&self, key: u32, into: &mut Vec<u32>) -> Result<(), AllocError>
         ensures { IfOk result (λ _. into.new.items ≡ into.old.items ++ readers_at self.now key) }
     {

@@ -14,6 +14,7 @@ use plus_state::walk::Conditional;
 use std::alloc::{AllocError, Global};
 
 // In order, each once. The numbers are a few lists that rise, one behind the other, and this sort merges such.
+#[inline(always)]
 fn sort_once(numbers: &mut Vec<u32>) -> Result<(), AllocError>
     ensures rises { IfOk result (λ _. IsRising 0 numbers.new.items) }
     ensures same { IfOk result (λ _. (k : ℕ) → is_in numbers.new.items k ≡ true ↔ is_in numbers.old.items k ≡ true) }
@@ -25,6 +26,7 @@ fn sort_once(numbers: &mut Vec<u32>) -> Result<(), AllocError>
 
 /// Adds to these numbers those of the readers of all that is changed, and puts them in ground order, each
 /// once.
+#[inline(always)]
 pub fn touched<Q: Exact>(
     readers: &Readers,
     changes: &Changes<Q>,
@@ -45,6 +47,7 @@ pub fn touched<Q: Exact>(
 }
 
 // The numbers of the readers of these fluents.
+#[inline(always)]
 fn numbers_by(
     alloc: Global,
     readers: &Readers,
@@ -61,6 +64,7 @@ fn numbers_by(
 }
 
 /// The readers of these fluents, in ground order and without repeats.
+#[inline(always)]
 pub fn readers_by<I: Conditional>(
     alloc: Global,
     readers: &Readers,
@@ -74,6 +78,7 @@ pub fn readers_by<I: Conditional>(
 }
 
 /// Puts the numbers of these events in place of others, whose memory they take.
+#[inline(always)]
 pub fn numbers_into(events: &[EventId], numbers: &mut Vec<u32>) -> Result<(), AllocError>
     ensures { IfOk result (λ _. numbers.new.items ≡ event_numbers events.now) }
 {

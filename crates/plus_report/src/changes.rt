@@ -25,6 +25,7 @@ fn is_same<Q: Exact>(x: Q, y: Q) -> bool
     }
 }
 
+#[inline(always)]
 fn put_value<Q: Exact, O: Sink>(
     out: &mut O,
     waiting: &mut Waiting,
@@ -65,6 +66,7 @@ pub fn put_new_value<Q: Exact, O: Sink>(
 }
 
 /// Puts a label behind a mark, where something was so and is no longer.
+#[inline(always)]
 pub fn put_mark<O: Sink>(
     out: &mut O,
     waiting: &mut Waiting,

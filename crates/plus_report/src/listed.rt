@@ -14,6 +14,7 @@ use plus_number::exact::Exact;
 use plus_state::{Changes, Ground, State};
 
 /// Puts the fluents that get another value.
+#[inline(always)]
 pub fn put_listed_fluents<Q: Exact, O: Sink>(
     out: &mut O,
     waiting: &mut Waiting,
@@ -76,6 +77,7 @@ fn put_listed_gained<Q: Exact, O: Sink>(
 }
 
 /// Puts the atoms lost, the atoms gained, and the fluents with another value.
+#[inline(always)]
 pub fn put_listed<Q: Exact, O: Sink>(
     out: &mut O,
     waiting: &mut Waiting,

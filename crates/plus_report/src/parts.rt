@@ -16,6 +16,7 @@ use plus_io::{Failed, Sink};
 use plus_number::exact::Exact;
 use plus_state::{Changes, EventId, Ground, Label, ProcessId, State};
 
+#[inline(always)]
 fn put_spaced<O: Sink>(out: &mut O, waiting: &mut Waiting, label: &[u8]) -> Result<(), Failed>
     ensures { Puts O.taken O.faults out.old out.new waiting.old.items waiting.new.items
         (codes " " ++ label.now) result }

@@ -61,6 +61,7 @@ pub fn put_end<O: Sink>(out: &mut O, waiting: &mut Waiting, text: &[u8]) -> Resu
 }
 
 /// Puts three texts, one after the other.
+#[inline(always)]
 pub fn put_three<O: Sink>(
     out: &mut O,
     waiting: &mut Waiting,
@@ -92,6 +93,7 @@ pub fn put_numbered<O: Sink>(
     put(out, waiting, after)
 }
 
+#[inline(always)]
 fn put_bottom<O: Sink>(out: &mut O, waiting: &mut Waiting, bottom: u64) -> Result<(), Failed>
     ensures { Puts O.taken O.faults out.old out.new waiting.old.items waiting.new.items
         (bottom_text bottom) result }
@@ -103,6 +105,7 @@ fn put_bottom<O: Sink>(out: &mut O, waiting: &mut Waiting, bottom: u64) -> Resul
     put_natural(out, waiting, bottom)
 }
 
+#[inline(always)]
 pub fn put_fraction<Q: Exact, O: Sink>(
     out: &mut O,
     waiting: &mut Waiting,
@@ -117,6 +120,7 @@ pub fn put_fraction<Q: Exact, O: Sink>(
 }
 
 /// Puts a fraction and the end of its line.
+#[inline(always)]
 pub fn put_fraction_end<Q: Exact, O: Sink>(
     out: &mut O,
     waiting: &mut Waiting,

@@ -22,6 +22,7 @@ fn first_of(x: Option<FluentId>, y: Option<FluentId>) -> Option<FluentId>
 }
 
 // The first fluent of an expression that moves, in the order of the text.
+#[inline(always)]
 #[tactic(auto, using(crate::proofs::CouplingLemmas::naming))]
 fn moving_name<Q: Exact>(expr: &Expr<Q>, rates: &Rates<Q>) -> Option<FluentId>
     requires { IsIn (length rates.now) (expression_of Q.value expr.now) }

@@ -140,6 +140,7 @@ fn with_places<Q: Exact>(
 /// The net rate of each fluent under these processes, which stand in ground order: the sum of their
 /// rates on it, all read in this state. The refusal is the first step that stops: members in order, of
 /// each its rates in order, of each the amount, then a missing value, then the sum; or want of memory.
+#[inline(always)]
 pub fn net_rates<Q: Exact>(
     alloc: Global,
     ground: &Ground<Q>,

@@ -52,6 +52,7 @@ fn rate_stop<Q: Exact>(stop: RateStop<Q>) -> SettleStop<Q>
 }
 
 // The net rates under these processes.
+#[inline(always)]
 pub fn own_rates<Q: Exact>(
     alloc: Global,
     ground: &Ground<Q>,

@@ -58,6 +58,7 @@ fn note_all<Q: Exact>(
 }
 
 // The writes on atoms by their atoms, of each atom what deletes it before what adds it.
+#[inline(always)]
 fn sorted_puts<Q: Exact>(alloc: Global, due: &[Due<Q>]) -> Result<Vec<AtomChange>, AllocError>
     ensures { IfOk result (λ c. Sorts (puts_as false (map (due_of Q.value) due.now) ++ puts_as true (map (due_of Q.value) due.now)) (atom_changes c.items)) }
 {
@@ -136,6 +137,7 @@ fn last_of_each(alloc: Global, puts: &[AtomChange]) -> Result<Vec<AtomChange>, A
 }
 
 /// What becomes of the atoms, by their numbers.
+#[inline(always)]
 pub fn changed_atoms<Q: Exact>(alloc: Global, due: &[Due<Q>]) -> Result<Vec<AtomChange>, AllocError>
     ensures rises { IfOk result (λ c. Rises (atom_changes c.items)) }
     ensures inside { IfOk result (λ c. (n m : _) → DuesFit n m (map (due_of Q.value) due.now) → AreIn n (atom_changes c.items)) }

@@ -77,6 +77,7 @@ impl<Q: Exact> Changes<Q> {
     }
 
     /// Equal changes.
+    #[inline(always)]
     pub fn copy(&self, alloc: Global) -> Result<Changes<Q>, AllocError>
         ensures { IfOk result (λ c. c ≡ self.now) }
     {

@@ -74,6 +74,7 @@ fn set<Q: Exact>(fluent: FluentId, op: AssignOp, amount: Q) -> Due<Q>
 }
 
 // The write that is due, or what stops it.
+#[inline(always)]
 #[tactic(auto, using(crate::proofs::StepsLemmas::stepping))]
 pub fn write_due<Q: Exact>(write: &Write<Q>, state: &State<Q>) -> Result<Due<Q>, WriteStop<Q>>
     requires { WriteFits (length (state.now.atoms)) (length (state.now.fluents)) (write_of Q.value write.now) }
@@ -114,6 +115,7 @@ pub fn write_due<Q: Exact>(write: &Write<Q>, state: &State<Q>) -> Result<Due<Q>,
 }
 
 // The write that is due by an effect, if its guard holds, or what stops it.
+#[inline(always)]
 #[tactic(auto, using(crate::proofs::StepsLemmas::guarding))]
 pub fn effect_due<Q: Exact>(
     effect: &Effect<Q>,

@@ -93,6 +93,7 @@ fn note_due<Q: Exact>(changes: &mut Changes<Q>, state: &State<Q>, write: Option<
 
 /// Puts what these effects change of the state in place of changes, if nothing stops them and they are plain. Else it
 /// says that they are not, and what the changes are then is not to be used.
+#[inline(always)]
 pub fn plain_changes<Q: Exact>(
     changes: &mut Changes<Q>,
     state: &State<Q>,

@@ -44,6 +44,7 @@ impl<Q: Exact> Trail<Q> {
     }
 
     /// Makes a step. It takes no memory, and leaves that of the changes of the step before.
+    #[inline(always)]
     pub fn step(&mut self, changes: &mut Changes<Q>)
         requires { RisesIn self.old.state changes.old }
         ensures { self.new ≡ record { state = patched self.old.state changes.old; before = self.old.state } }

@@ -39,6 +39,7 @@ fn combine<Q: Exact>(sign: Sign, value: Option<Q>, amount: Q) -> Result<Option<Q
 }
 
 // What a write makes of the value before it.
+#[inline(always)]
 #[tactic(auto, using(crate::proofs::AskedLemmas::calculating))]
 pub fn updated<Q: Exact>(
     op: AssignOp,

@@ -116,6 +116,7 @@ fn append_if<I: Conditional>(found: &mut Vec<I>, member: I, holds: bool) -> Resu
 /// Those of these members whose condition holds, in ground order. What the conditions of all others
 /// ask is known to pass, so the refusal is the first node of the conditions of all members that is no
 /// value; or want of memory. Where none of the others holds, the answer is all members that hold.
+#[inline(always)]
 pub fn holding_among<Q: Exact, I: Conditional>(
     alloc: Global,
     ground: &Ground<Q>,

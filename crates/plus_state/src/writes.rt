@@ -34,6 +34,7 @@ fn note<Q: Exact>(into: &mut Vec<Written<Q>>, write: &Due<Q>) -> Result<(), Allo
 }
 
 /// The writes on fluents by their fluents, those on one fluent in the order added.
+#[inline(always)]
 pub fn sorted_writes<Q: Exact>(alloc: Global, due: &[Due<Q>]) -> Result<Vec<Written<Q>>, AllocError>
     ensures { IfOk result (λ w. Sorts (sets (map (due_of Q.value) due.now)) (write_list Q.value w.items)) }
 {

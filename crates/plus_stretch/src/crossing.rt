@@ -141,6 +141,7 @@ fn later<Q: Exact>(time: Q, delay: Q) -> Result<Q, Halt<Q>>
 }
 
 // Moves the state ahead to so much time after the beginning; what has changed since then.
+#[inline(always)]
 pub fn move_ahead<Q: Exact>(
     alloc: Global,
     state: &State<Q>,

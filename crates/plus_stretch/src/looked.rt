@@ -81,6 +81,7 @@ pub fn everywhere<Q: Exact>(
 }
 
 // In order, each once.
+#[inline(always)]
 fn sort_once(numbers: &mut Vec<u32>)
     ensures rises { IsRising 0 numbers.new.items }
     ensures same { (k : ℕ) → is_in numbers.new.items k ≡ true ↔ is_in numbers.old.items k ≡ true }

@@ -17,6 +17,7 @@ use plus_state::truth::holds;
 use std::alloc::Global;
 
 // Puts what the action changes in place of changes, whose memory it uses; or answers the first step that stops it.
+#[inline(always)]
 pub fn action_changes_in<Q: Exact>(
     changes: &mut Changes<Q>,
     alloc: Global,

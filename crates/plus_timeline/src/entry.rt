@@ -88,6 +88,7 @@ fn patch_some<Q: Exact>(state: &mut Option<State<Q>>, changes: &Changes<Q>)
 }
 
 // The changes that are kept, and later ones, unless there are more than so many of either kind.
+#[inline(always)]
 fn noted<Q: Exact>(
     past: Option<Changes<Q>>,
     later: &Changes<Q>,
@@ -159,6 +160,7 @@ impl<Q: Exact> EntryStates<Q> {
     }
 
     /// Makes a step within the entry.
+    #[inline(always)]
     pub fn step(&mut self, mut changes: Changes<Q>) -> Result<(), AllocError>
         requires { RisesIn self.old.state changes }
         ensures ok { OnOk result (self.new ≡ record self.old {

@@ -43,6 +43,7 @@ fn first_after<Q: Exact>(literals: &[Timed<Q>], time: Q) -> usize
 }
 
 // Where those of the time begin, and where they end.
+#[inline(always)]
 fn run_of<Q: Exact>(literals: &[Timed<Q>], time: Q) -> (usize, usize)
     requires { AreInOrder (whole (pos 0)) (map (timed_of Q.value) literals.now) }
     ensures turn { result.0 ≤ result.1 }
@@ -56,6 +57,7 @@ fn run_of<Q: Exact>(literals: &[Timed<Q>], time: Q) -> (usize, usize)
 }
 
 /// The least of a moment and of the times of literals that come after the present time.
+#[inline(always)]
 pub fn bound<Q: Exact>(ground: &Ground<Q>, time: Q, until: Q) -> Q
     ensures { Q.value result ≡ least (Q.value time) (Q.value until) (problem_of Q.value ground.now).timed }
 {
@@ -68,6 +70,7 @@ pub fn bound<Q: Exact>(ground: &Ground<Q>, time: Q, until: Q) -> Q
 }
 
 // What these literals do.
+#[inline(always)]
 fn puts<Q: Exact>(alloc: Global, literals: &[Timed<Q>]) -> Result<Vec<Due<Q>>, AllocError>
     ensures { IfOk result (λ due. map (due_of Q.value) due.items ≡ puts_of literals.now) }
 {
@@ -79,6 +82,7 @@ fn puts<Q: Exact>(alloc: Global, literals: &[Timed<Q>]) -> Result<Vec<Due<Q>>, A
 }
 
 /// What the literals of this time change: an atom that is set and cleared is set.
+#[inline(always)]
 pub fn literal_changes<Q: Exact>(
     alloc: Global,
     ground: &Ground<Q>,

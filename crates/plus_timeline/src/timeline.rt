@@ -185,6 +185,7 @@ impl<Q: Exact> Timeline<Q> {
     /// `line` is the number of its line in the plan's text, which a breach names. It follows a `There`,
     /// and the cascade after it is fired by `advance`. A refusal is the first test that fails: the
     /// condition, then the joint effect.
+    #[inline(always)]
     pub fn act(&mut self, ground: &Ground<Q>, action: &Action<Q>, line: u32) -> Result<(), Stop<Q>>
         requires serves { IsGoing self.old → Serves (problem_of Q.value ground.now) self.old }
         requires paused { IsGoing self.old → IsPaused self.old }
@@ -454,6 +455,7 @@ impl<Q: Exact> Timeline<Q> {
     }
 
     /// A step of `advance`: all events of the round that is due fire.
+    #[inline(always)]
     pub fn put_round(&mut self, round: DueRound<Q>) -> Result<(), AllocError>
         requires events { All (λ e. e < self.old.event_count) (event_numbers round.events.items) }
         requires rises { RisesIn self.old.now.state round.changes }
@@ -480,6 +482,7 @@ impl<Q: Exact> Timeline<Q> {
 
     /// A step of `advance` where no event holds: whether the entry is to be closed, or else the time is
     /// reached. It is refused where no further entry is allowed.
+    #[inline(always)]
     pub fn must_close(&self, ground: &Ground<Q>, until: Q) -> Result<bool, Stop<Q>>
         requires going { IsGoing self.now }
         requires moment { self.now.now.running ≡ None }
@@ -686,6 +689,7 @@ impl<Q: Exact> Timeline<Q> {
     }
 
     // Goes on in the state after an action, which changed this.
+    #[inline(always)]
     fn put_changes(&mut self, changes: Changes<Q>) -> Result<(), AllocError>
         requires there { self.old.answer ≡ Some Next.There }
         requires count { self.old.now.acted < u64.MAX }

@@ -35,6 +35,7 @@ impl MadeWith<Global> for Name {
 
 impl Name {
     /// The name of these bytes. PDDL tells no case apart, so names are kept in small letters.
+    #[inline(always)]
     pub fn new(alloc: Global, bytes: &[u8]) -> Result<Name, AllocError>
         ensures { IfOk result (λ name. name ≡ bytes.now) }
     {
@@ -44,6 +45,7 @@ impl Name {
     }
 
     /// The name that a word of a text spells: its bytes in small letters.
+    #[inline(always)]
     pub fn of_word(alloc: Global, word: &[u8]) -> Result<Name, AllocError>
         ensures { IfOk result (λ name. name ≡ lowered word.now) }
     {

@@ -6,6 +6,7 @@ use itoa::Buffer;
 use std::alloc::AllocError;
 
 // Appends these bytes.
+#[inline(always)]
 pub fn put(text: &mut Vec<u8>, bytes: &[u8]) -> Result<(), AllocError>
     ensures { OnOk result (text.new.items ≡ text.old.items ++ bytes.now) }
 {

@@ -84,6 +84,7 @@ impl Run {
 
     /// The time of a line, which may be played now.
     #[tactic(auto, using(crate::proofs::Shown::in_time))]
+    #[inline(always)]
     fn moment(&self, line: u32, time: &Time) -> Result<Frac64, Halt>
         requires { 0 < time.now.bottom }
         ensures ok { IfOk result (IsInTime self.now.ended self.now.timeline.line.now.time time.now) }

@@ -42,6 +42,7 @@ fn is_there(next: Next<Frac64>) -> bool
 }
 
 // Writes a moment: the fluents that moved, and where it has literals what they change.
+#[inline(always)]
 fn write_moment(
     report: &mut Report,
     ground: &Ground<Frac64>,
@@ -61,6 +62,7 @@ fn write_moment(
 }
 
 // Writes what the timeline did.
+#[inline(always)]
 fn write_next(
     report: &mut Report,
     ground: &Ground<Frac64>,
