@@ -6,6 +6,9 @@ usage: growth.py [PROGRAM]
 Each world is checked at three sizes, each twice the one before. The last column is the time at the
 largest size by that at the middle one: about 2 where the time grows with the size, about 4 where it
 grows with its square. The time is that of user and system together, the least of three runs.
+
+Then a plan is searched beside so many atoms and fluents that nothing touches. Its time is what 20,000
+tries take more than one try, which pays for reading and grounding: it should not grow.
 """
 import os, subprocess, sys, tempfile
 
@@ -43,6 +46,18 @@ FIRES = """(define (domain fires)
 LAMP = """(define (domain lamp)
  (:predicates (lit)) (:functions (x))
  (:process glow :precondition (lit) :effect (increase (x) (* #t 1))))
+"""
+
+
+IDLE = """(define (domain idle)
+ (:types room thing)
+ (:predicates (heat ?r - room) (seen) (mark ?t - thing))
+ (:functions (x ?r - room) (up ?r - room) (size ?t - thing))
+ (:process warm :parameters (?r - room) :precondition (heat ?r) :effect (increase (x ?r) (* #t (up ?r))))
+ (:process cool :parameters (?r - room) :precondition (not (heat ?r)) :effect (decrease (x ?r) (* #t 1)))
+ (:event off :parameters (?r - room) :precondition (and (heat ?r) (>= (x ?r) 2)) :effect (not (heat ?r)))
+ (:event on :parameters (?r - room) :precondition (and (not (heat ?r)) (<= (x ?r) 0)) :effect (heat ?r))
+ (:action note :parameters () :precondition (and) :effect (seen)))
 """
 
 
@@ -105,6 +120,14 @@ def marks(count):
     return MARKS, problem("marks", names(count), init), f"{count + 9}: @end\n"
 
 
+def idle(count):
+    """Two rooms to search over, beside so many atoms and fluents."""
+    things = [f"t{i}" for i in range(count)]
+    init = "".join(f"(heat {r})(= (x {r}) 0)(= (up {r}) {i + 1})" for i, r in enumerate("ab"))
+    init += "".join(f"(mark {t})(= (size {t}) {i % 97})" for i, t in enumerate(things))
+    return IDLE, problem("idle", ["a", "b", "- room", *things, "- thing"], init, "(= (x a) 7)")
+
+
 WORLDS = (
     ("tanks opened one by one", one_by_one, 2500),
     ("tanks opened together", together, 1250),
@@ -124,6 +147,16 @@ def seconds(words, folder):
     return usage.ru_utime + usage.ru_stime, os.waitstatus_to_exitcode(status)
 
 
+def searched(count):
+    """What 20,000 tries take more than one."""
+    with tempfile.TemporaryDirectory() as folder:
+        for name, text in zip("dp", idle(count)):
+            with open(os.path.join(folder, name), "w") as file:
+                file.write(text)
+        one, many = (min(seconds(["plan", "1/4", "14", tries, "d", "p"], folder)[0] for _ in range(3)) for tries in ("1", "20000"))
+    return many - one
+
+
 def main():
     print(f"{'world':36}{'size':>9}{'seconds':>9}{'twice':>9}{'four times':>12}   growth")
     for title, make, size in WORLDS:
@@ -139,6 +172,8 @@ def main():
                 times.append(min(time for time, _ in runs))
         growth = times[2] / times[1] if times[1] else 0
         print(f"{title:36}{size:9}{times[0]:9.3f}{times[1]:9.3f}{times[2]:12.3f}{growth:9.1f}", flush=True)
+    for count in (125, 500, 2000, 8000):
+        print(f"a search beside {count} atoms and fluents: {searched(count):.3f}", flush=True)
 
 
 main()

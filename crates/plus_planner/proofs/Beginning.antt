@@ -16,7 +16,10 @@ use Rattle.plus_planner.specs.Grid.{Task, timed, AllTimes, IsClearIn, Plays, IsA
 use Rattle.plus_planner.specs.Standing.{CanReach, IsOnWay, Carried}
 use Rattle.plus_planner.specs.Places.{StandsAt, CanSearch, uncut}
 use Rattle.plus_planner.specs.Searches.{HasNone}
-use Rattle.plus_planner.specs.Worlds.{Stands}
+use Rattle.plus_planner.specs.Kin.{IsKin}
+use Rattle.plus_planner.specs.Worlds.{Stands, Holds}
+use Rattle.plus_planner.specs.declared.places.Taken.{Taken}
+use Rattle.plus_planner.specs.declared.places.Tried.{Tried}
 use Rattle.plus_planner.proofs.Walks.{Ends, now_of, broken_ends, halts_at, carried_ends}
 use Rattle.plus_planner.proofs.SearchLemmas.{uncut_is_tree, no_plan, beyond_number}
 
@@ -47,11 +50,10 @@ module _ (fits : Fraction → Type 0) (task : Task) where
   first_times : fits (whole (pos 0)) → AllTimes fits (timed task []).lines
   first_times f = (subst fits (sym (zero-*ℚ task.interval)) f, tt)
 
-  begin_ends : (u : Fraction) (old new : TimelineView) (fate : Fate) → fits (whole (pos 0)) → u ≡ whole (pos 0) → old ≡ begun task.problem task.most → Carried fits task.problem u old new fate → Ends fits task [] new fate
-  begin_ends u old new fate f e b c =
+  begin_ends : (new : TimelineView) (fate : Fate) → fits (whole (pos 0)) → Carried fits task.problem (whole (pos 0)) (begun task.problem task.most) new fate → Ends fits task [] new fate
+  begin_ends new fate f c =
       carried_ends fits task [] (begun task.problem task.most) new (first_part task.problem ∷ []) 0 fate (first_times f) refl refl first_way
-      (subst (λ (z : Fraction). Carried fits task.problem z (begun task.problem task.most) new fate) (e ∙ sym (zero-*ℚ task.interval))
-      (subst (λ (z : TimelineView). Carried fits task.problem u z new fate) b c))
+      (subst (λ (z : Fraction). Carried fits task.problem z (begun task.problem task.most) new fate) (sym (zero-*ℚ task.interval)) c)
 
   nothing_is : {A : Type 0} (ps qs : List A) (x : A) → [] ≡ ps ++ x ∷ qs → ⊥
   nothing_is [] qs x e = cc e
@@ -62,9 +64,9 @@ module _ (fits : Fraction → Type 0) (task : Task) where
   both_empty (p ∷ ps) qs e = cc e
 
   -- it comes there: the walk stands at the beginning
-  pub begin_stands : {Q : Type 0} (u : Fraction) (old new : TimelineView) → fits (whole (pos 0)) → u ≡ whole (pos 0) → old ≡ begun task.problem task.most → CanSearch task → Carried fits task.problem u old new Alive → Stands {Q = Q} fits task new [] []
-  begin_stands {Q} u old new f e b can c =
-      let s : StandsAt fits task [] new = begin_ends u old new Alive f e b c in
+  begin_stands : {Q : Type 0} (new : TimelineView) → fits (whole (pos 0)) → CanSearch task → Carried fits task.problem (whole (pos 0)) (begun task.problem task.most) new Alive → Stands {Q = Q} fits task new [] []
+  begin_stands {Q} new f can c =
+      let s : StandsAt fits task [] new = begin_ends new Alive f c in
       record {
         behind = record {
           can = can;
@@ -79,21 +81,32 @@ module _ (fits : Fraction → Type 0) (task : Task) where
         tree = uncut_is_tree fits task;
       }
 
+  -- and nothing is taken, tried or spared
+  pub begin_holds : {Q : Type 0} (start new : TimelineView) (taken : List (Taken Q)) (tried : List (Tried Q)) (spares : List TimelineView) (fate : Fate) → fits (whole (pos 0)) → CanSearch task → Carried fits task.problem (whole (pos 0)) (begun task.problem task.most) new fate → IsKin task.problem new → fate ≡ Alive → start ≡ new → taken ≡ [] → tried ≡ [] → spares ≡ [] → Holds fits task start taken tried spares
+  begin_holds {Q} start new taken tried spares fate f can c k a s e g h =
+      subst (λ ss. Holds fits task start taken tried ss) (sym h)
+      (subst (λ (ts : List (Tried Q)). Holds fits task start taken ts []) (sym g)
+      (subst (λ (xs : List (Taken Q)). Holds fits task start xs [] []) (sym e)
+      (subst (λ (t : TimelineView). Holds {Q = Q} fits task t [] [] []) (sym s) record {
+        stands = begin_stands new f can (subst (Carried fits task.problem (whole (pos 0)) (begun task.problem task.most) new) a c);
+        kin = record { start_is = k; taken_are = tt; tried_are = tt; spares_are = tt };
+      })))
+
   module _ (k : ℕ) where
     none_alive : (IsAlive fits task [] → ⊥) → (ds : List ℕ) → GridPlan fits task k ds → ⊥
     none_alive n = no_plan fits task k (nothing_starts (uncut fits task) (uncut_is_tree fits task) k n).none
 
     -- a breach stands there: there is no plan, and nothing is beyond
-    pub begin_broken : (u : Fraction) (old new : TimelineView) → fits (whole (pos 0)) → u ≡ whole (pos 0) → old ≡ begun task.problem task.most → Carried fits task.problem u old new Broken → HasNone fits task k 0
-    begin_broken u old new f e b c =
-        let g = begin_ends u old new Broken f e b c in
+    pub begin_broken : (new : TimelineView) (fate : Fate) → fits (whole (pos 0)) → Carried fits task.problem (whole (pos 0)) (begun task.problem task.most) new fate → fate ≡ Broken → HasNone fits task k 0
+    begin_broken new fate f c a =
+        let g = begin_ends new Broken f (subst (Carried fits task.problem (whole (pos 0)) (begun task.problem task.most) new) a c) in
         let n = broken_ends fits task [] (first_times f) g.0 g.1 in
         record { none = none_alive n.0; number = beyond_number fits task k 0 ((nothing_starts (uncut fits task) (uncut_is_tree fits task) k n.0).broken n.1) }
 
     -- a limit stands there: there is no plan, and the empty list is beyond
-    pub begin_beyond : (u : Fraction) (old new : TimelineView) → fits (whole (pos 0)) → u ≡ whole (pos 0) → old ≡ begun task.problem task.most → Carried fits task.problem u old new Beyond → HasNone fits task k 1
-    begin_beyond u old new f e b c =
-        let g = begin_ends u old new Beyond f e b c in
+    pub begin_beyond : (new : TimelineView) (fate : Fate) → fits (whole (pos 0)) → Carried fits task.problem (whole (pos 0)) (begun task.problem task.most) new fate → fate ≡ Beyond → HasNone fits task k 1
+    begin_beyond new fate f c a =
+        let g = begin_ends new Beyond f (subst (Carried fits task.problem (whole (pos 0)) (begun task.problem task.most) new) a c) in
         let ends : EndsBeyond fits task [] = record {
           before = λ ps qs some h. absurd (some (both_empty ps qs h).1);
           within = λ ps qs d h. absurd (nothing_is ps qs d h);

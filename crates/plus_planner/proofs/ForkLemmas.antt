@@ -36,10 +36,10 @@ pub reach_forked : (P : Problem) (u : Fraction) (t : TimelineView) → t.now.run
 reach_forked P u t m c = record { goes = can_forked P t m c.goes; ahead = c.ahead; room = c.room }
 
 -- they go on by the same
-record AreAlike (t t' : TimelineView) : Type 0 where
-  now : t'.now ≡ t.now
-  entries : t'.entries ≡ t.entries
-  most : t'.most ≡ t.most
+pub record AreAlike (t t' : TimelineView) : Type 0 where
+  pub now : t'.now ≡ t.now
+  pub entries : t'.entries ≡ t.entries
+  pub most : t'.most ≡ t.most
 
 alike_way : (fits : Fraction → Type 0) (P : Problem) (L : Plan) (u : Fraction) (acted : ℕ) (h : List Part) (t t' : TimelineView) → AreAlike t t' → IsOnWay fits P L u acted h t → IsOnWay fits P L u acted h t'
 alike_way fits P L u acted h t t' a w = record {
@@ -60,7 +60,7 @@ alike_fails fits P u t t' Kind a f = record {
       (x.0, subst (λ m. FailsAt fits P L m Kind x.0) a.most x.1);
 }
 
-alike_carried : (fits : Fraction → Type 0) (P : Problem) (u : Fraction) (t t' new : TimelineView) (fate : Fate) → AreAlike t t' → Carried fits P u t' new fate → Carried fits P u t new fate
+pub alike_carried : (fits : Fraction → Type 0) (P : Problem) (u : Fraction) (t t' new : TimelineView) (fate : Fate) → AreAlike t t' → Carried fits P u t' new fate → Carried fits P u t new fate
 alike_carried fits P u t t' new Alive a c = record {
   can = c.can;
   paused = c.paused;

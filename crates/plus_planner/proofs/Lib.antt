@@ -11,6 +11,7 @@ pub mod Ticks
 pub mod Walks
 pub mod PlaceLemmas
 pub mod TakenLemmas
+pub mod KinLemmas
 pub mod DecidingLemmas
 pub mod ForkLemmas
 pub mod Resting

@@ -1,6 +1,7 @@
 pub mod Grid
 pub mod Laws
 pub mod Standing
+pub mod Kin
 pub mod Places
 pub mod Tried
 pub mod Once

@@ -5,6 +5,7 @@ use Rattle.plus_search.specs.Tree.{IsTree}
 use Rattle.plus_timeline.specs.Timeline.{TimelineView}
 use Rattle.plus_planner.specs.declared.places.Taken.{Taken}
 use Rattle.plus_planner.specs.Grid.{Task}
+use Rattle.plus_planner.specs.Kin.{AreKin}
 use Rattle.plus_planner.specs.declared.places.Tried.{Tried}
 use Rattle.plus_planner.specs.Places.{uncut, path_of, StandsBehind}
 use Rattle.plus_planner.specs.Tried.{AllReturn}
@@ -14,3 +15,8 @@ pub record Stands {Q : Type 0} (fits : Fraction → Type 0) (task : Task) (start
   pub behind : StandsBehind fits task start taken
   pub returns : AllReturn fits task (path_of taken) tried
   pub tree : IsTree (uncut fits task)
+
+-- and each of its timelines, and of those that are spared, may become a fork of each other one
+pub record Holds {Q : Type 0} (fits : Fraction → Type 0) (task : Task) (start : TimelineView) (taken : List (Taken Q)) (tried : List (Tried Q)) (spares : List TimelineView) : Type 0 where
+  pub stands : Stands fits task start taken tried
+  pub kin : AreKin task.problem start taken tried spares

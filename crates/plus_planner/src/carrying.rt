@@ -1,9 +1,10 @@
 //! Carries a timeline on to a time.
-ghost use Rattle.std.specs.Prelude.{◌≡◌, ◌≢◌, Some, None, IfOk};
+ghost use Rattle.std.specs.Prelude.{◌≡◌, ◌≢◌, Some, None, IfOk, OnOk};
 ghost use Rattle.plus_state.specs.View.{problem_of};
 ghost use Rattle.plus_stretch.specs.Tests.{AllPass};
 ghost use Rattle.plus_timeline.specs.Asked.{round_tests};
 ghost use Rattle.plus_timeline.specs.Finish.{IsPaused};
+ghost use Rattle.plus_planner.specs.Kin.{IsKin};
 ghost use Rattle.plus_planner.specs.Standing.{CanReach, Carried, Steps, fate_by, refused_by};
 
 use plus_number::exact::Exact;
@@ -43,8 +44,10 @@ fn step<Q: Exact>(
     ground: &Ground<Q>,
     until: Q,
 ) -> Result<Option<Fate>, AllocError>
-    requires { CanReach (problem_of Q.value ground.now) (Q.value until) timeline.old }
-    ensures { IfOk result (Steps Q.fits (problem_of Q.value ground.now) (Q.value until) timeline.old timeline.new) }
+    requires reach { CanReach (problem_of Q.value ground.now) (Q.value until) timeline.old }
+    requires kin { IsKin (problem_of Q.value ground.now) timeline.old }
+    ensures steps { IfOk result (Steps Q.fits (problem_of Q.value ground.now) (Q.value until) timeline.old timeline.new) }
+    ensures kin { OnOk result (IsKin (problem_of Q.value ground.now) timeline.new) }
 {
     match timeline.advance(ground, until) {
         Ok(next) => Ok(done(next)),
@@ -59,8 +62,10 @@ pub fn carry<Q: Exact>(
     ground: &Ground<Q>,
     until: Q,
 ) -> Result<Fate, AllocError>
-    requires { CanReach (problem_of Q.value ground.now) (Q.value until) timeline.old }
-    ensures { IfOk result (Carried Q.fits (problem_of Q.value ground.now) (Q.value until) timeline.old timeline.new) }
+    requires reach { CanReach (problem_of Q.value ground.now) (Q.value until) timeline.old }
+    requires kin { IsKin (problem_of Q.value ground.now) timeline.old }
+    ensures carried { IfOk result (Carried Q.fits (problem_of Q.value ground.now) (Q.value until) timeline.old timeline.new) }
+    ensures kin { OnOk result (IsKin (problem_of Q.value ground.now) timeline.new) }
 {
     'steps: loop {
         match step(timeline, ground, until)? {
@@ -81,7 +86,9 @@ fn leave<Q: Exact>(
     requires moment { timeline.old.now.running ≡ None }
     requires passed { AllPass Q.fits (round_tests (problem_of Q.value ground.now)
         timeline.old.now.fired timeline.old.now.state) }
-    ensures { IfOk result (Steps Q.fits (problem_of Q.value ground.now) (Q.value until) timeline.old timeline.new) }
+    requires kin { IsKin (problem_of Q.value ground.now) timeline.old }
+    ensures kin { OnOk result (IsKin (problem_of Q.value ground.now) timeline.new) }
+    ensures steps { IfOk result (Steps Q.fits (problem_of Q.value ground.now) (Q.value until) timeline.old timeline.new) }
 {
     match timeline.rest(ground, until) {
         Ok(next) => Ok(done(next)),
@@ -100,7 +107,9 @@ pub fn carry_on<Q: Exact>(
     requires moment { timeline.old.now.running ≡ None }
     requires passed { AllPass Q.fits (round_tests (problem_of Q.value ground.now)
         timeline.old.now.fired timeline.old.now.state) }
-    ensures { IfOk result (Carried Q.fits (problem_of Q.value ground.now) (Q.value until) timeline.old timeline.new) }
+    requires kin { IsKin (problem_of Q.value ground.now) timeline.old }
+    ensures kin { OnOk result (IsKin (problem_of Q.value ground.now) timeline.new) }
+    ensures carried { IfOk result (Carried Q.fits (problem_of Q.value ground.now) (Q.value until) timeline.old timeline.new) }
 {
     match leave(timeline, ground, until)? {
         Some(fate) => Ok(fate),

@@ -6,11 +6,12 @@ ghost use Rattle.plus_state.specs.Fits.{ActionFits};
 ghost use Rattle.plus_stretch.specs.Tests.{AllPass};
 ghost use Rattle.plus_timeline.specs.Asked.{round_tests};
 ghost use Rattle.plus_timeline.specs.Finish.{IsPaused};
+ghost use Rattle.plus_planner.specs.Kin.{IsKin, AreKin, AddsOne};
 ghost use Rattle.plus_planner.specs.Standing.{CanReach};
 ghost use Rattle.plus_planner.specs.Places.{now_in, base_in, task_from, taken_after, StandsBehind, ActFails, Goes, ActEnds, WaitEnds, CanTry, Walks};
 
-use crate::carrying::{carry, carry_on, refused};
-use crate::held::Held;
+use crate::carrying::refused;
+use crate::held::{Held, fork};
 use crate::places::{Place, Taken};
 use plus_number::exact::Exact;
 use plus_search::Fate;
@@ -32,54 +33,53 @@ fn refuses<Q: Exact>(action: &Action<Q>, timeline: &Timeline<Q>) -> Option<Fate>
     }
 }
 
-// Takes a decision that leads to this timeline, where it can be taken.
+// Takes a decision that leads to this timeline, where it can be taken; otherwise the timeline is spared.
 fn put<Q: Exact>(
-    alloc: Global,
-    taken: &mut Vec<Taken<Q>>,
-    timeline: Timeline<Q>,
+    place: &mut Place<Q>,
+    timeline: Held<Q>,
     decision: u32,
     fate: Fate,
 ) -> Result<(), AllocError>
-    ensures { OnOk result (taken.new.items ≡ taken_after fate taken.old.items decision timeline) }
+    ensures after { OnOk result (place.new.taken.items ≡ taken_after fate place.old.taken.items decision timeline) }
+    ensures start { place.new.start ≡ place.old.start }
+    ensures tried { place.new.tried ≡ place.old.tried }
+    ensures kin { OnOk result (AddsOne timeline place.old.taken.items place.old.spares.items place.new.taken.items place.new.spares.items) }
 {
     match fate {
-        Fate::Alive => {
-            let held = Held::new(alloc, timeline)?;
-            taken.push(Taken {
-                decision,
-                timeline: held,
-            })?;
-        }
-        Fate::Broken => {}
-        Fate::Beyond => {}
+        Fate::Alive => place.taken.push(Taken { decision, timeline })?,
+        Fate::Broken => place.spares.push(timeline)?,
+        Fate::Beyond => place.spares.push(timeline)?,
     }
     Ok(())
 }
 
 // Carries a timeline to a time. Where it comes there, the decision is taken.
 fn go<Q: Exact>(
-    alloc: Global,
     ground: &Ground<Q>,
-    taken: &mut Vec<Taken<Q>>,
-    mut timeline: Timeline<Q>,
+    place: &mut Place<Q>,
+    mut timeline: Held<Q>,
     time: Q,
     decision: u32,
 ) -> Result<Fate, AllocError>
-    requires { CanReach (problem_of Q.value ground.now) (Q.value time) timeline }
-    ensures { IfOk result (Goes Q.fits (problem_of Q.value ground.now) (Q.value time) timeline decision
-        taken.old.items taken.new.items) }
+    requires reach { CanReach (problem_of Q.value ground.now) (Q.value time) timeline }
+    requires kin { IsKin (problem_of Q.value ground.now) timeline }
+    requires all_kin { AreKin (problem_of Q.value ground.now) place.old.start place.old.taken.items place.old.tried.items place.old.spares.items }
+    ensures goes { IfOk result (Goes Q.fits (problem_of Q.value ground.now) (Q.value time) timeline decision
+        place.old.taken.items place.new.taken.items) }
+    ensures start { OnOk result (place.new.start ≡ place.old.start) }
+    ensures tried { OnOk result (place.new.tried ≡ place.old.tried) }
+    ensures kin { OnOk result (AreKin (problem_of Q.value ground.now) place.new.start place.new.taken.items place.new.tried.items place.new.spares.items) }
 {
-    let fate = carry(&mut timeline, ground, time)?;
-    put(alloc, taken, timeline, decision, fate)?;
+    let fate = timeline.carry(ground, time)?;
+    put(place, timeline, decision, fate)?;
     Ok(fate)
 }
 
 // The same from a moment at which nothing is due.
 fn go_on<Q: Exact>(
-    alloc: Global,
     ground: &Ground<Q>,
-    taken: &mut Vec<Taken<Q>>,
-    mut timeline: Timeline<Q>,
+    place: &mut Place<Q>,
+    mut timeline: Held<Q>,
     time: Q,
     decision: u32,
 ) -> Result<Fate, AllocError>
@@ -88,11 +88,16 @@ fn go_on<Q: Exact>(
     requires moment { timeline.now.running ≡ None }
     requires passed { AllPass Q.fits (round_tests (problem_of Q.value ground.now)
         timeline.now.fired timeline.now.state) }
-    ensures { IfOk result (Goes Q.fits (problem_of Q.value ground.now) (Q.value time) timeline decision
-        taken.old.items taken.new.items) }
+    requires kin { IsKin (problem_of Q.value ground.now) timeline }
+    requires all_kin { AreKin (problem_of Q.value ground.now) place.old.start place.old.taken.items place.old.tried.items place.old.spares.items }
+    ensures goes { IfOk result (Goes Q.fits (problem_of Q.value ground.now) (Q.value time) timeline decision
+        place.old.taken.items place.new.taken.items) }
+    ensures start { OnOk result (place.new.start ≡ place.old.start) }
+    ensures tried { OnOk result (place.new.tried ≡ place.old.tried) }
+    ensures kin { OnOk result (AreKin (problem_of Q.value ground.now) place.new.start place.new.taken.items place.new.tried.items place.new.spares.items) }
 {
-    let fate = carry_on(&mut timeline, ground, time)?;
-    put(alloc, taken, timeline, decision, fate)?;
+    let fate = timeline.carry_on(ground, time)?;
+    put(place, timeline, decision, fate)?;
     Ok(fate)
 }
 
@@ -105,12 +110,14 @@ fn act<Q: Exact>(
     place: &mut Place<Q>,
     decision: u32,
 ) -> Result<Fate, AllocError>
-    requires { CanTry (problem_of Q.value ground.now) (action_of Q.value action.now)
+    requires can { CanTry (problem_of Q.value ground.now) (action_of Q.value action.now)
         (now_in place.old.start place.old.taken.items) }
+    requires kin { AreKin (problem_of Q.value ground.now) place.old.start place.old.taken.items place.old.tried.items place.old.spares.items }
     ensures ends { IfOk result (ActEnds Q.fits (problem_of Q.value ground.now) (action_of Q.value action.now)
         decision (now_in place.old.start place.old.taken.items) place.old.taken.items place.new.taken.items) }
     ensures start { OnOk result (place.new.start ≡ place.old.start) }
     ensures tried { OnOk result (place.new.tried ≡ place.old.tried) }
+    ensures kin { OnOk result (AreKin (problem_of Q.value ground.now) place.new.start place.new.taken.items place.new.tried.items place.new.spares.items) }
 {
     if let Some(fate) = refuses(action, place.now()) {
         return Ok(fate);
@@ -126,18 +133,24 @@ fn perform<Q: Exact>(
     place: &mut Place<Q>,
     decision: u32,
 ) -> Result<Fate, AllocError>
-    requires { CanTry (problem_of Q.value ground.now) (action_of Q.value action.now)
+    requires can { CanTry (problem_of Q.value ground.now) (action_of Q.value action.now)
         (now_in place.old.start place.old.taken.items) }
+    requires kin { AreKin (problem_of Q.value ground.now) place.old.start place.old.taken.items place.old.tried.items place.old.spares.items }
     ensures ends { IfOk result (ActEnds Q.fits (problem_of Q.value ground.now) (action_of Q.value action.now)
         decision (now_in place.old.start place.old.taken.items) place.old.taken.items place.new.taken.items) }
     ensures start { OnOk result (place.new.start ≡ place.old.start) }
     ensures tried { OnOk result (place.new.tried ≡ place.old.tried) }
+    ensures kin { OnOk result (AreKin (problem_of Q.value ground.now) place.new.start place.new.taken.items place.new.tried.items place.new.spares.items) }
 {
-    let mut timeline = place.now().fork(alloc)?;
-    let time = timeline.time();
-    match timeline.act(ground, action, 1) {
-        Ok(()) => go(alloc, ground, &mut place.taken, timeline, time, decision),
-        Err(stop) => refused(stop),
+    let spare = place.spares.pop();
+    let mut timeline = fork(alloc, spare, place.now())?;
+    let time = timeline.get().time();
+    match timeline.act(ground, action) {
+        Ok(()) => go(ground, place, timeline, time, decision),
+        Err(stop) => {
+            place.spares.push(timeline)?;
+            refused(stop)
+        }
     }
 }
 
@@ -157,17 +170,20 @@ fn wait<Q: Exact>(
     requires passed { AllPass Q.fits (round_tests (problem_of Q.value ground.now)
         (base_in decision place.old.start place.old.taken.items).now.fired
         (base_in decision place.old.start place.old.taken.items).now.state) }
+    requires kin { AreKin (problem_of Q.value ground.now) place.old.start place.old.taken.items place.old.tried.items place.old.spares.items }
     ensures ends { IfOk result (WaitEnds Q.fits (problem_of Q.value ground.now)
         ((now_in place.old.start place.old.taken.items).now.time +ℚ Q.value interval) decision
         (base_in decision place.old.start place.old.taken.items) place.old.taken.items place.new.taken.items) }
     ensures start { OnOk result (place.new.start ≡ place.old.start) }
     ensures tried { OnOk result (place.new.tried ≡ place.old.tried) }
+    ensures kin { OnOk result (AreKin (problem_of Q.value ground.now) place.new.start place.new.taken.items place.new.tried.items place.new.spares.items) }
 {
     match place.now().time().add(interval) {
         Err(_) => Ok(Fate::Beyond),
         Ok(time) => {
-            let timeline = place.base(decision).fork(alloc)?;
-            go_on(alloc, ground, &mut place.taken, timeline, time, decision)
+            let spare = place.spares.pop();
+            let timeline = fork(alloc, spare, place.base(decision))?;
+            go_on(ground, place, timeline, time, decision)
         }
     }
 }
@@ -185,10 +201,12 @@ pub fn decide<Q: Exact>(
     requires stands { StandsBehind Q.fits (task_from (problem_of Q.value ground.now)
         (map (action_of Q.value) actions.now) (Q.value interval)) place.old.start place.old.taken.items }
     requires within { decision < suc (length actions.now) }
+    requires kin { AreKin (problem_of Q.value ground.now) place.old.start place.old.taken.items place.old.tried.items place.old.spares.items }
     ensures walks { IfOk result (Walks Q.fits (task_from (problem_of Q.value ground.now)
         (map (action_of Q.value) actions.now) (Q.value interval)) place.old.start place.new.start
         place.old.taken.items place.new.taken.items decision) }
     ensures tried { OnOk result (place.new.tried ≡ place.old.tried) }
+    ensures kin { OnOk result (AreKin (problem_of Q.value ground.now) place.new.start place.new.taken.items place.new.tried.items place.new.spares.items) }
 {
     let number = decision as usize;
     if number < actions.len() {

@@ -1,8 +1,23 @@
 //! A timeline on the heap.
-ghost use Rattle.std.specs.Prelude.{◌≡◌, IfOk};
+ghost use Rattle.std.specs.Prelude.{◌≡◌, true, Some, None, IfOk, IfSome, OnOk, OnErr};
+ghost use Rattle.plus_state.specs.Fits.{ActionFits};
+ghost use Rattle.plus_state.specs.View.{problem_of, action_of};
+ghost use Rattle.plus_stretch.specs.Tests.{AllPass};
+ghost use Rattle.plus_timeline.specs.declared.next.Next.TheVariants.{There};
+ghost use Rattle.plus_timeline.specs.Act.{ActTold};
+ghost use Rattle.plus_timeline.specs.Asked.{round_tests};
+ghost use Rattle.plus_timeline.specs.Finish.{IsPaused};
+ghost use Rattle.plus_timeline.specs.Forked.{forked, CanRefork};
+ghost use Rattle.plus_timeline.specs.Serving.{Serves};
+ghost use Rattle.plus_timeline.specs.Stops.{IsGoing};
+ghost use Rattle.plus_planner.specs.Kin.{IsKin, IsLightened};
+ghost use Rattle.plus_planner.specs.Standing.{CanReach, Carried};
 
+use crate::carrying::{carry, carry_on};
 use plus_number::exact::Exact;
-use plus_timeline::Timeline;
+use plus_search::Fate;
+use plus_state::problem::{Action, Ground};
+use plus_timeline::{Stop, Timeline};
 use std::alloc::{AllocError, Global};
 use std::marker::Model;
 
@@ -37,5 +52,83 @@ impl<Q: Exact> Held<Q> {
         ensures { result.now ≡ self.now }
     {
         &self.timeline
+    }
+
+    /// A fork of another timeline: it is made of this one.
+    pub fn refork(&mut self, from: &Timeline<Q>) -> Result<(), AllocError>
+        requires there { from.now.answer ≡ Some There }
+        requires can { CanRefork self.old from.now }
+        ensures moment { from.now.now.running ≡ None }
+        ensures forked { OnOk result (self.new ≡ forked from.now) }
+    {
+        self.timeline.refork(from)
+    }
+
+    /// Does an action that is due.
+    pub fn act(&mut self, ground: &Ground<Q>, action: &Action<Q>) -> Result<(), Stop<Q>>
+        requires serves { IsGoing self.old → Serves (problem_of Q.value ground.now) self.old }
+        requires paused { IsGoing self.old → IsPaused self.old }
+        requires action { IsGoing self.old → ActionFits (self.old.atoms) (self.old.fluents) (action_of Q.value action.now) }
+        ensures told { ActTold Q.value Q.fits (problem_of Q.value ground.now) (action_of Q.value action.now) 1 self.old self.new result }
+        ensures refused { OnErr result (self.new ≡ record (self.old) { ended = true }) }
+    {
+        self.timeline.act(ground, action, 1)
+    }
+
+    /// Carries the timeline on to a time.
+    pub fn carry(&mut self, ground: &Ground<Q>, until: Q) -> Result<Fate, AllocError>
+        requires reach { CanReach (problem_of Q.value ground.now) (Q.value until) self.old }
+        requires kin { IsKin (problem_of Q.value ground.now) self.old }
+        ensures carried { IfOk result (Carried Q.fits (problem_of Q.value ground.now) (Q.value until) self.old self.new) }
+        ensures kin { OnOk result (IsKin (problem_of Q.value ground.now) self.new) }
+    {
+        let fate = carry(&mut self.timeline, ground, until)?;
+        lighten(&mut self.timeline);
+        Ok(fate)
+    }
+
+    /// The same from a moment at which nothing is due.
+    pub fn carry_on(&mut self, ground: &Ground<Q>, until: Q) -> Result<Fate, AllocError>
+        requires reach { CanReach (problem_of Q.value ground.now) (Q.value until) self.old }
+        requires paused { IsPaused self.old }
+        requires moment { self.old.now.running ≡ None }
+        requires passed { AllPass Q.fits (round_tests (problem_of Q.value ground.now) self.old.now.fired self.old.now.state) }
+        requires kin { IsKin (problem_of Q.value ground.now) self.old }
+        ensures carried { IfOk result (Carried Q.fits (problem_of Q.value ground.now) (Q.value until) self.old self.new) }
+        ensures kin { OnOk result (IsKin (problem_of Q.value ground.now) self.new) }
+    {
+        let fate = carry_on(&mut self.timeline, ground, until)?;
+        lighten(&mut self.timeline);
+        Ok(fate)
+    }
+}
+
+// Forgets the root where it costs more to go back there than to copy a state: so no more is noted than a
+// state has, but for what the last way added.
+fn lighten<Q: Exact>(timeline: &mut Timeline<Q>)
+    ensures { IsLightened timeline.old timeline.new }
+{
+    if timeline.is_far() {
+        timeline.forget_root();
+    }
+}
+
+/// A fork of a timeline, made of a spare one where there is one.
+pub fn fork<Q: Exact>(
+    alloc: Global,
+    spare: Option<Held<Q>>,
+    timeline: &Timeline<Q>,
+) -> Result<Held<Q>, AllocError>
+    requires there { timeline.now.answer ≡ Some There }
+    requires can { IfSome spare (λ s. CanRefork s timeline.now) }
+    ensures moment { timeline.now.now.running ≡ None }
+    ensures forked { IfOk result (λ t. t ≡ forked timeline.now) }
+{
+    match spare {
+        Some(mut held) => {
+            held.refork(timeline)?;
+            Ok(held)
+        }
+        None => Held::new(alloc, timeline.fork(alloc)?),
     }
 }

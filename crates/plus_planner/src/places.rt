@@ -3,6 +3,7 @@
 use crate::held::Held;
 use plus_number::exact::Exact;
 use plus_timeline::Timeline;
+use std::alloc::Global;
 
 /// A decision that was taken, and the timeline after it.
 #[derive(Drop)]
@@ -19,17 +20,35 @@ pub struct Tried<Q: Exact> {
 }
 
 /// The timeline at the beginning, and what was decided since. Some of what was tried on the way is kept, so
-/// that it is not worked anew where it is taken again.
+/// that it is not worked anew where it is taken again. Timelines that are needed no more are spared: a fork
+/// is made of one of them, at the cost of what was changed in both since the beginning, and takes no memory.
+/// So a decision costs what it changes and what was changed before it, however large the state is.
 #[derive(Drop)]
 pub struct Place<Q: Exact> {
     pub start: Timeline<Q>,
     pub taken: Vec<Taken<Q>>,
     pub tried: Vec<Tried<Q>>,
+    pub spares: Vec<Held<Q>>,
 }
 
 impl<Q: Exact> Place<Q> {
-    ghost use Rattle.std.specs.Prelude.{◌≡◌};
+    ghost use Rattle.std.specs.Prelude.{◌≡◌, []};
     ghost use Rattle.plus_planner.specs.Places.{now_in, base_in};
+
+    /// The place at the beginning, with this timeline.
+    pub fn begin(alloc: Global, start: Timeline<Q>) -> Place<Q>
+        ensures start { result.start ≡ start }
+        ensures taken { result.taken.items ≡ [] }
+        ensures tried { result.tried.items ≡ [] }
+        ensures spares { result.spares.items ≡ [] }
+    {
+        Place {
+            start,
+            taken: Vec::new(alloc),
+            tried: Vec::new(alloc),
+            spares: Vec::new(alloc),
+        }
+    }
 
     /// The timeline after the last decision.
     pub fn now(&self) -> &Timeline<Q>

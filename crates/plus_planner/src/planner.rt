@@ -3,7 +3,7 @@ ghost use Rattle.std.specs.Prelude.{◌≡◌, map};
 ghost use Rattle.plus_state.specs.View.{problem_of, action_of};
 ghost use Rattle.plus_planner.specs.Places.{task_from, uncut, path_of, CanSearch};
 ghost use Rattle.plus_planner.specs.Once.{CanSearch-prop};
-ghost use Rattle.plus_planner.specs.Worlds.{Stands};
+ghost use Rattle.plus_planner.specs.Worlds.{Holds};
 
 use crate::deciding::decide;
 use crate::guides::Guide;
@@ -58,7 +58,7 @@ impl<Q: Exact, G: Guide<Q> + Drop> Space for Planner<Q, G> {
 
     ghost path = { λ p. path_of p.taken.items };
 
-    ghost stands = { λ w p. Stands Q.fits (task_from (problem_of Q.value w.problem) (map (action_of Q.value) w.actions.items) (Q.value w.interval)) p.start p.taken.items p.tried.items };
+    ghost stands = { λ w p. Holds Q.fits (task_from (problem_of Q.value w.problem) (map (action_of Q.value) w.actions.items) (Q.value w.interval)) p.start p.taken.items p.tried.items p.spares.items };
 
     fn width(&self, _place: &Place<Q>) -> u32 {
         self.actions.len() as u32 + 1
@@ -104,7 +104,7 @@ impl<Q: Exact, G: Guide<Q> + Drop> Space for Planner<Q, G> {
         false
     }
 
-    ghost lawful = { λ w p h. h.tree };
+    ghost lawful = { λ w p h. h.stands.tree };
 
-    ghost alive = { λ w p h. h.behind.alive };
+    ghost alive = { λ w p h. h.stands.behind.alive };
 }

@@ -1,5 +1,6 @@
 //! What is taken back is kept, since it may be taken again.
 ghost use Rattle.std.specs.Prelude.{◌≡◌, ◌<◌, ◌≤◌, length, take, IfSome, OnOk};
+ghost use Rattle.plus_planner.specs.Kin.{Spares, KeepsKin};
 ghost use Rattle.plus_planner.specs.Tried.{AllBehind, IsFoundAt, Returns, Keeps};
 
 use crate::places::{Place, Taken, Tried};
@@ -48,6 +49,7 @@ impl<Q: Exact> Place<Q> {
     /// Takes a decision again that is kept.
     pub fn again(&mut self, index: usize) -> Result<(), AllocError>
         requires { index < length self.old.tried.items }
+        ensures spares { self.new.spares ≡ self.old.spares }
         ensures start { self.new.start ≡ self.old.start }
         ensures returns { OnOk result (Returns index self.old.taken.items self.old.tried.items
             self.new.taken.items self.new.tried.items) }
@@ -91,18 +93,37 @@ impl<Q: Exact> Place<Q> {
         is_small(taken.timeline.get()) && self.rises(taken.decision) && self.has_room()
     }
 
+    // Forgets what is kept from the last on, until so many are left. Their timelines are spared.
+    fn forget(&mut self, count: usize) -> Result<(), AllocError>
+        ensures start { self.new.start ≡ self.old.start }
+        ensures same { self.new.taken ≡ self.old.taken }
+        ensures forgets { OnOk result (self.new.tried.items ≡ take count self.old.tried.items) }
+        ensures kin { OnOk result (Spares self.old.tried.items self.old.spares.items self.new.spares.items) }
+    {
+        'tried: while self.tried.len() > count {
+            match self.tried.pop() {
+                Some(tried) => self.spares.push(tried.taken.timeline)?,
+                None => return Ok(()),
+            }
+        }
+        Ok(())
+    }
+
     /// Forgets what was tried behind the present place, and keeps a decision that was tried here, where it
     /// is to be kept.
     pub fn keep(&mut self, taken: Taken<Q>) -> Result<(), AllocError>
         ensures start { self.new.start ≡ self.old.start }
         ensures same { self.new.taken ≡ self.old.taken }
+        ensures kin { OnOk result (KeepsKin taken self.old.tried.items self.old.spares.items self.new.tried.items self.new.spares.items) }
         ensures keeps { OnOk result (Keeps (length self.old.taken.items) taken self.old.tried.items self.new.tried.items) }
     {
         let still = self.still();
-        self.tried.truncate(still);
+        self.forget(still)?;
         if self.may_keep(&taken) {
             let before = self.taken.len();
             self.tried.push(Tried { before, taken })?;
+        } else {
+            self.spares.push(taken.timeline)?;
         }
         Ok(())
     }

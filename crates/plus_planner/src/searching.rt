@@ -1,8 +1,12 @@
 //! A bounded search for a plan on a grid of times.
-ghost use Rattle.std.specs.Prelude.{◌≡◌, ◌+◌, ◌*◌, ◌^◌, ◌<◌, ◌≤◌, [], map, length, IfOk};
+ghost use Rattle.std.specs.Prelude.{◌≡◌, ◌+◌, ◌*◌, ◌^◌, ◌<◌, ◌≤◌, [], map, length, pos, IfOk};
+ghost use Rattle.plus_fraction.specs.Fraction.{whole};
 ghost use Rattle.plus_state.specs.View.{problem_of, action_of};
-ghost use Rattle.plus_planner.specs.Places.{task_from, path_of};
-ghost use Rattle.plus_planner.specs.Worlds.{Stands};
+ghost use Rattle.plus_timeline.specs.Timeline.{begun};
+ghost use Rattle.plus_planner.specs.Standing.{Carried};
+ghost use Rattle.plus_planner.specs.Places.{task_from, path_of, most_entries};
+ghost use Rattle.plus_planner.specs.Kin.{IsKin, IsRooted};
+ghost use Rattle.plus_planner.specs.Worlds.{Holds};
 ghost use Rattle.plus_planner.specs.Searches.{Answers, IsNotSpent};
 
 use crate::carrying::carry;
@@ -13,12 +17,18 @@ use crate::planner::Planner;
 use plus_number::consts::zero;
 use plus_number::exact::Exact;
 use plus_search::{Fate, Found, search};
-use plus_state::TimedPlan;
+use plus_state::problem::Ground;
+use plus_state::{State, TimedPlan};
 use plus_timeline::Timeline;
-use std::alloc::AllocError;
+use std::alloc::{AllocError, Global};
 
 // How many moments a history of a search may enter.
 const MOST_ENTRIES: u64 = 10_000;
+
+// A state with more atoms or more fluents is large: it costs less to note what is changed than to copy one.
+const FEW_ATOMS: u32 = 4_096;
+
+const FEW_FLUENTS: u32 = 64;
 
 /// What a search comes to.
 #[derive(Drop)]
@@ -29,6 +39,31 @@ pub enum Answer<Q> {
     NoPlan { beyond: u64 },
     /// More lists of decisions than this may have to be tried.
     Spent { tried: u64 },
+}
+
+fn is_large<Q: Exact>(state: &State<Q>) -> bool {
+    state.atoms() > FEW_ATOMS || state.fluents() > FEW_FLUENTS
+}
+
+// Where the state is large, it is the root from now on.
+fn root_large<Q: Exact>(timeline: &mut Timeline<Q>)
+    ensures { IsRooted timeline.old timeline.new }
+{
+    if is_large(timeline.state()) {
+        timeline.set_root();
+    }
+}
+
+// The timeline that was begun and carried to time 0, and what that comes to.
+fn first<Q: Exact>(alloc: Global, ground: &Ground<Q>) -> Result<(Timeline<Q>, Fate), AllocError>
+    ensures carried { IfOk result (λ r. Carried Q.fits (problem_of Q.value ground.now) (whole (pos 0))
+        (begun (problem_of Q.value ground.now) most_entries) r.0 r.1) }
+    ensures kin { IfOk result (λ r. IsKin (problem_of Q.value ground.now) r.0) }
+{
+    let mut timeline = Timeline::begin(alloc, ground, MOST_ENTRIES)?;
+    root_large(&mut timeline);
+    let fate = carry(&mut timeline, ground, zero())?;
+    Ok((timeline, fate))
 }
 
 impl<Q: Exact, G: Guide<Q> + Drop> Planner<Q, G> {
@@ -42,43 +77,39 @@ impl<Q: Exact, G: Guide<Q> + Drop> Planner<Q, G> {
         ensures enough { (decisions + 1) * ((length (self.now.actions.items) + 2) ^ decisions) ≤ tries →
             IfOk result IsNotSpent }
     {
-        let mut start = Timeline::begin(self.alloc, &self.problem, MOST_ENTRIES)?;
-        let fate = carry(&mut start, &self.problem, zero())?;
-        match fate {
-            Fate::Alive => {
-                let place = Place {
-                    start,
-                    taken: Vec::new(self.alloc),
-                    tried: Vec::new(self.alloc),
-                };
-                self.search_from(place, decisions, tries)
-            }
+        let (start, fate) = first(self.alloc, &self.problem)?;
+        let mut place = Place::begin(self.alloc, start);
+        let answer = match fate {
+            Fate::Alive => self.search_from(&mut place, decisions, tries),
             Fate::Broken => Ok(Answer::NoPlan { beyond: 0 }),
             Fate::Beyond => Ok(Answer::NoPlan { beyond: 1 }),
-        }
+        };
+        // By a call: what drops a place is long, and would stand here at each way out.
+        drop(place);
+        answer
     }
 
     // Searches from the place at the beginning.
     fn search_from(
         &self,
-        mut place: Place<Q>,
+        place: &mut Place<Q>,
         decisions: u32,
         tries: u64,
     ) -> Result<Answer<Q>, AllocError>
-        requires stands { Stands Q.fits (task_from (problem_of Q.value self.now.problem)
+        requires stands { Holds Q.fits (task_from (problem_of Q.value self.now.problem)
             (map (action_of Q.value) self.now.actions.items) (Q.value self.now.interval))
-            place.start place.taken.items place.tried.items }
-        requires first { path_of place.taken.items ≡ [] }
+            place.old.start place.old.taken.items place.old.tried.items place.old.spares.items }
+        requires first { path_of place.old.taken.items ≡ [] }
         requires tries { tries < u64.MAX }
         ensures answers { IfOk result (Answers Q.value Q.fits (task_from (problem_of Q.value self.now.problem)
             (map (action_of Q.value) self.now.actions.items) (Q.value self.now.interval)) decisions tries) }
         ensures enough { (decisions + 1) * ((length (self.now.actions.items) + 2) ^ decisions) ≤ tries →
             IfOk result IsNotSpent }
     {
-        let found = search(self.alloc, self, &mut place, decisions, tries)?;
+        let found = search(self.alloc, self, place, decisions, tries)?;
         match found {
             Found::Plan => {
-                let plan = listed(self.alloc, &self.actions, &place)?;
+                let plan = listed(self.alloc, &self.actions, place)?;
                 Ok(Answer::Plan(plan))
             }
             Found::NoPlan { beyond } => Ok(Answer::NoPlan { beyond }),

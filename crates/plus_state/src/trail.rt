@@ -1,6 +1,6 @@
 //! A state, and the one before the last step.
-ghost use Rattle.std.specs.Prelude.{◌≡◌, IfOk};
-ghost use Rattle.plus_state.specs.Changes.{patched, RisesIn, LeadsTo};
+ghost use Rattle.std.specs.Prelude.{◌≡◌, length, IfOk};
+ghost use Rattle.plus_state.specs.Changes.{patched, Within, RisesIn, LeadsTo};
 
 use crate::changes::Changes;
 use crate::states::State;
@@ -52,6 +52,18 @@ impl<Q: Exact> Trail<Q> {
         self.before.patch(&self.last);
         self.state.patch(changes);
         mem::swap(&mut self.last, changes);
+    }
+
+    /// Makes changes, and forgets what led to the state. It takes no memory.
+    pub fn restart(&mut self, changes: &Changes<Q>)
+        requires { Within (length self.old.state.atoms) (length self.old.state.fluents) changes.now }
+        ensures { self.new ≡ record { state = patched self.old.state changes.now; before = patched self.old.state changes.now } }
+    {
+        let last = &self.last;
+        self.before.patch(last);
+        self.last.clear();
+        self.before.patch(changes);
+        self.state.patch(changes);
     }
 
     /// The state after the last step.

@@ -12,7 +12,7 @@ use Rattle.plus_stretch.specs.Arrives.{Arrives}
 use Rattle.plus_timeline.specs.EntryStates.{LedBy, IsReached}
 
 -- ---- a step
-ahead_on : (state new : State) (c : Changes) (ahead : Option State) → IfSome ahead (λ s. s ≡ state) → new ≡ patched state c → IfSome (option_map (λ s. patched s c) ahead) (λ s. s ≡ new)
+pub ahead_on : (state new : State) (c : Changes) (ahead : Option State) → IfSome ahead (λ s. s ≡ state) → new ≡ patched state c → IfSome (option_map (λ s. patched s c) ahead) (λ s. s ≡ new)
 ahead_on state new c None h n = tt
 ahead_on state new c (Some s) h n = ap (λ (x : State). patched x c) h ∙ sym n
 

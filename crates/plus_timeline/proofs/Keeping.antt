@@ -32,7 +32,7 @@ module _ (v : EntryView) (set : List Bool) (fired : List ℕ) (answer : Option (
   }
 
   -- at the beginning
-  pub keeps_first : (initial : State) (c : Changes) → v ≡ record { state = patched initial c; before = initial; arrival = initial } → IsSetOf set fired → All (λ e. e < length set) fired → entries ≤ most → (answer ≡ Some Run → entries < most) → Keeps v.state v.before v.arrival (length v.state.atoms) (length v.state.fluents) set fired answer entries most
+  pub keeps_first : (initial : State) (c : Changes) → v ≡ record { state = patched initial c; before = initial; arrival = initial; root = None } → IsSetOf set fired → All (λ e. e < length set) fired → entries ≤ most → (answer ≡ Some Run → entries < most) → Keeps v.state v.before v.arrival (length v.state.atoms) (length v.state.fluents) set fired answer entries most
   keeps_first initial c e i b w r =
       let a : length v.state.atoms ≡ length initial.atoms = ap (λ (x : EntryView). length x.state.atoms) e ∙ same_atoms initial c in
       let f : length v.state.fluents ≡ length initial.fluents = ap (λ (x : EntryView). length x.state.fluents) e ∙ same_fluents initial c in
@@ -56,7 +56,7 @@ module _ (old new : EntryView) (set set' : List Bool) (fired fired' : List ℕ) 
         arrival_fluents = ap (λ (x : EntryView). length x.arrival.fluents) e ∙ h.arrival_fits.fluents_fit ∙ sym f;
       }) i b w r
 
-  pub keeps_entry : (moves literals : Changes) → new ≡ record { state = patched (patched old.state moves) literals; before = old.state; arrival = patched old.state moves } → Keeps new.state new.before new.arrival (length new.state.atoms) (length new.state.fluents) set' fired' answer' entries' most
+  pub keeps_entry : (moves literals : Changes) → new ≡ record { state = patched (patched old.state moves) literals; before = old.state; arrival = patched old.state moves; root = old.root } → Keeps new.state new.before new.arrival (length new.state.atoms) (length new.state.fluents) set' fired' answer' entries' most
   keeps_entry moves literals e =
       let s : State = patched old.state moves in
       let a : length new.state.atoms ≡ length s.atoms = ap (λ (x : EntryView). length x.state.atoms) e ∙ same_atoms s literals in

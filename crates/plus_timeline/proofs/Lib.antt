@@ -11,7 +11,10 @@ pub mod Rows
 pub mod Entries
 pub mod Keeping
 pub mod Views
+pub mod Undoing
+pub mod Roots
 pub mod Members
 pub mod Advancing
 pub mod InOrder
 pub mod LiteralLemmas
+pub mod Noting

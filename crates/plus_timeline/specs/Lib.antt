@@ -1,3 +1,4 @@
+pub mod Undo
 pub mod EntryStates
 pub mod Reaching
 pub mod Timeline

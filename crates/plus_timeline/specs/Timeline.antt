@@ -17,6 +17,7 @@ pub record TimelineView : Type 0 where
   pub now : View  -- the history so far, as far as the next part depends on it
   pub before : State  -- before the last round, action or stretch; the initial state where there was none
   pub arrival : State  -- on arrival in the present entry, before its timed literals
+  pub root : Option State  -- where all is noted that was changed since then
   pub literal : Bool  -- the present entry has a timed literal
   pub events : List ℕ  -- of the last round
   pub running : List ℕ  -- the last running set
@@ -48,6 +49,7 @@ begun P most =
       now = first_view P;
       before = P.initial;
       arrival = P.initial;
+      root = None;
       literal = has_literal P (whole (pos 0));
       events = [];
       running = [];

@@ -39,20 +39,21 @@ coded_next =
 
 abbrev pub coded_timeline : Coded TimelineView
 coded_timeline = code_by
-    (((View × (State × State)) × (Bool × (List ℕ × (List ℕ × List Fraction))))
+    (((View × (State × (State × Option State))) × (Bool × (List ℕ × (List ℕ × List Fraction))))
     × (((ℕ × ℕ) × (Option (Next Fraction) × Bool)) × (Bool × (ℕ × (ℕ × ℕ)))))
     (coded×
-    (coded× (coded× coded_view (coded× coded_state coded_state)) (coded× coded_bool (coded× (coded_list coded_ℕ) (coded× (coded_list coded_ℕ) (coded_list coded_fraction)))))
+    (coded× (coded× coded_view (coded× coded_state (coded× coded_state (coded_option coded_state)))) (coded× coded_bool (coded× (coded_list coded_ℕ) (coded× (coded_list coded_ℕ) (coded_list coded_fraction)))))
     (coded× (coded× (coded× coded_ℕ coded_ℕ) (coded× (coded_option coded_next) coded_bool))
     (coded× coded_bool (coded× coded_ℕ (coded× coded_ℕ coded_ℕ)))))
     (λ t. (
-      ((t.now, (t.before, t.arrival)), (t.literal, (t.events, (t.running, t.rates)))),
+      ((t.now, (t.before, (t.arrival, t.root))), (t.literal, (t.events, (t.running, t.rates)))),
       (((t.entries, t.most), (t.answer, t.acted)), (t.ended, (t.atoms, (t.fluents, t.event_count)))),
     ))
     (λ p. record {
       now = p.0.0.0;
       before = p.0.0.1.0;
-      arrival = p.0.0.1.1;
+      arrival = p.0.0.1.1.0;
+      root = p.0.0.1.1.1;
       literal = p.0.1.0;
       events = p.0.1.1.0;
       running = p.0.1.1.1.0;

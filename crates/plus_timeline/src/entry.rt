@@ -1,5 +1,5 @@
 //! The states of an entry: now, before the last step, and on arrival.
-ghost use Rattle.std.specs.Prelude.{◌≡◌, [], ◌++◌, length, Ok, Option, option_map, IfOk, IfSome, IsSomeAnd, OnOk, OnErr};
+ghost use Rattle.std.specs.Prelude.{◌≡◌, [], ◌++◌, length, Ok, Option, None, Some, option_map, IfOk, IfSome, IsSomeAnd, OnOk, OnErr};
 ghost use Rattle.plus_fraction.specs.Fraction.{◌<ℚ◌};
 ghost use Rattle.plus_model.specs.Running.{rates as rates_of, GoesOn};
 ghost use Rattle.plus_state.specs.Changes.{patched, Within, RisesIn, LeadsTo};
@@ -9,9 +9,11 @@ ghost use Rattle.plus_state.specs.Numbers.{event_numbers};
 ghost use Rattle.plus_state.specs.Walk.{event_conditions, process_conditions, OthersFalse};
 ghost use Rattle.plus_still.specs.Others.{OthersStill};
 ghost use Rattle.plus_settle.specs.Members.{process_numbers, AreMembers};
-ghost use Rattle.plus_timeline.specs.EntryStates.{IsReached};
+ghost use Rattle.plus_timeline.specs.EntryStates.{IsReached, Leads};
+ghost use Rattle.plus_timeline.specs.Undo.{undone, Notes};
 ghost use Rattle.plus_timeline.specs.Reaching.{ReachTold};
 
+use crate::undo::{Undo, recall};
 use plus_number::exact::Exact;
 use plus_settle::settling::Running;
 use plus_state::changes::Changes;
@@ -37,7 +39,9 @@ pub struct Reached<Q: Exact> {
 }
 
 /// The state now, the one before the last step, and the one on arrival in the present entry. A step
-/// costs what it changes: the other states follow by the changes of the steps before.
+/// costs what it changes: the other states follow by the changes of the steps before. Where there is a
+/// root, all is noted that was changed since; so other states with that root are made into these at the
+/// cost of what was changed in both.
 #[derive(Drop)]
 pub struct EntryStates<Q: Exact> {
     trail: Trail<Q>,
@@ -48,10 +52,14 @@ pub struct EntryStates<Q: Exact> {
     ahead: Option<State<Q>>,
     // changes that are needed no more, for their memory
     spare: Changes<Q>,
+    // what leads back to the root, if there is one
+    undo: Option<Undo<Q>>,
 }
 
 impl<Q: Exact> Model for EntryStates<Q> {
-    ghost use Rattle.plus_timeline.specs.EntryStates.{EntryView, coded_entry, LedBy};
+    ghost use Rattle.std.specs.Prelude.{option_map};
+    ghost use Rattle.plus_timeline.specs.EntryStates.{EntryView, coded_entry, KeepsEntry};
+    ghost use Rattle.plus_timeline.specs.Undo.{root_at};
 
     ghost Value = { EntryView };
 
@@ -61,9 +69,10 @@ impl<Q: Exact> Model for EntryStates<Q> {
       state = e.trail.state;
       before = e.trail.before;
       arrival = e.arrival;
+      root = root_at e.trail.state (option_map (λ u. u.noted) e.undo);
     } };
 
-    ghost invariant = { λ e. LedBy e.arrival e.past e.trail.state e.ahead };
+    ghost invariant = { λ e. KeepsEntry e.arrival e.past e.trail.state e.ahead (option_map (λ u. u.noted) e.undo) };
 }
 
 // The atoms of the first changes and the fluents of the others.
@@ -132,6 +141,57 @@ fn copied<Q: Exact>(
     }
 }
 
+// Notes what these changes are about to change, where there is a root.
+fn note<Q: Exact>(
+    undo: &mut Option<Undo<Q>>,
+    state: &State<Q>,
+    changes: &Changes<Q>,
+) -> Result<(), AllocError>
+    requires { Within (length state.now.atoms) (length state.now.fluents) changes.now }
+    ensures ok { OnOk result (Notes state.now changes.now (option_map (λ u. u.noted) undo.old) (option_map (λ u. u.noted) undo.new)) }
+    ensures err { OnErr result (option_map (λ u. u.noted) undo.new ≡ option_map (λ u. u.noted) undo.old) }
+{
+    match undo {
+        Some(undo) => undo.note(state, changes),
+        None => Ok(()),
+    }
+}
+
+// Brings the state on arrival up to the present one, and hands out the changes that were kept, for their memory.
+fn catch_up<Q: Exact>(
+    alloc: Global,
+    arrival: &mut State<Q>,
+    past: Option<Changes<Q>>,
+    state: &State<Q>,
+) -> Result<Changes<Q>, AllocError>
+    requires { IfSome past (λ p. Leads arrival.old p state.now) }
+    ensures ok { OnOk result (arrival.new ≡ state.now) }
+    ensures err { OnErr result (arrival.new ≡ arrival.old) }
+{
+    match past {
+        Some(past) => {
+            arrival.patch(&past);
+            Ok(past)
+        }
+        None => {
+            *arrival = state.copy(alloc)?;
+            Ok(Changes::none(alloc))
+        }
+    }
+}
+
+fn copied_undo<Q: Exact>(
+    alloc: Global,
+    undo: &Option<Undo<Q>>,
+) -> Result<Option<Undo<Q>>, AllocError>
+    ensures { IfOk result (λ o. option_map (λ u. u.noted) o ≡ option_map (λ u. u.noted) undo.now) }
+{
+    match undo {
+        Some(undo) => Ok(Some(undo.copy(alloc)?)),
+        None => Ok(None),
+    }
+}
+
 impl<Q: Exact> EntryStates<Q> {
     /// The first entry: the initial state, and what the literals of its time change.
     pub fn begin(
@@ -144,6 +204,7 @@ impl<Q: Exact> EntryStates<Q> {
           state = patched initial.now literals;
           before = initial.now;
           arrival = initial.now;
+          root = None;
         }) }
     {
         let mut trail = Trail::new(alloc, initial.copy(alloc)?)?;
@@ -156,6 +217,7 @@ impl<Q: Exact> EntryStates<Q> {
             past: Some(past),
             ahead: None,
             spare: literals,
+            undo: None,
         })
     }
 
@@ -170,6 +232,7 @@ impl<Q: Exact> EntryStates<Q> {
         ensures err { OnErr result (self.new ≡ self.old) }
     {
         let most = self.most();
+        note(&mut self.undo, self.trail.state(), &changes)?;
         self.past = noted(self.past.take(), &changes, most)?;
         patch_some(&mut self.ahead, &changes);
         self.trail.step(&mut changes);
@@ -181,23 +244,6 @@ impl<Q: Exact> EntryStates<Q> {
     fn most(&self) -> usize {
         let state = self.trail.state();
         (state.atoms().max(state.fluents()) as usize).max(FEW)
-    }
-
-    // Brings the state on arrival up to the present one, and hands out the changes that were kept, for their memory.
-    fn catch_up(&mut self, alloc: Global) -> Result<Changes<Q>, AllocError>
-        ensures ok { OnOk result (self.new ≡ record self.old { arrival = self.old.state }) }
-        ensures err { OnErr result (self.new ≡ self.old) }
-    {
-        match self.past.take() {
-            Some(past) => {
-                self.arrival.patch(&past);
-                Ok(past)
-            }
-            None => {
-                self.arrival = self.trail.state().copy(alloc)?;
-                Ok(Changes::none(alloc))
-            }
-        }
     }
 
     /// Changes that are needed no more: whatever they are, another step may use their memory.
@@ -279,11 +325,15 @@ impl<Q: Exact> EntryStates<Q> {
           state = patched (patched self.old.state moves) literals;
           before = self.old.state;
           arrival = patched self.old.state moves;
+          root = self.old.root;
         }) }
         ensures err { OnErr result (self.new ≡ self.old) }
     {
         let past = literals.copy(alloc)?;
-        let kept = self.catch_up(alloc)?;
+        note(&mut self.undo, self.trail.state(), &moves)?;
+        note(&mut self.undo, self.trail.state(), &past)?;
+        let since = self.past.take();
+        let kept = catch_up(alloc, &mut self.arrival, since, self.trail.state())?;
         self.arrival.patch(&moves);
         ahead.patch(&past);
         let mut changes = joined(literals, moves);
@@ -322,12 +372,35 @@ impl<Q: Exact> EntryStates<Q> {
         self.trail.changes()
     }
 
-    /// The state now alone, as if nothing had led to it.
+    /// The present state is the root from now on.
+    pub fn set_root(&mut self, alloc: Global)
+        ensures { self.new ≡ record self.old { root = Some self.old.state } }
+    {
+        self.undo = Some(Undo::new(alloc));
+    }
+
+    /// Nothing more is noted.
+    pub fn forget_root(&mut self)
+        ensures { self.new ≡ record self.old { root = None } }
+    {
+        self.undo = None;
+    }
+
+    /// Whether more is noted of atoms or of fluents than a state has.
+    pub fn is_far(&self) -> bool {
+        match &self.undo {
+            Some(undo) => undo.len() > self.most(),
+            None => false,
+        }
+    }
+
+    /// The state now alone, as if nothing had led to it but what was noted.
     pub fn fork(&self, alloc: Global) -> Result<EntryStates<Q>, AllocError>
         ensures { IfOk result (λ e. e ≡ record {
           state = self.now.state;
           before = self.now.state;
           arrival = self.now.state;
+          root = self.now.root;
         }) }
     {
         let state = self.trail.state();
@@ -337,7 +410,79 @@ impl<Q: Exact> EntryStates<Q> {
             past: Some(Changes::none(alloc)),
             ahead: None,
             spare: Changes::none(alloc),
+            undo: copied_undo(alloc, &self.undo)?,
         })
+    }
+
+    /// Makes the states what `fork` makes of others. Where both have a root, and less was changed since
+    /// than a state has, it costs what was changed, in both. Otherwise these states are dropped for a fork.
+    pub fn refork(&mut self, alloc: Global, from: &EntryStates<Q>) -> Result<(), AllocError>
+        requires size { StateFits (length self.old.state.atoms) (length self.old.state.fluents) from.now.state }
+        requires root { IfSome self.old.root (λ r. IfSome from.now.root (λ s. r ≡ s)) }
+        ensures ok { OnOk result (self.new ≡ record {
+          state = from.now.state;
+          before = from.now.state;
+          arrival = from.now.state;
+          root = from.now.root;
+        }) }
+        ensures err { OnErr result (self.new ≡ record self.old { root = None }) }
+    {
+        if let Some(undo) = self.undo.take() {
+            if let Some(past) = self.past.take() {
+                if let Some(other) = &from.undo {
+                    if self.are_near(&undo, other) {
+                        return self.follow(alloc, undo, past, other, from.state());
+                    }
+                }
+            }
+        }
+        *self = from.fork(alloc)?;
+        Ok(())
+    }
+
+    // Whether no more is noted in both of atoms or of fluents than a state has.
+    fn are_near(&self, undo: &Undo<Q>, other: &Undo<Q>) -> bool {
+        undo.len().saturating_add(other.len()) <= self.most()
+    }
+
+    // Goes back to the root and on to another state, by what was noted in both.
+    fn follow(
+        &mut self,
+        alloc: Global,
+        mut undo: Undo<Q>,
+        mut past: Changes<Q>,
+        other: &Undo<Q>,
+        state: &State<Q>,
+    ) -> Result<(), AllocError>
+        requires rootless { self.old.root ≡ None }
+        requires past { Leads self.old.arrival past self.old.state }
+        requires size { StateFits (length self.old.state.atoms) (length self.old.state.fluents) state.now }
+        requires undo { Within (length self.old.state.atoms) (length self.old.state.fluents) undo.noted }
+        requires other { Within (length self.old.state.atoms) (length self.old.state.fluents) other.now.noted }
+        requires root { undone self.old.state undo.noted ≡ undone state.now other.now.noted }
+        ensures ok { OnOk result (self.new ≡ record {
+          state = state.now;
+          before = state.now;
+          arrival = state.now;
+          root = Some (undone state.now other.now.noted);
+        }) }
+        ensures err { OnErr result (self.new ≡ self.old) }
+    {
+        let mut way = self.take_spare(alloc);
+        way.clear();
+        recall(&mut way, state, &undo.noted)?;
+        recall(&mut way, state, &other.noted)?;
+        undo.noted.clear();
+        undo.noted.append(&other.noted)?;
+        self.arrival.patch(&past);
+        self.arrival.patch(&way);
+        past.clear();
+        self.past = Some(past);
+        self.trail.restart(&way);
+        patch_some(&mut self.ahead, &way);
+        self.spare = way;
+        self.undo = Some(undo);
+        Ok(())
     }
 
     /// Equal states, which go on in the same way.
@@ -350,6 +495,7 @@ impl<Q: Exact> EntryStates<Q> {
             past: copied(alloc, &self.past)?,
             ahead: None,
             spare: Changes::none(alloc),
+            undo: copied_undo(alloc, &self.undo)?,
         })
     }
 }

@@ -8,6 +8,7 @@ mod literals;
 pub mod next;
 pub mod stop;
 pub mod timeline;
+mod undo;
 
 pub use next::Next;
 pub use stop::Stop;

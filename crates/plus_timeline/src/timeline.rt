@@ -21,7 +21,7 @@ ghost use Rattle.plus_timeline.specs.Stops.{IsGoing};
 ghost use Rattle.plus_timeline.specs.Act.{ActTold};
 ghost use Rattle.plus_timeline.specs.Finish.{IsPaused, FinishTold, TakesNoMemory};
 ghost use Rattle.plus_timeline.specs.Advance.{IsAhead, EntersAt, AdvanceTold};
-ghost use Rattle.plus_timeline.specs.Forked.{forked};
+ghost use Rattle.plus_timeline.specs.Forked.{forked, CanRefork};
 ghost use Rattle.plus_timeline.specs.Closing.{CanClose, IsReachedBy};
 
 use crate::effect::action_changes_in;
@@ -90,6 +90,7 @@ impl<Q: Exact> Model for Timeline<Q> {
       };
       before = t.states.before;
       arrival = t.states.arrival;
+      root = t.states.root;
       literal = t.literal;
       events = event_numbers t.events.items;
       running = process_numbers t.running.members.items;
@@ -327,6 +328,27 @@ impl<Q: Exact> Timeline<Q> {
         })
     }
 
+    /// The present state is the root from now on: what is changed from here is noted, until the root is
+    /// forgotten. That costs as much again as the change, and lets a timeline that is needed no more become
+    /// another one (`refork`) at the cost of what was changed in both, however large their states are.
+    pub fn set_root(&mut self)
+        ensures { self.new ≡ record (self.old) { root = Some self.old.now.state } }
+    {
+        self.states.set_root(self.alloc);
+    }
+
+    /// Nothing more is noted.
+    pub fn forget_root(&mut self)
+        ensures { self.new ≡ record (self.old) { root = None } }
+    {
+        self.states.forget_root();
+    }
+
+    /// Whether more is noted than a state has: then it costs less to copy one.
+    pub fn is_far(&self) -> bool {
+        self.states.is_far()
+    }
+
     /// A timeline that goes on in the same way after a `There`. It forgets the states that led to the
     /// present one, the last round and the last running set, and so costs less than a copy.
     pub fn fork(&self, alloc: Global) -> Result<Timeline<Q>, AllocError>
@@ -356,6 +378,37 @@ impl<Q: Exact> Timeline<Q> {
             acted: self.acted,
             ended: self.ended,
         })
+    }
+
+    /// Makes a timeline that is needed no more what `fork` makes of another one. Where both have a root, it
+    /// costs what was changed since then, in both, and the events that fired in their cascades; it takes no
+    /// memory but for what is noted. After a refusal anything may have become of it.
+    pub fn refork(&mut self, from: &Timeline<Q>) -> Result<(), AllocError>
+        requires there { from.now.answer ≡ Some Next.There }
+        requires can { CanRefork self.old from.now }
+        ensures moment { from.now.now.running ≡ None }
+        ensures forked { OnOk result (self.new ≡ forked from.now) }
+    {
+        self.cascade.clear(&self.fired);
+        self.fired.clear();
+        self.fired.reserve(from.fired.len())?;
+        self.states.refork(self.alloc, &from.states)?;
+        self.fired.extend_from_slice(&from.fired)?;
+        self.cascade.add(&from.fired);
+        self.events.clear();
+        self.running = Running {
+            members: Vec::new(self.alloc),
+            rates: Rates::zero(self.alloc, 0),
+        };
+        self.time = from.time;
+        self.literal = from.literal;
+        self.lines = from.lines;
+        self.entries = from.entries;
+        self.most = from.most;
+        self.answer = from.answer;
+        self.acted = from.acted;
+        self.ended = from.ended;
+        Ok(())
     }
 
     /// Whether a call was refused, or the goal was tested.

@@ -1,10 +1,14 @@
 use Rattle.plus_state.specs.View.{problem_of}
 use Rattle.plus_planner.specs.Standing.{steps_left}
+use Rattle.plus_planner.specs.Kin.{IsKin}
 use Rattle.plus_planner.proofs.Carries.{Along}
 use Rattle.plus_planner.proofs.carrying.carry.Given as goal
 
 abbrev pub invariant-steps : goal.invariant-steps
-invariant-steps g l = Along g.Q.Exact.fits (problem_of g.Q.Exact.value l.ground) (g.Q.Exact.value l.until) l.initial.timeline l.timeline
+invariant-steps g l = record {
+  along : Along g.Q.Exact.fits (problem_of g.Q.Exact.value l.ground) (g.Q.Exact.value l.until) l.initial.timeline l.timeline;
+  kin : IsKin (problem_of g.Q.Exact.value l.ground) l.timeline;
+}
 
 abbrev pub decreases-steps : goal.decreases-steps
 decreases-steps g l = steps_left l.timeline

@@ -4,16 +4,16 @@ use Rattle.plus_planner.specs.Standing.{Steps}
 use Rattle.plus_planner.proofs.Resting.{steps_reach, steps_then}
 use Rattle.plus_planner.proofs.carrying.carry_on.Goals as goal
 
-pub returns-in-Some : goal.returns-in-Some
-returns-in-Some g c =
+pub returns-in-Some-clause-carried : goal.returns-in-Some-clause-carried
+returns-in-Some-clause-carried g c =
     let P = problem_of g.Q.Exact.value c.args.ground.now in
     let u = g.Q.Exact.value c.args.until in
-    subst (Steps g.Q.Exact.fits P u c.args.timeline.now c.leave.new.timeline) c.in-Some.is c.in_ok-fate.ensures
+    subst (Steps g.Q.Exact.fits P u c.args.timeline.now c.leave.new.timeline) c.in-Some.is c.in_ok-fate.ensures.steps
 
-pub carry-requires : goal.carry-requires
-carry-requires g c =
-    steps_reach g.Q.Exact.fits (problem_of g.Q.Exact.value c.args.ground.now) (g.Q.Exact.value c.args.until) c.args.timeline.now c.leave.new.timeline _ c.in-None.is c.in_ok-fate.ensures
+pub carry-requires-clause-reach : goal.carry-requires-clause-reach
+carry-requires-clause-reach g c =
+    steps_reach g.Q.Exact.fits (problem_of g.Q.Exact.value c.args.ground.now) (g.Q.Exact.value c.args.until) c.args.timeline.now c.leave.new.timeline _ c.in-None.is c.in_ok-fate.ensures.steps
 
-pub returns-in-None : goal.returns-in-None
-returns-in-None g c =
-    steps_then g.Q.Exact.fits (problem_of g.Q.Exact.value c.args.ground.now) (g.Q.Exact.value c.args.until) c.args.timeline.now c.leave.new.timeline c.carry.new.timeline _ c.carry.result c.in-None.is c.requires.reach c.in_ok-fate.ensures c.carry.ensures
+pub returns-in-None-clause-carried : goal.returns-in-None-clause-carried
+returns-in-None-clause-carried g c =
+    steps_then g.Q.Exact.fits (problem_of g.Q.Exact.value c.args.ground.now) (g.Q.Exact.value c.args.until) c.args.timeline.now c.leave.new.timeline c.carry.new.timeline _ c.carry.result c.in-None.is c.requires.reach c.in_ok-fate.ensures.steps c.carry.ensures.carried

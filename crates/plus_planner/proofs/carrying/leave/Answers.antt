@@ -2,16 +2,25 @@ use Rattle.std.proofs.Common.{sym, subst}
 use Rattle.plus_state.specs.View.{problem_of}
 use Rattle.plus_planner.specs.Standing.{Steps}
 use Rattle.plus_planner.proofs.Carries.{step_says, refusal_says}
+use Rattle.plus_planner.proofs.KinLemmas.{kin_step, kin_same}
 use Rattle.plus_planner.proofs.carrying.leave.Goals as goal
 
-pub returns-in-Ok : goal.returns-in-Ok
-returns-in-Ok g c =
+pub returns-in-Ok-clause-steps : goal.returns-in-Ok-clause-steps
+returns-in-Ok-clause-steps g c =
     let P = problem_of g.Q.Exact.value c.args.ground.now in
     let u = g.Q.Exact.value c.args.until in
     subst (Steps g.Q.Exact.fits P u c.args.timeline.now c.rest.new.self) (sym c.done.ensures)
     (step_says g.Q.Exact.value g.Q.Exact.fits P u c.args.timeline.now c.rest.new.self c.in-Ok.next c.requires.reach c.in-Ok.ensures.told.does c.in-Ok.ensures.told.pass)
 
-pub returns-in_ok-refused-in-Err : goal.returns-in_ok-refused-in-Err
-returns-in_ok-refused-in-Err g c =
+pub returns-in_ok-refused-in-Err-clause-steps : goal.returns-in_ok-refused-in-Err-clause-steps
+returns-in_ok-refused-in-Err-clause-steps g c =
     refusal_says g.Q.Exact.value g.Q.Exact.fits (problem_of g.Q.Exact.value c.args.ground.now) (g.Q.Exact.value c.args.until) c.args.timeline.now c.rest.new.self
     c.in-Err.stop c.in_ok-refused-in-Err.field-0 c.in_ok-refused-in-Err.ensures c.in-Err.ensures.told
+
+pub returns-in-Ok-clause-kin : goal.returns-in-Ok-clause-kin
+returns-in-Ok-clause-kin g c =
+    kin_step g.Q.Exact.value (problem_of g.Q.Exact.value c.args.ground.now) (g.Q.Exact.value c.args.until) c.args.timeline.now c.rest.new.self c.in-Ok.next c.in-Ok.ensures.told.does c.requires.kin
+
+pub returns-in_ok-refused-in-Err-clause-kin : goal.returns-in_ok-refused-in-Err-clause-kin
+returns-in_ok-refused-in-Err-clause-kin g c =
+    kin_same (problem_of g.Q.Exact.value c.args.ground.now) c.args.timeline.now c.rest.new.self c.in-Err.ensures.kept c.requires.kin

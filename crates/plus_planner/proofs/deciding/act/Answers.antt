@@ -6,7 +6,7 @@ use Rattle.plus_planner.specs.Places.{ActEnds}
 use Rattle.plus_planner.proofs.deciding.act.Goals as goal
 
 pub refuses-requires : goal.refuses-requires
-refuses-requires g c = subst (λ (t : TimelineView). ActionFits t.atoms t.fluents (action_of g.Q.Exact.value c.args.action.now)) (sym c.now.ensures) c.requires.fit
+refuses-requires g c = subst (λ (t : TimelineView). ActionFits t.atoms t.fluents (action_of g.Q.Exact.value c.args.action.now)) (sym c.now.ensures) c.requires.can.fit
 
 pub returns-in-Some-clause-ends : goal.returns-in-Some-clause-ends
 returns-in-Some-clause-ends g c =

@@ -11,8 +11,8 @@ use Rattle.plus_planner.proofs.PlaceLemmas.{slice_none, act_can, act_walks, wait
 use Rattle.plus_planner.proofs.DecidingLemmas.{action_at, full, inside}
 use Rattle.plus_planner.proofs.deciding.decide.Goals as goal
 
-pub act-requires : goal.act-requires
-act-requires g c =
+pub act-requires-clause-can : goal.act-requires-clause-can
+act-requires-clause-can g c =
     let v = g.Q.Exact.value in
     let task = task_from (problem_of v c.args.ground.now) (map (action_of v) c.args.actions.now) (v c.args.interval) in
     act_can g.Q.Exact.fits task c.args.place.now.start c.args.place.now.taken.items c.requires.stands c.args.decision (action_of v c.index-actions-number.result)

@@ -11,33 +11,42 @@ use Rattle.plus_planner.specs.Standing.{CanGoOn}
 use Rattle.plus_planner.specs.Places.{now_in}
 use Rattle.plus_planner.proofs.DecidingLemmas.{reach_done, act_told, refusal_told, act_goes}
 use Rattle.plus_planner.proofs.ForkLemmas.{can_forked, acts_forked}
+use Rattle.plus_planner.specs.Kin.{IsKin, AreKin}
+use Rattle.plus_planner.proofs.KinLemmas.{kin_now, kin_forked, kin_pop, kin_popped, kin_act, kin_ended, kin_spares, kin_ok}
 use Rattle.plus_planner.proofs.deciding.perform.Goals as goal
 
-pub fork-requires : goal.fork-requires
-fork-requires g c = subst (λ (t : TimelineView). t.answer ≡ Some There) (sym c.now.ensures) c.requires.paused.there
+pub fork-requires-clause-there : goal.fork-requires-clause-there
+fork-requires-clause-there g c = subst (λ (t : TimelineView). t.answer ≡ Some There) (sym c.now.ensures) c.requires.can.paused.there
+
+pub fork-requires-clause-can : goal.fork-requires-clause-can
+fork-requires-clause-can g c =
+    let P = problem_of g.Q.Exact.value c.args.ground.now in
+    let t = now_in c.args.place.now.start c.args.place.now.taken.items in
+    kin_popped P c.args.place.now.spares.items c.pop-spare.new.self.items c.pop-spare.result c.now.result.now c.pop-spare.ensures.items c.requires.kin.spares_are
+    (subst (IsKin P) (sym c.now.ensures) (kin_now P c.args.place.now.start c.args.place.now.taken.items c.requires.kin.start_is c.requires.kin.taken_are))
 
 pub act-requires-clause-serves : goal.act-requires-clause-serves
 act-requires-clause-serves g c going =
     let P = problem_of g.Q.Exact.value c.args.ground.now in
     let t = now_in c.args.place.now.start c.args.place.now.taken.items in
     let moment : t.now.running ≡ None = subst (λ (x : TimelineView). x.now.running ≡ None) c.now.ensures c.in_ok-timeline.ensures.moment in
-    subst (Serves P) (sym (c.in_ok-timeline.ensures.forked ∙ ap forked c.now.ensures)) (can_forked P t moment c.requires.goes).serves
+    subst (Serves P) (sym (c.in_ok-timeline.ensures.forked ∙ ap forked c.now.ensures)) (can_forked P t moment c.requires.can.goes).serves
 
 pub act-requires-clause-paused : goal.act-requires-clause-paused
 act-requires-clause-paused g c going =
-    subst IsPaused (sym (c.in_ok-timeline.ensures.forked ∙ ap forked c.now.ensures)) record { there = c.requires.paused.there; fresh = c.requires.paused.fresh }
+    subst IsPaused (sym (c.in_ok-timeline.ensures.forked ∙ ap forked c.now.ensures)) record { there = c.requires.can.paused.there; fresh = c.requires.can.paused.fresh }
 
 pub act-requires-clause-action : goal.act-requires-clause-action
 act-requires-clause-action g c going =
-    subst (λ (t : TimelineView). ActionFits t.atoms t.fluents (action_of g.Q.Exact.value c.args.action.now)) (sym (c.in_ok-timeline.ensures.forked ∙ ap forked c.now.ensures)) c.requires.fit
+    subst (λ (t : TimelineView). ActionFits t.atoms t.fluents (action_of g.Q.Exact.value c.args.action.now)) (sym (c.in_ok-timeline.ensures.forked ∙ ap forked c.now.ensures)) c.requires.can.fit
 
-pub go-requires : goal.go-requires
-go-requires g c =
+pub go-requires-clause-reach : goal.go-requires-clause-reach
+go-requires-clause-reach g c =
     let P = problem_of g.Q.Exact.value c.args.ground.now in
     let t = now_in c.args.place.now.start c.args.place.now.taken.items in
     let moment : t.now.running ≡ None = subst (λ (x : TimelineView). x.now.running ≡ None) c.now.ensures c.in_ok-timeline.ensures.moment in
     reach_done P (action_of g.Q.Exact.value c.args.action.now) c.in_ok-timeline.timeline c.act.new.self (g.Q.Exact.value c.time-time.result)
-    (subst (CanGoOn P) (sym (c.in_ok-timeline.ensures.forked ∙ ap forked c.now.ensures)) (can_forked P t moment c.requires.goes)) c.in-Ok.ensures.told.does c.time-time.ensures
+    (subst (CanGoOn P) (sym (c.in_ok-timeline.ensures.forked ∙ ap forked c.now.ensures)) (can_forked P t moment c.requires.can.goes)) c.in-Ok.ensures.told.does (c.time-time.ensures ∙ ap (λ v. v.now.time) c.get.ensures)
 
 pub refused-requires : goal.refused-requires
 refused-requires g c =
@@ -45,7 +54,7 @@ refused-requires g c =
     let t = now_in c.args.place.now.start c.args.place.now.taken.items in
     let moment : t.now.running ≡ None = subst (λ (x : TimelineView). x.now.running ≡ None) c.now.ensures c.in_ok-timeline.ensures.moment in
     act_goes g.Q.Exact.value g.Q.Exact.fits P (action_of g.Q.Exact.value c.args.action.now) 1 c.in_ok-timeline.timeline c.act.new.self c.in-Err.stop
-    (subst (CanGoOn P) (sym (c.in_ok-timeline.ensures.forked ∙ ap forked c.now.ensures)) (can_forked P t moment c.requires.goes)).going c.in-Err.ensures.told
+    (subst (CanGoOn P) (sym (c.in_ok-timeline.ensures.forked ∙ ap forked c.now.ensures)) (can_forked P t moment c.requires.can.goes)).going c.in-Err.ensures.told
 
 pub returns-in-Ok-clause-ends : goal.returns-in-Ok-clause-ends
 returns-in-Ok-clause-ends g c =
@@ -53,13 +62,13 @@ returns-in-Ok-clause-ends g c =
     let action = action_of g.Q.Exact.value c.args.action.now in
     let t = now_in c.args.place.now.start c.args.place.now.taken.items in
     let taken = c.args.place.now.taken.items in
-    acts_forked g.Q.Exact.fits P action c.args.decision t taken c.go.new.taken.items c.go.result
+    acts_forked g.Q.Exact.fits P action c.args.decision t taken c.go.new.place.taken.items c.go.result
     (act_told g.Q.Exact.fits P action (g.Q.Exact.value c.time-time.result) c.args.decision
-    (forked t) c.in_ok-timeline.timeline c.act.new.self taken c.go.new.taken.items c.go.result
-    (c.in_ok-timeline.ensures.forked ∙ ap forked c.now.ensures) c.time-time.ensures c.in-Ok.ensures.told.pass c.in-Ok.ensures.told.does c.go.ensures)
+    (forked t) c.in_ok-timeline.timeline c.act.new.self taken c.go.new.place.taken.items c.go.result
+    (c.in_ok-timeline.ensures.forked ∙ ap forked c.now.ensures) (c.time-time.ensures ∙ ap (λ v. v.now.time) c.get.ensures) c.in-Ok.ensures.told.pass c.in-Ok.ensures.told.does c.go.ensures.goes)
 
-pub returns-in-Err-clause-ends : goal.returns-in-Err-clause-ends
-returns-in-Err-clause-ends g c =
+pub returns-in_ok-push-in-Err-clause-ends : goal.returns-in_ok-push-in-Err-clause-ends
+returns-in_ok-push-in-Err-clause-ends g c =
     let P = problem_of g.Q.Exact.value c.args.ground.now in
     let action = action_of g.Q.Exact.value c.args.action.now in
     let t = now_in c.args.place.now.start c.args.place.now.taken.items in
@@ -68,3 +77,29 @@ returns-in-Err-clause-ends g c =
     (refusal_told g.Q.Exact.value g.Q.Exact.fits P action c.args.decision 1
     (forked t) c.in_ok-timeline.timeline c.act.new.self taken taken c.in-Err.stop c.refused.result
     (c.in_ok-timeline.ensures.forked ∙ ap forked c.now.ensures) refl c.in-Err.ensures.told c.refused.ensures)
+
+pub go-requires-clause-kin : goal.go-requires-clause-kin
+go-requires-clause-kin g c =
+    let P = problem_of g.Q.Exact.value c.args.ground.now in
+    let t = now_in c.args.place.now.start c.args.place.now.taken.items in
+    kin_act P (action_of g.Q.Exact.value c.args.action.now) c.in_ok-timeline.timeline c.act.new.self c.in-Ok.ensures.told.does
+    (subst (IsKin P) (sym (c.in_ok-timeline.ensures.forked ∙ ap forked c.now.ensures))
+    (kin_forked P t (kin_now P c.args.place.now.start c.args.place.now.taken.items c.requires.kin.start_is c.requires.kin.taken_are)))
+
+pub go-requires-clause-all_kin : goal.go-requires-clause-all_kin
+go-requires-clause-all_kin g c =
+    kin_pop (problem_of g.Q.Exact.value c.args.ground.now) c.args.place.now.start c.args.place.now.taken.items c.args.place.now.tried.items
+    c.args.place.now.spares.items c.pop-spare.new.self.items c.pop-spare.result c.pop-spare.ensures.items c.requires.kin
+
+pub returns-in_ok-push-in-Err-clause-kin : goal.returns-in_ok-push-in-Err-clause-kin
+returns-in_ok-push-in-Err-clause-kin g c =
+    let P = problem_of g.Q.Exact.value c.args.ground.now in
+    let t = now_in c.args.place.now.start c.args.place.now.taken.items in
+    kin_ok c.refused.result
+    (kin_spares P c.act.new.self c.args.place.now.start c.args.place.now.taken.items c.args.place.now.tried.items c.pop-spare.new.self.items c.push.new.self.items
+    (kin_ended P c.in_ok-timeline.timeline c.act.new.self c.in-Err.ensures.refused
+    (subst (IsKin P) (sym (c.in_ok-timeline.ensures.forked ∙ ap forked c.now.ensures))
+    (kin_forked P t (kin_now P c.args.place.now.start c.args.place.now.taken.items c.requires.kin.start_is c.requires.kin.taken_are))))
+    c.in_ok-push-in-Err.ensures.items
+    (kin_pop P c.args.place.now.start c.args.place.now.taken.items c.args.place.now.tried.items
+    c.args.place.now.spares.items c.pop-spare.new.self.items c.pop-spare.result c.pop-spare.ensures.items c.requires.kin))

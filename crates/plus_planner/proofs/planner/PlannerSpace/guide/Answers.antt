@@ -8,4 +8,4 @@ pub number-requires : goal.number-requires
 number-requires g c =
     let v = g.Q.Exact.value in
     let task = task_from (problem_of v c.args.self.now.problem) (map (action_of v) c.args.self.now.actions.items) (v c.args.self.now.interval) in
-    state_fits g.Q.Exact.fits task c.args.place.now.start c.args.place.now.taken.items c.requires.stands.behind c.now.result.now c.state.result.now c.now.ensures c.state.ensures.fits
+    state_fits g.Q.Exact.fits task c.args.place.now.start c.args.place.now.taken.items c.requires.stands.stands.behind c.now.result.now c.state.result.now c.now.ensures c.state.ensures.fits

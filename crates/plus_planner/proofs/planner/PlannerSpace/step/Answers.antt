@@ -4,6 +4,7 @@ use Rattle.plus_state.specs.View.{problem_of, action_of}
 use Rattle.plus_planner.specs.Places.{task_from, StandsBehind, Walks}
 use Rattle.plus_planner.proofs.WorldLemmas.{walk_told, walk_path, walk_stands, then, again_walks, again_stands}
 use Rattle.plus_planner.proofs.TriedLemmas.{there}
+use Rattle.plus_planner.proofs.KinLemmas.{kin_again, holds_ok}
 use Rattle.plus_planner.proofs.DecidingLemmas.{length_mapped}
 use Rattle.plus_planner.proofs.planner.PlannerSpace.step.Goals as goal
 
@@ -16,7 +17,7 @@ returns-in_ok-again-in-Some-clause-told g c =
     let task = task_from (problem_of v c.args.self.now.problem) (map (action_of v) c.args.self.now.actions.items) (v c.args.self.now.interval) in
     let old = c.args.place.now in
     let new = c.again.new.self in
-    (again_walks g.Q.Exact.fits task old.start new.start old.taken.items new.taken.items old.tried.items new.tried.items c.requires.stands c.again.ensures.start
+    (again_walks g.Q.Exact.fits task old.start new.start old.taken.items new.taken.items old.tried.items new.tried.items c.requires.stands.stands c.again.ensures.start
     c.in-Some.index c.args.decision c.requires.within c.in-Some.ensures c.in_ok-again-in-Some.ensures.returns).told
 
 pub returns-in_ok-again-in-Some-clause-path : goal.returns-in_ok-again-in-Some-clause-path
@@ -25,7 +26,7 @@ returns-in_ok-again-in-Some-clause-path g c =
     let task = task_from (problem_of v c.args.self.now.problem) (map (action_of v) c.args.self.now.actions.items) (v c.args.self.now.interval) in
     let old = c.args.place.now in
     let new = c.again.new.self in
-    (again_walks g.Q.Exact.fits task old.start new.start old.taken.items new.taken.items old.tried.items new.tried.items c.requires.stands c.again.ensures.start
+    (again_walks g.Q.Exact.fits task old.start new.start old.taken.items new.taken.items old.tried.items new.tried.items c.requires.stands.stands c.again.ensures.start
     c.in-Some.index c.args.decision c.requires.within c.in-Some.ensures c.in_ok-again-in-Some.ensures.returns).path
 
 pub returns-in_ok-again-in-Some-clause-stands : goal.returns-in_ok-again-in-Some-clause-stands
@@ -34,15 +35,19 @@ returns-in_ok-again-in-Some-clause-stands g c =
     let task = task_from (problem_of v c.args.self.now.problem) (map (action_of v) c.args.self.now.actions.items) (v c.args.self.now.interval) in
     let old = c.args.place.now in
     let new = c.again.new.self in
-    again_stands g.Q.Exact.fits task old.start new.start old.taken.items new.taken.items old.tried.items new.tried.items c.requires.stands c.again.ensures.start
-    c.in-Some.index c.args.decision c.requires.within c.in-Some.ensures c.in_ok-again-in-Some.ensures.returns
+    record {
+      stands = again_stands g.Q.Exact.fits task old.start new.start old.taken.items new.taken.items old.tried.items new.tried.items c.requires.stands.stands c.again.ensures.start
+          c.in-Some.index c.args.decision c.requires.within c.in-Some.ensures c.in_ok-again-in-Some.ensures.returns;
+      kin = kin_again task.problem old.start new.start old.taken.items new.taken.items old.tried.items new.tried.items old.spares.items new.spares.items c.in-Some.index
+          c.again.ensures.start (ap (λ w. w.items) c.again.ensures.spares) c.in_ok-again-in-Some.ensures.returns c.requires.stands.kin;
+    }
 
 pub decide-requires-clause-stands : goal.decide-requires-clause-stands
 decide-requires-clause-stands g c =
     let v = g.Q.Exact.value in
     let P = problem_of v c.args.self.now.problem in
     subst (λ xs. StandsBehind g.Q.Exact.fits (task_from P (map (action_of v) xs) (v c.args.self.now.interval)) c.args.place.now.start c.args.place.now.taken.items)
-    (sym c.deref.ensures.value) c.requires.stands.behind
+    (sym c.deref.ensures.value) c.requires.stands.stands.behind
 
 pub decide-requires-clause-within : goal.decide-requires-clause-within
 decide-requires-clause-within g c =
@@ -70,6 +75,9 @@ returns-in-None-clause-path g c =
     walk_path g.Q.Exact.fits task start place.start taken place.taken.items c.args.decision c.decide.result
     (subst (λ xs. IfOk c.decide.result (Walks g.Q.Exact.fits (task_from P (map (action_of v) xs) (v c.args.self.now.interval)) start place.start taken place.taken.items c.args.decision)) c.deref.ensures.value c.decide.ensures.walks)
 
+pub decide-requires-clause-kin : goal.decide-requires-clause-kin
+decide-requires-clause-kin g c = c.requires.stands.kin
+
 pub returns-in-None-clause-stands : goal.returns-in-None-clause-stands
 returns-in-None-clause-stands g c =
     let v = g.Q.Exact.value in
@@ -78,6 +86,8 @@ returns-in-None-clause-stands g c =
     let start = c.args.place.now.start in
     let taken = c.args.place.now.taken.items in
     let place = c.decide.new.place in
-    walk_stands g.Q.Exact.fits task start place.start taken place.taken.items c.args.decision c.args.place.now.tried.items place.tried.items c.requires.stands c.decide.result
+    holds_ok g.Q.Exact.fits task place.start place.taken.items place.tried.items place.spares.items c.decide.result
+    (walk_stands g.Q.Exact.fits task start place.start taken place.taken.items c.args.decision c.args.place.now.tried.items place.tried.items c.requires.stands.stands c.decide.result
     (subst (λ xs. IfOk c.decide.result (Walks g.Q.Exact.fits (task_from P (map (action_of v) xs) (v c.args.self.now.interval)) start place.start taken place.taken.items c.args.decision)) c.deref.ensures.value c.decide.ensures.walks)
-    (then c.decide.result (ap (λ w. w.items)) c.decide.ensures.tried)
+    (then c.decide.result (ap (λ w. w.items)) c.decide.ensures.tried))
+    c.decide.ensures.kin

@@ -1,0 +1,21 @@
+use Rattle.std.proofs.Common.{◌≡◌, subst}
+use Rattle.plus_state.specs.View.{problem_of}
+use Rattle.plus_planner.specs.Kin.{IsLightened}
+use Rattle.plus_planner.specs.Standing.{Carried}
+use Rattle.plus_planner.proofs.KinLemmas.{kin_light, carried_light}
+use Rattle.plus_planner.proofs.held.Held.carry.Goals as goal
+
+pub returns-clause-carried : goal.returns-clause-carried
+returns-clause-carried g c =
+    let fits = g.Q.Exact.fits in
+    let P = problem_of g.Q.Exact.value c.args.ground.now in
+    let u = g.Q.Exact.value c.args.until in
+    let first : c.deref_mut.result.now ≡ c.args.self.now = cc in
+    subst (λ t. Carried fits P u t c.lighten.new.timeline c.in_ok-fate.fate) first
+    (carried_light fits P u c.deref_mut.result.now c.carry.new.timeline c.lighten.new.timeline c.in_ok-fate.fate
+    (subst (λ t. IsLightened t c.lighten.new.timeline) c.deref_mut-2.ensures.value c.lighten.ensures) c.in_ok-fate.ensures.carried)
+
+pub returns-clause-kin : goal.returns-clause-kin
+returns-clause-kin g c =
+    kin_light (problem_of g.Q.Exact.value c.args.ground.now) c.carry.new.timeline c.lighten.new.timeline
+    (subst (λ t. IsLightened t c.lighten.new.timeline) c.deref_mut-2.ensures.value c.lighten.ensures) c.in_ok-fate.ensures.kin

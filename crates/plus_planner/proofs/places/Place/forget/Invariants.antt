@@ -1,0 +1,18 @@
+use Rattle.std.proofs.Common.{◌≡◌, take, vec_len}
+use Rattle.plus_model.specs.Terms.{Problem}
+use Rattle.plus_planner.specs.declared.places.Tried.{Tried}
+use Rattle.plus_planner.specs.Kin.{Each, IsKin}
+use Rattle.plus_planner.proofs.places.Place.forget.Given as goal
+
+-- no more is forgotten than is to be, and what was forgotten is spared
+abbrev pub invariant-tried : goal.invariant-tried
+invariant-tried g l = record {
+  start : l.self.start ≡ l.initial.self.start;
+  same : l.self.taken ≡ l.initial.self.taken;
+  left : take l.count l.self.tried.items ≡ take l.count l.initial.self.tried.items;
+  kin : (P : Problem) → Each (λ (x : Tried g.row.Q.Denot). IsKin P x.taken.timeline) l.initial.self.tried.items → Each (IsKin P) l.initial.self.spares.items
+      → Each (λ (x : Tried g.row.Q.Denot). IsKin P x.taken.timeline) l.self.tried.items × Each (IsKin P) l.self.spares.items;
+}
+
+abbrev pub decreases-tried : goal.decreases-tried
+decreases-tried g l = vec_len l.self.tried
