@@ -127,6 +127,7 @@ impl<Q: Exact> Indexed<Q> {
     /// events are looked at that fired in the last one, and those that read something that was changed
     /// since they were looked at; where the entry is closed only the processes that held, and those that
     /// read something that was changed or that moves; along a running set only the readers of what moves.
+    #[inline(always)]
     pub fn advance(&mut self, ground: &Ground<Q>, until: Q) -> Result<Next<Q>, Stop<Q>>
         requires knows { IsGoing self.old.line → Knows Q.fits (problem_of Q.value ground.now) self.old }
         requires ahead { IsGoing self.old.line →
@@ -152,6 +153,7 @@ impl<Q: Exact> Indexed<Q> {
     }
 
     /// Does an action that is due at the present time, as `Timeline::act` does.
+    #[inline(always)]
     pub fn act(&mut self, ground: &Ground<Q>, action: &Action<Q>, line: u32) -> Result<(), Stop<Q>>
         requires knows { IsGoing self.old.line → Knows Q.fits (problem_of Q.value ground.now) self.old }
         requires paused { IsGoing self.old.line → IsPaused self.old.line }
@@ -431,6 +433,7 @@ impl<Q: Exact> Indexed<Q> {
     }
 
     // Notes who waits after this part of the history.
+    #[inline(always)]
     fn wake(&mut self, next: Next<Q>)
         ensures kept { self.new ≡ record (self.old) {
           kept = record (self.old.kept) {

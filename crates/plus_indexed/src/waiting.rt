@@ -45,6 +45,7 @@ fn sort_once(numbers: &mut Vec<u32>) -> Result<(), AllocError>
 }
 
 // These numbers, and behind them the readers of all that is changed.
+#[inline(always)]
 fn and_readers<Q: Exact>(
     readers: &Readers,
     changes: &Changes<Q>,
@@ -64,6 +65,7 @@ fn and_readers<Q: Exact>(
 }
 
 // These numbers: where they have become twice as many, in order and each once.
+#[inline(always)]
 fn thinned(mut numbers: Vec<u32>, different: usize) -> Result<Waiting, AllocError>
     ensures { IfOk result (λ w. (k : ℕ) → is_in w k ≡ true ↔ is_in numbers.items k ≡ true) }
 {
@@ -108,6 +110,7 @@ impl Waiting {
     }
 
     /// These, and the readers of all that is changed.
+    #[inline(always)]
     pub fn with_readers<Q: Exact>(
         self,
         readers: &Readers,

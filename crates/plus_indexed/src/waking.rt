@@ -54,6 +54,7 @@ pub fn woken<Q: Exact>(
 }
 
 // The same, where the list of these events lends its memory too.
+#[inline(always)]
 pub fn still_woken<Q: Exact>(
     readers: &Readers,
     changes: &Changes<Q>,

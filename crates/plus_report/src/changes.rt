@@ -41,6 +41,7 @@ fn put_value<Q: Exact, O: Sink>(
 }
 
 /// Puts a new value, where there is one and it is not the old one.
+#[inline(always)]
 pub fn put_new_value<Q: Exact, O: Sink>(
     out: &mut O,
     waiting: &mut Waiting,

@@ -36,6 +36,7 @@ pub fn put_listed_fluents<Q: Exact, O: Sink>(
     Ok(())
 }
 
+#[inline(always)]
 fn put_listed_lost<Q: Exact, O: Sink>(
     out: &mut O,
     waiting: &mut Waiting,
@@ -56,6 +57,7 @@ fn put_listed_lost<Q: Exact, O: Sink>(
     Ok(())
 }
 
+#[inline(always)]
 fn put_listed_gained<Q: Exact, O: Sink>(
     out: &mut O,
     waiting: &mut Waiting,

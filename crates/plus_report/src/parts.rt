@@ -60,6 +60,7 @@ fn put_processes<Q: Exact, O: Sink>(
 }
 
 // The line of a moment.
+#[inline(always)]
 fn put_moment<Q: Exact, O: Sink>(out: &mut O, waiting: &mut Waiting, time: Q) -> Result<(), Failed>
     ensures { Puts O.taken O.faults out.old out.new waiting.old.items waiting.new.items
         (codes "at " ++ (fraction_text (Q.value time) ++ newline)) result }
@@ -129,6 +130,7 @@ pub fn write_entry<Q: Exact, O: Sink>(
 }
 
 /// Writes a moment, as `write_entry` does, by what changes until the arrival: it costs what is listed.
+#[inline(always)]
 pub fn write_entry_changes<Q: Exact, O: Sink>(
     out: &mut O,
     ground: &Ground<Q>,

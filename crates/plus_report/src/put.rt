@@ -24,6 +24,7 @@ pub fn flush<O: Sink>(out: &mut O, waiting: &mut Waiting) -> Result<(), Failed>
     Ok(())
 }
 
+#[inline(always)]
 pub fn put<O: Sink>(out: &mut O, waiting: &mut Waiting, text: &[u8]) -> Result<(), Failed>
     ensures { Puts O.taken O.faults out.old out.new waiting.old.items waiting.new.items
         text.now result }

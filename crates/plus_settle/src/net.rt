@@ -36,6 +36,7 @@ fn summed<Q: Exact>(up: bool, sum: Q, amount: Q) -> Result<Q, Overflow<Q>>
 }
 
 // Adds one rate to the sums.
+#[inline(always)]
 #[tactic(auto, using(crate::proofs::RatesLemmas::rating))]
 fn add_rate<Q: Exact>(
     rates: &mut Rates<Q>,
@@ -67,6 +68,7 @@ fn add_rate<Q: Exact>(
 }
 
 // Adds the rates of one process to the sums.
+#[inline(always)]
 fn add_all<Q: Exact>(
     rates: &mut Rates<Q>,
     list: &[Rate<Q>],
@@ -115,6 +117,7 @@ fn are_few<Q: Exact>(ground: &Ground<Q>, members: &[ProcessId]) -> bool {
 
 // All rates are 0, and the fluents that have a rate under these processes have their places, where they
 // are more than a few.
+#[inline(always)]
 fn with_places<Q: Exact>(
     alloc: Global,
     ground: &Ground<Q>,
