@@ -8,7 +8,7 @@ use Rattle.plus_report.specs.Refusals.{early_text}
 use Rattle.plus_reply.specs.declared.status.Status.{Status}
 use Rattle.plus_reply.specs.declared.status.Status.TheVariants as s
 use Rattle.plus_run.specs.Command.{Command, Check, ShowDomain, ShowProblem, Numeric, Trial, Translate, Lift, Plan}
-use Rattle.plus_run.specs.Headline.{RunsValid, RunsRefused, RunsBroken, RunsStopped, IsStoppedRun, nothing, OnRefusal, usage_line, IsAnswer}
+use Rattle.plus_run.specs.Headline.{RunsValid, RunsRefused, RunsBroken, RunsUnread, RunsStopped, IsUnreadRun, at_once, IsStoppedRun, nothing, OnRefusal, usage_line, IsAnswer}
 use Rattle.plus_reply.specs.Statuses.{early_status, Writes}
 
 -- a line tells of a bad text or of a limit
@@ -110,6 +110,16 @@ stopped_at_once (Translate file q d p) bytes old = refl
 stopped_at_once (Lift q d p l) bytes old = refl
 stopped_at_once (Plan q k n d p) bytes old = refl
 
+unread_at_once : (command : Command) (bytes : List ℕ → Option (List ℕ)) (old : Option (List ℕ)) → RunsUnread (Some command) bytes old old
+unread_at_once (Check d p l n) bytes old = in_pair_told (bytes d) (bytes p) (λ ds ps. IsUnreadRun n ds ps (bytes l) old old) (λ ds ps. at_once refl)
+unread_at_once (ShowDomain file) bytes old = refl
+unread_at_once (ShowProblem file) bytes old = refl
+unread_at_once (Numeric d p l) bytes old = refl
+unread_at_once (Trial n) bytes old = refl
+unread_at_once (Translate file q d p) bytes old = refl
+unread_at_once (Lift q d p l) bytes old = refl
+unread_at_once (Plan q k n d p) bytes old = refl
+
 -- a file failed
 pub file_answer : (command : Command) (bytes : List ℕ → Option (List ℕ)) (old : Option (List ℕ)) (a b c d : ℕ) → Rose a b → IsAnswer (Some command) bytes old old a b c d s.ReadFault
 file_answer command bytes old a b c d f = record {
@@ -117,7 +127,7 @@ file_answer command bytes old a b c d f = record {
   refused = tt;
   usage = λ v. cc v;
   no_command = λ n. cc n;
-  read_fault = λ v. (f, stopped_at_once command bytes old);
+  read_fault = λ v. (f, unread_at_once command bytes old);
   write_fault = λ v. cc v;
   no_memory = λ v. cc v;
 }

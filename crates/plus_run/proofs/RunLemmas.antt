@@ -13,14 +13,14 @@ use Rattle.plus_validator.specs.declared.judge.Outcome.TheVariants as outcomes
 use Rattle.plus_io.specs.Files.{IsPrefix}
 use Rattle.plus_io.proofs.Pieces.{Takes-prefix}
 use Rattle.plus_validator.specs.Validates.{Accepts, IsRefusal, Refuses, BreaksOff, RefusesPair, RefusesPairInPart}
-use Rattle.plus_validator.specs.Leaving.{TookSoFar, LeavesReport, BreaksOffSoFar, StopsReading, unpicked, reading, StopsWriting, on_way, at_end}
+use Rattle.plus_validator.specs.Leaving.{TookLines, TookSoFar, LeavesReport, BreaksOffSoFar, StopsReading, unpicked, reading, StopsWriting, on_way, at_end}
 use Rattle.plus_reply.specs.declared.status.Status.{Status}
 use Rattle.plus_reply.specs.declared.status.Status.TheVariants as s
 use Rattle.plus_run.specs.Command.{Command}
 use Rattle.plus_pair.specs.Pair.{PairRefused}
 use Rattle.plus_pair.specs.Reads.{ReadsPair}
 use Rattle.plus_pair.proofs.SpelledLemmas.{on_pair, told}
-use Rattle.plus_run.specs.Headline.{SpellsWellTyped, IsValidRun, IsRefusedRun, for_pair, for_ground, for_plan, IsBrokenRun, in_pair, in_ground, in_report, in_plan, IsStoppedRun, nothing, so_far, OnRefusal, status_of, exit_number, IsAnswer, EndsWith}
+use Rattle.plus_run.specs.Headline.{SpellsWellTyped, IsValidRun, IsRefusedRun, for_pair, for_ground, for_plan, IsBrokenRun, in_pair, in_ground, in_report, in_plan, IsUnreadRun, at_once, in_lines, IsStoppedRun, nothing, so_far, OnRefusal, status_of, exit_number, IsAnswer, EndsWith}
 use Rattle.plus_reply.specs.Statuses.{early_status, Writes}
 
 -- ---- a status comes of the outcome alone
@@ -163,14 +163,23 @@ pub plan_stopped :
 plan_stopped n domain problem plan later d p old new q rd w h =
     on_pair domain problem d p (λ ds ps. IsStoppedRun n ds ps plan old new) rd w (λ ds ps t. stopped_run n ds ps plan later d p old new q t h)
 
--- what is out where the shelf failed is the report for a beginning of the text
-pub reading_leaves :
-    (n : ℕ) (bytes picked rest : Option (List ℕ)) (d : Domain) (p : Problem) (old new : Option (List ℕ))
-    → StopsReading d p n bytes picked rest old new → LeavesReport d p n bytes old new
-reading_leaves n bytes picked rest d p old new (unpicked u e) = inl e
-reading_leaves n bytes picked rest d p old new (reading read report takes told took) =
-    inr (on_plan bytes (IsPrefix read) (λ text. TookSoFar d p n text old new) (Takes-prefix bytes rest read takes)
-    (λ text b. record { read = read; begins = b; report = report; told = told; took = took }))
+-- what is out where the shelf failed is the report for the whole lines of a beginning of the text
+unread_run :
+    (n : ℕ) (ds ps : List ℕ) (plan later picked rest : Option (List ℕ)) (d : Domain) (p : Problem) (old new : Option (List ℕ)) → later ≡ plan
+    → SpellsWellTyped ds ps d p → StopsReading d p n later picked rest old new → IsUnreadRun n ds ps plan old new
+unread_run n ds ps plan later picked rest d p old new q t (unpicked u e) = at_once e
+unread_run n ds ps plan later picked rest d p old new q t (reading read report takes told took) =
+    in_lines d p t
+    (subst (λ b. IfSome b (λ text. TookLines d p n text old new)) q
+    (on_plan later (IsPrefix read) (λ text. TookLines d p n text old new) (Takes-prefix later rest read takes)
+    (λ text b. record { read = read; begins = b; report = report; told = told; took = took })))
+
+pub plan_unread :
+    (n : ℕ) (domain problem plan later picked rest : Option (List ℕ)) (d : Domain) (p : Problem) (old new : Option (List ℕ))
+    → later ≡ plan → ReadsPair domain problem d p → IsTrue (is_well_typed d p) → StopsReading d p n later picked rest old new
+    → IfSome domain (λ ds. IfSome problem (λ ps. IsUnreadRun n ds ps plan old new))
+plan_unread n domain problem plan later picked rest d p old new q rd w h =
+    on_pair domain problem d p (λ ds ps. IsUnreadRun n ds ps plan old new) rd w (λ ds ps t. unread_run n ds ps plan later picked rest d p old new q t h)
 
 -- ---- no pair
 

@@ -10,7 +10,7 @@ use Rattle.plus_reply.specs.declared.status.Status.{Status}
 use Rattle.plus_reply.specs.declared.status.Status.TheVariants as s
 use Rattle.plus_report.specs.Refusals.{early_text}
 use Rattle.plus_validator.specs.Validates.{Accepts, Refuses, BreaksOff, RefusesPair, RefusesPairInPart}
-use Rattle.plus_validator.specs.Leaving.{TookSoFar, BreaksOffSoFar}
+use Rattle.plus_validator.specs.Leaving.{TookLines, TookSoFar, BreaksOffSoFar}
 use Rattle.plus_grammar.specs.Texts.{IsDomainText, IsProblemText}
 use Rattle.plus_printer.specs.Canon.{domain_text, problem_text}
 use Rattle.plus_run.specs.Command.{Command, Check, ShowDomain, ShowProblem, Numeric, Trial, Translate, Lift, Plan}
@@ -82,7 +82,15 @@ pub data IsBrokenRun (happenings : ℕ) (domain problem : List ℕ) (plan : Opti
       (d : Domain) (p : Problem) → SpellsWellTyped domain problem d p
       → IfSome plan (λ text. BreaksOff d p happenings text old new) → IsBrokenRun happenings domain problem plan old new
 
--- A file failed, or memory was wanting: the sink took nothing, or the report for a beginning of the plan text, and no verdict line.
+-- A file failed: the sink took nothing, or the report for the whole lines of a beginning of the plan text, and no verdict line.
+pub data IsUnreadRun (happenings : ℕ) (domain problem : List ℕ) (plan : Option (List ℕ)) (old new : Option (List ℕ)) : Type 0 where
+  at_once : new ≡ old → IsUnreadRun happenings domain problem plan old new
+  in_lines :
+      (d : Domain) (p : Problem) → SpellsWellTyped domain problem d p
+      → IfSome plan (λ text. TookLines d p happenings text old new) → IsUnreadRun happenings domain problem plan old new
+
+-- Memory was wanting: the sink took nothing, or first bytes of the report of a history that the first lines of the plan text tell,
+-- and no verdict line.
 pub data IsStoppedRun (happenings : ℕ) (domain problem : List ℕ) (plan : Option (List ℕ)) (old new : Option (List ℕ)) : Type 0 where
   nothing : new ≡ old → IsStoppedRun happenings domain problem plan old new
   so_far :
@@ -131,7 +139,13 @@ RunsBroken (Some (Lift q d p l)) bytes old new =
 RunsBroken (Some (Plan q k n d p)) bytes old new =
     IfSome (bytes d) (λ ds. IfSome (bytes p) (λ ps. RepliedInPart (Plans q k n ds ps) old new))
 
--- what is written where a file failed or memory was wanting: of a check a part of the report, and else nothing
+-- what is written where a file failed: of a check a part of the report, and else nothing
+abbrev pub RunsUnread : Option Command → (List ℕ → Option (List ℕ)) → Option (List ℕ) → Option (List ℕ) → Type 0
+RunsUnread (Some (Check d p l n)) bytes old new =
+    IfSome (bytes d) (λ ds. IfSome (bytes p) (λ ps. IsUnreadRun n ds ps (bytes l) old new))
+RunsUnread _ bytes old new = new ≡ old
+
+-- the same where memory was wanting
 abbrev pub RunsStopped : Option Command → (List ℕ → Option (List ℕ)) → Option (List ℕ) → Option (List ℕ) → Type 0
 RunsStopped (Some (Check d p l n)) bytes old new =
     IfSome (bytes d) (λ ds. IfSome (bytes p) (λ ps. IsStoppedRun n ds ps (bytes l) old new))
@@ -143,7 +157,7 @@ pub record IsAnswer (command : Option Command) (bytes : List ℕ → Option (Lis
   pub refused : OnRefusal status (RunsRefused command bytes old new status)
   pub usage : status ≡ s.Usage → command ≡ None
   pub no_command : command ≡ None → Writes usage_line s.Usage old new write_before write_now status
-  pub read_fault : status ≡ s.ReadFault → Rose read_before read_now × RunsStopped command bytes old new
+  pub read_fault : status ≡ s.ReadFault → Rose read_before read_now × RunsUnread command bytes old new
   pub write_fault : status ≡ s.WriteFault → Rose write_before write_now × RunsBroken command bytes old new
   pub no_memory : status ≡ s.NoMemory → RunsStopped command bytes old new
 

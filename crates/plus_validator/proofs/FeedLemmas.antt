@@ -22,27 +22,23 @@ use Rattle.plus_report.specs.declared.verdicts.Verdict.TheVariants.{Other}
 use Rattle.plus_report.specs.declared.refusals.Early.TheVariants.{LineTooLong, TooLong}
 use Rattle.plus_report.specs.declared.refusals.Text.TheVariants as texts
 use Rattle.plus_validator.specs.declared.halt.Halt.{Halt}
-use Rattle.plus_validator.specs.declared.halt.Halt.TheVariants.{Refused, Memory}
+use Rattle.plus_validator.specs.declared.halt.Halt.TheVariants.{Refused, Memory, WriteFault}
 use Rattle.plus_validator.specs.Account.{Progress}
 use Rattle.plus_validator.specs.Halts.{line_halt}
+use Rattle.plus_validator.specs.Handing.{Left, left_by, IsPartOut}
 use Rattle.plus_validator.specs.Limits.{text_limit}
 use Rattle.plus_validator.specs.Plans.{Pair}
 use Rattle.plus_validator.specs.Playing.{ReadiedFor, PlaysLine, Closes}
 use Rattle.plus_validator.specs.Refused.{cut_verdict, WholeLines}
-use Rattle.plus_validator.specs.Stopped.{StopsInText, HaltsInLine, HaltsAtEnd}
+use Rattle.plus_validator.specs.Stopped.{IsCutShortInText, HaltsInLine, HaltsAtEnd}
 use Rattle.plus_validator.specs.Validates.{IsRead}
 use Rattle.plus_validator.specs.Feeding.{Course, HasPlayed, IsFed, IsReadOf, StopsOn, HaltsWith, HaltsOn, Feeds, HaltsFeeding, EndsFeeding, HaltsEnding}
 use Rattle.plus_validator.proofs.Played.{played_more, plays_all}
-use Rattle.plus_validator.proofs.TextStops.{bad_stops, next_stops, halts_after_all, cut_stops}
+use Rattle.plus_validator.proofs.TextStops.{works_out, cut_behind, bad_stops, next_stops, halts_after_all, cut_stops}
 use Rattle.plus_validator.proofs.Cutting.{HasCut, no_lf_from, cut_of, cut_at, cut_over, cut_long, cut_here, reads_on}
 use Rattle.std.proofs.lemmas.List.{take_at}
 
 -- ---- what stands behind the lines that were given
-
--- whatever the halt is, the run halts on these bytes
-stops_on : (d : Pair) (N : Labels) (P : Problem) (most : ℕ) (bytes text : List ℕ) (goes_on : Bool) (whole piece : List ℕ) (new : Progress) (halt : Halt) → IsRead bytes text goes_on → WholeLines goes_on text whole piece → StopsInText d N P most goes_on whole piece new.account halt → StopsOn d N P most bytes new.account halt
-stops_on d N P most bytes text goes_on whole piece new Memory r c s = tt
-stops_on d N P most bytes text goes_on whole piece new (Refused v) r c s = record { text = text; goes_on = goes_on; read = r; whole = whole; piece = piece; cut = c; stopped = s }
 
 -- what is read of the bytes, cut into whole lines that begin with these, behind which this one stands
 record Begins (bytes : List ℕ) (lines : List Line) (next : Result Line PlanFault) : Type 0 where
@@ -54,6 +50,20 @@ record Begins (bytes : List ℕ) (lines : List Line) (next : Result Line PlanFau
   cut : WholeLines goes_on text whole piece
   behind : List (Result Line PlanFault)
   said : plan_lines Timed whole ≡ map Ok lines ++ next ∷ behind
+
+-- what is read of the bytes, cut into whole lines that begin with these
+record Cuts (bytes : List ℕ) (lines : List Line) : Type 0 where
+  text : List ℕ
+  goes_on : Bool
+  read : IsRead bytes text goes_on
+  whole : List ℕ
+  piece : List ℕ
+  cut : WholeLines goes_on text whole piece
+  rest : List (Result Line PlanFault)
+  said : plan_lines Timed whole ≡ map Ok lines ++ rest
+
+cuts_so : (bytes : List ℕ) (lines : List Line) (next : Result Line PlanFault) → Begins bytes lines next → Cuts bytes lines
+cuts_so bytes lines next b = record { text = b.text; goes_on = b.goes_on; read = b.read; whole = b.whole; piece = b.piece; cut = b.cut; rest = next ∷ b.behind; said = b.said }
 
 may_follow : (r : Pending) (more : List ℕ) → r.closed ≡ false → MayFollow r more
 may_follow r more o c = absurd (let e : true ≡ false = sym c ∙ o in cc e)
@@ -120,6 +130,50 @@ module _ (text : List ℕ) (lines : List Line) (r : Pending) (next : Result Line
       let on = reads_on text bytes behind e w in
       by_reading bytes on.more on.goes_on on.read at o
 
+-- the bytes that wait are a piece of a line, and none is an LF
+module _ (text : List ℕ) (lines : List Line) (r : Pending) (given : HasGiven Timed text lines r) (none : line_end r.rest 0 ≡ length r.rest) (o : r.closed ≡ false) where
+  cuts_said : (more : List ℕ) → plan_lines Timed (text ++ more) ≡ map Ok lines ++ lines_with r more
+  cuts_said more = goes_on_with Timed text lines r given more (may_follow r more o)
+
+  cuts_at : (bytes more : List ℕ) (c : HasCut more) → IsRead bytes (text ++ more) true → (c.whole ≡ []) ⊎ (before : List ℕ) × (c.whole ≡ before ++ 10 ∷ []) → Cuts bytes lines
+  cuts_at bytes more c read (inl e) = record {
+    text = text ++ more;
+    goes_on = true;
+    read = read;
+    whole = given.given;
+    piece = r.rest ++ c.piece;
+    cut = subst (λ z. WholeLines true z given.given (r.rest ++ c.piece)) (sym (ap (λ z. z ++ more) given.is))
+        (cut_long given.given r.rest more c (given.at_line o) (no_lf_from r.rest none) e);
+    rest = [];
+    said = given.said ∙ sym (append-nil (map Ok lines));
+  }
+  cuts_at bytes more c read (inr (before, e)) = record {
+    text = text ++ more;
+    goes_on = true;
+    read = read;
+    whole = text ++ c.whole;
+    piece = c.piece;
+    cut = cut_over text more before c e;
+    rest = lines_with r c.whole;
+    said = cuts_said c.whole;
+  }
+
+  cuts_reading : (bytes more : List ℕ) (goes_on : Bool) → IsRead bytes (text ++ more) goes_on → Cuts bytes lines
+  cuts_reading bytes more true read = (let c = cut_of more in cuts_at bytes more c read c.is.at_line)
+  cuts_reading bytes more false read = record {
+    text = text ++ more;
+    goes_on = false;
+    read = read;
+    whole = text ++ more;
+    piece = [];
+    cut = refl;
+    rest = lines_with r more;
+    said = cuts_said more;
+  }
+
+  cuts_here : (bytes behind : List ℕ) → bytes ≡ text ++ behind → length text ≤ text_limit → Cuts bytes lines
+  cuts_here bytes behind e w = (let on = reads_on text bytes behind e w in cuts_reading bytes on.more on.goes_on on.read)
+
 -- ---- a line that is longer than a line may be
 
 too_long_is : (n : ℕ) (bytes : List ℕ) (e : PlanFault) → line_limit < length bytes → IsFault Timed n bytes e → (e ≡ faults.LineTooLong n) ⊎ (e ≡ faults.Memory)
@@ -152,96 +206,135 @@ short_verdict : (n size : ℕ) → size ≤ line_limit → cut_verdict n size �
 short_verdict n size h = grind (arith, common_steps)
 
 module _ (d : Pair) (N : Labels) (P : Problem) (text : List ℕ) (first : Progress) (feed : Course) (h : IsFed d N P text first feed) (w : length text ≤ text_limit) where
-  abbrev Halts : List ℕ → Progress → Halt → Type 0
-  Halts bytes new halt = (g : List Part) → ReadiedFor d N P [] g first → StopsOn d N P first.timeline.line.most bytes new.account halt
+  abbrev Halts : List ℕ → Left → Halt → Type 0
+  Halts bytes new halt = (g : List Part) → ReadiedFor d N P [] g first → StopsOn d N P first.timeline.line.most bytes new halt
 
-  halts_begins : (bytes : List ℕ) (fault : PlanFault) → Begins bytes h.lines (Err fault) → Halts bytes feed.run (line_halt fault)
-  halts_begins bytes fault b g ready =
-      stops_on d N P first.timeline.line.most bytes b.text b.goes_on b.whole b.piece feed.run (line_halt fault) b.read b.cut
-      (bad_stops d N P first feed.run h.lines h.played b.whole b.behind b.goes_on b.piece fault g b.said ready)
+  -- a fault comes behind the lines that are given
+  cut_on : (bytes : List ℕ) (c : Cuts bytes h.lines) (out : List ℕ) (halt : Halt) → IsPartOut halt out feed.run.account.report → (g : List Part) → ReadiedFor d N P [] g first → IsCutShortInText d N P first.timeline.line.most c.goes_on c.whole out halt
+  cut_on bytes c out halt m g ready = cut_behind d N P first feed.run h.lines h.played c.whole [] c.goes_on c.piece c.rest out halt g c.said m ready
 
-  -- the bytes that wait are more than a line may have, and none is an LF
-  module _ (none : line_end feed.reader.rest 0 ≡ length feed.reader.rest) (long : line_limit < length feed.reader.rest) (o : feed.reader.closed ≡ false)
-      (next : (more : List ℕ) → MayFollow feed.reader more → (behind : List (Result Line PlanFault)) × (lines_with feed.reader more ≡ Err (faults.LineTooLong (length h.lines + 1)) ∷ behind)) where
-    long_cut : (bytes more : List ℕ) (c : HasCut more) → IsRead bytes (text ++ more) true → (c.whole ≡ []) ⊎ (before : List ℕ) × (c.whole ≡ before ++ 10 ∷ []) → Halts bytes feed.run (Refused (Other (LineTooLong (length h.lines + 1))))
-    long_cut bytes more c read (inl e) g ready =
-        let said = ap (λ z. z ++ more) h.given.is in
-        let size = length-append feed.reader.rest c.piece in
-        record {
-          text = text ++ more;
-          goes_on = true;
-          read = read;
-          whole = h.given.given;
-          piece = feed.reader.rest ++ c.piece;
-          cut = subst (λ z. WholeLines true z h.given.given (feed.reader.rest ++ c.piece)) (sym said)
-              (cut_long h.given.given feed.reader.rest more c (h.given.at_line o) (no_lf_from feed.reader.rest none) e);
-          stopped = cut_stops d N P h.given.given first feed.run h.lines h.played h.given.said (feed.reader.rest ++ c.piece) (Other (LineTooLong (length h.lines + 1))) g
-              (ap Other (sym (long_verdict (length h.lines + 1) (length (feed.reader.rest ++ c.piece)) (omega arith)))) ready;
-        }
-    long_cut bytes more c read (inr (before, e)) g ready =
-        halts_begins bytes (faults.LineTooLong (length h.lines + 1)) (record {
-          text = text ++ more;
-          goes_on = true;
-          read = read;
-          whole = text ++ c.whole;
-          piece = c.piece;
-          cut = cut_over text more before c e;
-          behind = (next c.whole (may_follow feed.reader c.whole o)).0;
-          said = said_with text h.lines feed.reader (Err (faults.LineTooLong (length h.lines + 1))) h.given next c.whole (may_follow feed.reader c.whole o);
-        }) g ready
-
-    long_reading : (bytes more : List ℕ) (goes_on : Bool) → IsRead bytes (text ++ more) goes_on → Halts bytes feed.run (Refused (Other (LineTooLong (length h.lines + 1))))
-    long_reading bytes more true read = (let c = cut_of more in long_cut bytes more c read c.is.at_line)
-    long_reading bytes more false read = halts_begins bytes (faults.LineTooLong (length h.lines + 1)) (record {
-      text = text ++ more;
-      goes_on = false;
-      read = read;
-      whole = text ++ more;
-      piece = [];
-      cut = refl;
-      behind = (next more (may_follow feed.reader more o)).0;
-      said = said_with text h.lines feed.reader (Err (faults.LineTooLong (length h.lines + 1))) h.given next more (may_follow feed.reader more o);
-    })
-
-    long_halts : (bytes behind : List ℕ) → bytes ≡ text ++ behind → Halts bytes feed.run (Refused (Other (LineTooLong (length h.lines + 1))))
-    long_halts bytes behind e = (let on = reads_on text bytes behind e w in long_reading bytes on.more on.goes_on on.read)
-
-  -- the line that waits is refused
-  refused_halts : (fault : PlanFault) → IsFaulty fault → IsRefusedNext feed.reader fault → HaltsOn d N P text feed.reader.closed first feed.run (line_halt fault)
-  refused_halts fault f n = record {
-    halts = λ bytes b. record { stops = by_ending bytes b };
+  wants_on : (bytes : List ℕ) → Cuts bytes h.lines → (new : Left) → IsPartOut Memory new.out feed.run.account.report → Halts bytes new Memory
+  wants_on bytes c new m g ready = record {
+    text = c.text;
+    goes_on = c.goes_on;
+    read = c.read;
+    whole = c.whole;
+    piece = c.piece;
+    cut = c.cut;
+    stopped = cut_on bytes c new.out Memory m g ready;
   }
-    where
-      next : (more : List ℕ) → MayFollow feed.reader more → (behind : List (Result Line PlanFault)) × (lines_with feed.reader more ≡ Err fault ∷ behind)
-      next more m = ((n.first more m).0, (n.first more m).1 ∙ ap (λ x. x ∷ (n.first more m).0) (faulty_read fault (read_line feed.reader.form feed.reader.number (line_from feed.reader.rest 0)) f n.read))
 
-      is_long : (line_end feed.reader.rest 0 ≡ length feed.reader.rest) × (line_limit < length feed.reader.rest) → fault ≡ faults.LineTooLong (length h.lines + 1)
-      is_long long =
-          let many : line_limit < length (line_from feed.reader.rest 0) = subst (λ (xs : List ℕ). line_limit < length xs) (sym (whole_line feed.reader.rest long.0)) long.1 in
-          elim (too_long_is feed.reader.number (line_from feed.reader.rest 0) fault many (subst (λ form. IsFault form feed.reader.number (line_from feed.reader.rest 0) fault) h.given.form_is n.why)) [
-            | inl is ↦ is ∙ ap faults.LineTooLong h.given.number_is
-            | inr m ↦ absurd (subst IsFaulty m f)
+  breaks_on : (bytes : List ℕ) → Cuts bytes h.lines → (new : Left) → IsPartOut WriteFault new.out feed.run.account.report → Halts bytes new WriteFault
+  breaks_on bytes c new m g ready = record {
+    text = c.text;
+    goes_on = c.goes_on;
+    read = c.read;
+    whole = c.whole;
+    piece = c.piece;
+    cut = c.cut;
+    stopped = cut_on bytes c new.out WriteFault m g ready;
+  }
+
+  -- the sink fails between two pieces
+  pub idle_breaks : (bytes behind : List ℕ) (new : Left) → feed.reader.closed ≡ false → IsIdle feed.reader → bytes ≡ text ++ behind → IsPartOut WriteFault new.out feed.run.account.report → HaltsWith d N P bytes first new WriteFault
+  idle_breaks bytes behind new o i e m = record {
+    stops = breaks_on bytes (cuts_here text h.lines feed.reader h.given i.no_lf o bytes behind e w) new m;
+  }
+
+  module _ (out : List ℕ) (part : IsPartOut Memory out feed.run.account.report) where
+    halts_begins : (bytes : List ℕ) (fault : PlanFault) → Begins bytes h.lines (Err fault) → Halts bytes (left_by out feed.run) (line_halt fault)
+    halts_begins bytes fault b g ready = record {
+      text = b.text;
+      goes_on = b.goes_on;
+      read = b.read;
+      whole = b.whole;
+      piece = b.piece;
+      cut = b.cut;
+      stopped = bad_stops d N P first feed.run h.lines h.played b.whole b.behind b.goes_on b.piece fault out g b.said part ready;
+    }
+
+    -- the bytes that wait are more than a line may have, and none is an LF
+    module _ (none : line_end feed.reader.rest 0 ≡ length feed.reader.rest) (long : line_limit < length feed.reader.rest) (o : feed.reader.closed ≡ false)
+        (next : (more : List ℕ) → MayFollow feed.reader more → (behind : List (Result Line PlanFault)) × (lines_with feed.reader more ≡ Err (faults.LineTooLong (length h.lines + 1)) ∷ behind)) where
+      long_cut : (bytes more : List ℕ) (c : HasCut more) → IsRead bytes (text ++ more) true → (c.whole ≡ []) ⊎ (before : List ℕ) × (c.whole ≡ before ++ 10 ∷ []) → Halts bytes (left_by out feed.run) (Refused (Other (LineTooLong (length h.lines + 1))))
+      long_cut bytes more c read (inl e) g ready =
+          let said = ap (λ z. z ++ more) h.given.is in
+          let size = length-append feed.reader.rest c.piece in
+          record {
+            text = text ++ more;
+            goes_on = true;
+            read = read;
+            whole = h.given.given;
+            piece = feed.reader.rest ++ c.piece;
+            cut = subst (λ z. WholeLines true z h.given.given (feed.reader.rest ++ c.piece)) (sym said)
+                (cut_long h.given.given feed.reader.rest more c (h.given.at_line o) (no_lf_from feed.reader.rest none) e);
+            stopped = cut_stops d N P h.given.given first feed.run h.lines h.played h.given.said (feed.reader.rest ++ c.piece) (Other (LineTooLong (length h.lines + 1))) g
+                (ap Other (sym (long_verdict (length h.lines + 1) (length (feed.reader.rest ++ c.piece)) (omega arith)))) ready;
+          }
+      long_cut bytes more c read (inr (before, e)) g ready =
+          halts_begins bytes (faults.LineTooLong (length h.lines + 1)) (record {
+            text = text ++ more;
+            goes_on = true;
+            read = read;
+            whole = text ++ c.whole;
+            piece = c.piece;
+            cut = cut_over text more before c e;
+            behind = (next c.whole (may_follow feed.reader c.whole o)).0;
+            said = said_with text h.lines feed.reader (Err (faults.LineTooLong (length h.lines + 1))) h.given next c.whole (may_follow feed.reader c.whole o);
+          }) g ready
+
+      long_reading : (bytes more : List ℕ) (goes_on : Bool) → IsRead bytes (text ++ more) goes_on → Halts bytes (left_by out feed.run) (Refused (Other (LineTooLong (length h.lines + 1))))
+      long_reading bytes more true read = (let c = cut_of more in long_cut bytes more c read c.is.at_line)
+      long_reading bytes more false read = halts_begins bytes (faults.LineTooLong (length h.lines + 1)) (record {
+        text = text ++ more;
+        goes_on = false;
+        read = read;
+        whole = text ++ more;
+        piece = [];
+        cut = refl;
+        behind = (next more (may_follow feed.reader more o)).0;
+        said = said_with text h.lines feed.reader (Err (faults.LineTooLong (length h.lines + 1))) h.given next more (may_follow feed.reader more o);
+      })
+
+      long_halts : (bytes behind : List ℕ) → bytes ≡ text ++ behind → Halts bytes (left_by out feed.run) (Refused (Other (LineTooLong (length h.lines + 1))))
+      long_halts bytes behind e = (let on = reads_on text bytes behind e w in long_reading bytes on.more on.goes_on on.read)
+
+    -- the line that waits is refused
+    refused_halts : (fault : PlanFault) → IsFaulty fault → IsRefusedNext feed.reader fault → HaltsOn d N P text feed.reader.closed first (left_by out feed.run) (line_halt fault)
+    refused_halts fault f n = record {
+      halts = λ bytes b. record { stops = by_ending bytes b };
+    }
+      where
+        next : (more : List ℕ) → MayFollow feed.reader more → (behind : List (Result Line PlanFault)) × (lines_with feed.reader more ≡ Err fault ∷ behind)
+        next more m = ((n.first more m).0, (n.first more m).1 ∙ ap (λ x. x ∷ (n.first more m).0) (faulty_read fault (read_line feed.reader.form feed.reader.number (line_from feed.reader.rest 0)) f n.read))
+
+        is_long : (line_end feed.reader.rest 0 ≡ length feed.reader.rest) × (line_limit < length feed.reader.rest) → fault ≡ faults.LineTooLong (length h.lines + 1)
+        is_long long =
+            let many : line_limit < length (line_from feed.reader.rest 0) = subst (λ (xs : List ℕ). line_limit < length xs) (sym (whole_line feed.reader.rest long.0)) long.1 in
+            elim (too_long_is feed.reader.number (line_from feed.reader.rest 0) fault many (subst (λ form. IsFault form feed.reader.number (line_from feed.reader.rest 0) fault) h.given.form_is n.why)) [
+              | inl is ↦ is ∙ ap faults.LineTooLong h.given.number_is
+              | inr m ↦ absurd (subst IsFaulty m f)
+            ]
+
+        too_long : (bytes behind : List ℕ) → bytes ≡ text ++ behind → feed.reader.closed ≡ false → (line_end feed.reader.rest 0 ≡ length feed.reader.rest) × (line_limit < length feed.reader.rest) → Halts bytes (left_by out feed.run) (line_halt fault)
+        too_long bytes behind e o long =
+            let same = is_long long in
+            subst (λ (x : PlanFault). Halts bytes (left_by out feed.run) (line_halt x)) (sym same)
+            (long_halts long.0 long.1 o
+            (subst (λ (x : PlanFault). (more : List ℕ) → MayFollow feed.reader more → (behind : List (Result Line PlanFault)) × (lines_with feed.reader more ≡ Err x ∷ behind)) same next)
+            bytes behind e)
+
+        by_ending : (bytes : List ℕ) → IsReadOf bytes text feed.reader.closed → Halts bytes (left_by out feed.run) (line_halt fault)
+        by_ending bytes b = elim (by_end feed.reader.closed) [
+          | inl c ↦ halts_begins bytes fault (begins_ended text h.lines feed.reader (Err fault) h.given next bytes (b.is ∙ ap (λ z. text ++ z) (b.all c)) w)
+          | inr o ↦ elim (n.ends o) [
+            | inl at ↦ halts_begins bytes fault (begins_whole text h.lines feed.reader (Err fault) h.given next bytes b.behind b.is w (text_at_line text h.lines feed.reader h.given o at) o)
+            | inr long ↦ too_long bytes b.behind b.is o long
           ]
-
-      too_long : (bytes behind : List ℕ) → bytes ≡ text ++ behind → feed.reader.closed ≡ false → (line_end feed.reader.rest 0 ≡ length feed.reader.rest) × (line_limit < length feed.reader.rest) → Halts bytes feed.run (line_halt fault)
-      too_long bytes behind e o long =
-          let same = is_long long in
-          subst (λ (x : PlanFault). Halts bytes feed.run (line_halt x)) (sym same)
-          (long_halts long.0 long.1 o
-          (subst (λ (x : PlanFault). (more : List ℕ) → MayFollow feed.reader more → (behind : List (Result Line PlanFault)) × (lines_with feed.reader more ≡ Err x ∷ behind)) same next)
-          bytes behind e)
-
-      by_ending : (bytes : List ℕ) → IsReadOf bytes text feed.reader.closed → Halts bytes feed.run (line_halt fault)
-      by_ending bytes b = elim (by_end feed.reader.closed) [
-        | inl c ↦ halts_begins bytes fault (begins_ended text h.lines feed.reader (Err fault) h.given next bytes (b.is ∙ ap (λ z. text ++ z) (b.all c)) w)
-        | inr o ↦ elim (n.ends o) [
-          | inl at ↦ halts_begins bytes fault (begins_whole text h.lines feed.reader (Err fault) h.given next bytes b.behind b.is w (text_at_line text h.lines feed.reader h.given o at) o)
-          | inr long ↦ too_long bytes b.behind b.is o long
         ]
-      ]
 
   -- the run halts in the line that is given
-  line_halts_on : (line : Line) (new : Progress) (halt : Halt) → IsNext feed.reader line → HaltsInLine d N P line feed.run new halt → HaltsOn d N P text feed.reader.closed first new halt
+  line_halts_on : (line : Line) (new : Left) (halt : Halt) → IsNext feed.reader line → HaltsInLine d N P line feed.run new halt → HaltsOn d N P text feed.reader.closed first new halt
   line_halts_on line new halt n s = record {
     halts = λ bytes b. record { stops = λ g ready. by_begins bytes (begins bytes b) g ready };
   }
@@ -253,13 +346,34 @@ module _ (d : Pair) (N : Labels) (P : Problem) (text : List ℕ) (first : Progre
       ]
 
       by_begins : (bytes : List ℕ) → Begins bytes h.lines (Ok line) → Halts bytes new halt
-      by_begins bytes b g ready =
-          stops_on d N P first.timeline.line.most bytes b.text b.goes_on b.whole b.piece new halt b.read b.cut
-          (next_stops d N P first feed.run h.lines h.played b.whole b.behind b.goes_on b.piece new line halt g b.said s ready)
+      by_begins bytes b g ready = record {
+        text = b.text;
+        goes_on = b.goes_on;
+        read = b.read;
+        whole = b.whole;
+        piece = b.piece;
+        cut = b.cut;
+        stopped = next_stops d N P first feed.run h.lines h.played b.whole b.behind b.goes_on b.piece new line halt g b.said s ready;
+      }
+
+  -- memory is wanting where a line is due
+  due_wants : (fault : PlanFault) (new : Left) → IsRefusedNext feed.reader fault → IsPartOut Memory new.out feed.run.account.report → HaltsOn d N P text feed.reader.closed first new Memory
+  due_wants fault new n m = record {
+    halts = λ bytes b. record { stops = wants_on bytes (cuts bytes b) new m };
+  }
+    where
+      cuts : (bytes : List ℕ) → IsReadOf bytes text feed.reader.closed → Cuts bytes h.lines
+      cuts bytes b = elim (by_end feed.reader.closed) [
+        | inl c ↦ cuts_so bytes h.lines _ (begins_ended text h.lines feed.reader _ h.given n.first bytes (b.is ∙ ap (λ z. text ++ z) (b.all c)) w)
+        | inr o ↦ elim (n.ends o) [
+          | inl at ↦ cuts_so bytes h.lines _ (begins_whole text h.lines feed.reader _ h.given n.first bytes b.behind b.is w (text_at_line text h.lines feed.reader h.given o at) o)
+          | inr long ↦ cuts_here text h.lines feed.reader h.given long.0 o bytes b.behind b.is w
+        ]
+      ]
 
   -- the text goes on behind its limit, where all of it is played but a piece of a line
-  pub long_text_halts : (behind bytes : List ℕ) → feed.reader.closed ≡ false → IsIdle feed.reader → length text ≡ text_limit → 0 < length behind → bytes ≡ text ++ behind → HaltsWith d N P bytes first feed.run (Refused (Other (TooLong texts.Plan)))
-  long_text_halts behind bytes o i full some e = record {
+  pub long_text_halts : (behind bytes : List ℕ) → feed.reader.closed ≡ false → IsIdle feed.reader → length text ≡ text_limit → 0 < length behind → bytes ≡ text ++ behind → (out : List ℕ) → HaltsWith d N P bytes first (left_by out feed.run) (Refused (Other (TooLong texts.Plan)))
+  long_text_halts behind bytes o i full some e out = record {
     stops = λ g ready. record {
       text = text;
       goes_on = true;
@@ -315,22 +429,22 @@ module _ (d : Pair) (N : Labels) (P : Problem) where
   }
 
   -- one halts the run
-  pub halts_line : (old : Course) (line : Line) (new : Progress) (halt : Halt) → IsNext old.reader line → HaltsInLine d N P line old.run new halt → HaltsFeeding d N P [] old new halt
+  pub halts_line : (old : Course) (line : Line) (new : Left) (halt : Halt) → IsNext old.reader line → HaltsInLine d N P line old.run new halt → HaltsFeeding d N P [] old new halt
   halts_line old line new halt n s = record {
     halts = λ text first h w.
         subst (λ t. HaltsOn d N P t old.reader.closed first new halt) (sym (append-nil text)) (line_halts_on d N P text first old h (short text w) line new halt n s);
   }
 
   -- one is none
-  none_halts : (text : List ℕ) (first : Progress) (old : Course) (h : IsFed d N P text first old) → length text ≤ text_limit → (fault : PlanFault) → IsRefusedNext old.reader fault → HaltsOn d N P text old.reader.closed first old.run (line_halt fault)
-  none_halts text first old h w (faults.NotLine n start last) r = refused_halts d N P text first old h w (faults.NotLine n start last) tt r
-  none_halts text first old h w (faults.LineTooLong n) r = refused_halts d N P text first old h w (faults.LineTooLong n) tt r
-  none_halts text first old h w faults.Memory r = record { halts = λ bytes b. record { stops = λ g ready. tt } }
+  none_halts : (text : List ℕ) (first : Progress) (old : Course) (h : IsFed d N P text first old) → length text ≤ text_limit → (fault : PlanFault) (out : List ℕ) → IsPartOut Memory out old.run.account.report → IsRefusedNext old.reader fault → HaltsOn d N P text old.reader.closed first (left_by out old.run) (line_halt fault)
+  none_halts text first old h w (faults.NotLine n start last) out o r = refused_halts d N P text first old h w out o (faults.NotLine n start last) tt r
+  none_halts text first old h w (faults.LineTooLong n) out o r = refused_halts d N P text first old h w out o (faults.LineTooLong n) tt r
+  none_halts text first old h w faults.Memory out o r = due_wants d N P text first old h w faults.Memory (left_by out old.run) r o
 
-  pub halts_fault : (old : Course) (fault : PlanFault) → (old.reader.fault ≡ None → IsRefusedNext old.reader fault) → HaltsFeeding d N P [] old old.run (line_halt fault)
-  halts_fault old fault r = record {
+  pub halts_fault : (old : Course) (fault : PlanFault) (out : List ℕ) → IsPartOut Memory out old.run.account.report → (old.reader.fault ≡ None → IsRefusedNext old.reader fault) → HaltsFeeding d N P [] old (left_by out old.run) (line_halt fault)
+  halts_fault old fault out o r = record {
     halts = λ text first h w.
-        subst (λ t. HaltsOn d N P t old.reader.closed first old.run (line_halt fault)) (sym (append-nil text)) (none_halts text first old h (short text w) fault (r h.no_fault));
+        subst (λ t. HaltsOn d N P t old.reader.closed first (left_by out old.run) (line_halt fault)) (sym (append-nil text)) (none_halts text first old h (short text w) fault out o (r h.no_fault));
   }
 
   -- ---- pieces
@@ -355,7 +469,7 @@ module _ (d : Pair) (N : Labels) (P : Problem) where
         (g.fed (text ++ a) first (f.fed text first h (shorter text a b w)) (subst (λ (t : List ℕ). length t ≤ text_limit) (sym (append_assoc text a b)) w));
   }
 
-  pub halts_then : (a b : List ℕ) (x y : Course) (new : Progress) (halt : Halt) → Feeds d N P a x y → y.reader.closed ≡ x.reader.closed → HaltsFeeding d N P b y new halt → HaltsFeeding d N P (a ++ b) x new halt
+  pub halts_then : (a b : List ℕ) (x y : Course) (new : Left) (halt : Halt) → Feeds d N P a x y → y.reader.closed ≡ x.reader.closed → HaltsFeeding d N P b y new halt → HaltsFeeding d N P (a ++ b) x new halt
   halts_then a b x y new halt f c g = record {
     halts = λ text first h w.
         subst (λ t. HaltsOn d N P t x.reader.closed first new halt) (append_assoc text a b)
@@ -364,7 +478,7 @@ module _ (d : Pair) (N : Labels) (P : Problem) where
   }
 
   -- a run that halts in a front of a piece halts in the piece
-  pub halts_sooner : (front behind : List ℕ) (old : Course) (new : Progress) (halt : Halt) → old.reader.closed ≡ false → HaltsFeeding d N P front old new halt → HaltsFeeding d N P (front ++ behind) old new halt
+  pub halts_sooner : (front behind : List ℕ) (old : Course) (new : Left) (halt : Halt) → old.reader.closed ≡ false → HaltsFeeding d N P front old new halt → HaltsFeeding d N P (front ++ behind) old new halt
   halts_sooner front behind old new halt o g = record {
     halts = λ text first h w. record {
       halts = λ bytes b.
@@ -387,7 +501,7 @@ module _ (d : Pair) (N : Labels) (P : Problem) where
         subst (λ (w : List ℕ). Feeds d N P w first new) (ap (λ z. a ++ z) (append-nil part) ∙ sym e)
         (feeds_then a (part ++ []) first now new f (feeds_then part [] now mid new (fed_taken now mid part o r refl) g))
 
-    pub taken_halts : (whole behind : List ℕ) (new : Progress) (halt : Halt) → whole ≡ (a ++ part) ++ behind → first.reader.closed ≡ false → HaltsFeeding d N P [] mid new halt → HaltsFeeding d N P whole first new halt
+    pub taken_halts : (whole behind : List ℕ) (new : Left) (halt : Halt) → whole ≡ (a ++ part) ++ behind → first.reader.closed ≡ false → HaltsFeeding d N P [] mid new halt → HaltsFeeding d N P whole first new halt
     taken_halts whole behind new halt e fo g =
         subst (λ (w : List ℕ). HaltsFeeding d N P w first new halt) (sym e)
         (halts_sooner (a ++ part) behind first new halt fo
@@ -420,21 +534,31 @@ module _ (d : Pair) (N : Labels) (P : Problem) where
     ends_so last c = record {
       ends = λ text first h w.
           let k = fed_at_end text first h w in
-          record { within = w; plays = plays_all d N P text k.lines first new.run last k.played (all_said text first k) c };
+          record {
+            within = w;
+            plays = plays_all d N P text k.lines first new.run last k.played (all_said text first k) c;
+            works = works_out d N P first new.run k.lines k.played;
+          };
     }
 
-    pub ends_halts : (last : Progress) (halt : Halt) → HaltsAtEnd N P new.run last halt → HaltsEnding d N P old last halt
+    pub ends_halts : (last : Left) (halt : Halt) → HaltsAtEnd N P new.run last halt → HaltsEnding d N P old last halt
     ends_halts last halt c = record {
       halts = λ text first h w.
           let k = fed_at_end text first h w in
           record {
-            stops = λ g ready.
-                stops_on d N P first.timeline.line.most text text false text [] last halt (refl, w) refl
-                (halts_after_all d N P text first new.run k.lines k.played (all_said text first k) last halt g c ready);
+            stops = λ g ready. record {
+              text = text;
+              goes_on = false;
+              read = (refl, w);
+              whole = text;
+              piece = [];
+              cut = refl;
+              stopped = halts_after_all d N P text first new.run k.lines k.played (all_said text first k) last halt g c ready;
+            };
           };
     }
 
-  pub line_at_end : (old : Course) (reader : Pending) (new : Progress) (halt : Halt) → Feeds d N P [] old (record old { reader = reader }) → HaltsFeeding d N P [] (record old { reader = reader }) new halt → HaltsEnding d N P old new halt
+  pub line_at_end : (old : Course) (reader : Pending) (new : Left) (halt : Halt) → Feeds d N P [] old (record old { reader = reader }) → HaltsFeeding d N P [] (record old { reader = reader }) new halt → HaltsEnding d N P old new halt
   line_at_end old reader new halt f g = record {
     halts = λ text first h w.
         let w' : length (text ++ []) ≤ text_limit = subst (λ (t : List ℕ). length t ≤ text_limit) (sym (append-nil text)) w in

@@ -15,9 +15,10 @@ use Rattle.plus_report.specs.Verdicts.{verdict_text, VerdictFits}
 use Rattle.plus_validator.specs.Account.{Account, Progress, progress}
 use Rattle.plus_validator.specs.declared.run.Run.{Run}
 use Rattle.plus_validator.specs.declared.halt.Halt.{Halt}
-use Rattle.plus_validator.specs.declared.halt.Halt.TheVariants.{Refused, Memory}
+use Rattle.plus_validator.specs.declared.halt.Halt.TheVariants.{Refused, Memory, WriteFault}
 use Rattle.plus_validator.specs.declared.judgement.Judgement.{Judgement}
-use Rattle.plus_validator.specs.Halts.{HaltFits}
+use Rattle.plus_validator.specs.Halts.{NamesOf, HaltFits}
+use Rattle.plus_validator.specs.Handing.{left}
 use Rattle.plus_report.specs.declared.refusals.Early.{Early}
 use Rattle.plus_report.specs.declared.refusals.Early.TheVariants as early
 use Rattle.plus_validator.specs.declared.judge.Outcome.TheVariants as outcomes
@@ -28,7 +29,7 @@ use Rattle.plus_report.specs.Report.{report_of}
 use Rattle.plus_validator.specs.Plans.{pair, plan_of, plan_in}
 use Rattle.plus_validator.specs.Refused.{IsRefused}
 use Rattle.plus_validator.specs.Stopped.{IsStoppedInText}
-use Rattle.plus_validator.specs.Feeding.{IsPlayedOut, IsStoppedOn}
+use Rattle.plus_validator.specs.Feeding.{IsPlayedOut, StopsOn}
 use Rattle.plus_validator.specs.Judged.{GivesVerdict, SumsUp, IsPlain, IsJudged}
 use Rattle.plus_validator.proofs.Played.{accepted}
 use Rattle.plus_validator.specs.Accepted.{IsAccepted}
@@ -45,6 +46,12 @@ verdict_fits P (Err (Refused (Invalid b))) v f g = subst (VerdictFits P) (sym g)
 verdict_fits P (Err (Refused (Beyond l))) v f g = subst (VerdictFits P) (sym g) f.names
 verdict_fits P (Err (Refused (Other e))) v f g = subst (VerdictFits P) (sym g) tt
 verdict_fits P (Err Memory) v f g = absurd g
+verdict_fits P (Err WriteFault) v f g = absurd g
+
+-- it is no fault of the sink
+pub no_fault : (P : Problem) (played : Result (Unit {0}) Halt) → IfErr played (HaltFits P) → IfErr played (λ halt. halt ≢ WriteFault)
+no_fault P (Ok u) f = tt
+no_fault P (Err halt) f = λ e. subst (NamesOf P) e f.names
 
 early_never : (e : Early) → early_outcome e ≡ outcomes.Valid → ⊥
 early_never (early.BadText text start last word) h = cc
@@ -115,7 +122,7 @@ module _ (d : Domain) (p : tree.Problem) (N : Labels) (P : Problem) (most : ℕ)
   abbrev Counted : List ℕ → Type 0
   Counted written = (length bytes ≤ 1048576) × (a : IsAccepted d p most bytes written) × (new.account.entries ≡ entries_of a.history) × (new.account.firings ≡ firings_of a.history)
 
-  says : (written : List ℕ) (played : Result (Unit {0}) Halt) (v : Verdict Frac64) → v ≡ Valid → P ≡ expanded d p → N ≡ labels_meant d p → Begins N P most old → IsPlayedOut (pair d p) N P bytes old new played → IfErr played (HaltFits P) → GivesVerdict played v → written ≡ new.account.report ++ verdict_text fraction_of N P v → Counted written
+  says : (written : List ℕ) (played : Result (Unit {0}) Halt) (v : Verdict Frac64) → v ≡ Valid → P ≡ expanded d p → N ≡ labels_meant d p → Begins N P most old → IsPlayedOut (pair d p) N P bytes old sent run played → IfErr played (HaltFits P) → GivesVerdict played v → written ≡ new.account.report ++ verdict_text fraction_of N P v → Counted written
   says written (Ok u) v i e n b r f g k =
       let a = accepted d p N P most bytes written old new z r.within e n b r.plays (k ∙ ap (λ x. new.account.report ++ verdict_text fraction_of N P x) i) in
       (r.within, a.0, a.1, a.2)
@@ -124,6 +131,7 @@ module _ (d : Domain) (p : tree.Problem) (N : Labels) (P : Problem) (most : ℕ)
   says written (Err (Refused (Beyond l))) v i e n b r f g k = absurd (let h : Beyond l ≡ Valid = sym g ∙ i in cc h)
   says written (Err (Refused (Other x))) v i e n b r f g k = absurd (let h : Other x ≡ Valid = sym g ∙ i in cc h)
   says written (Err Memory) v i e n b r f g k = absurd g
+  says written (Err WriteFault) v i e n b r f g k = absurd g
 
   -- refused with this verdict, with what is counted
   record Refuses (v : Verdict Frac64) (written : List ℕ) : Type 0 where
@@ -136,12 +144,13 @@ module _ (d : Domain) (p : tree.Problem) (N : Labels) (P : Problem) (most : ℕ)
     firings : new.account.firings ≡ firings_of refused.refusal.history
 
   -- a refusal tells where the run halts
-  says_why : (written : List ℕ) (played : Result (Unit {0}) Halt) (v : Verdict Frac64) → P ≡ expanded d p → N ≡ labels_meant d p → Begins N P most old → IsPlayedOut (pair d p) N P bytes old new played → GivesVerdict played v → outcome_of v ≢ outcomes.Valid → written ≡ new.account.report ++ verdict_text fraction_of N P v → Refuses v written
+  says_why : (written : List ℕ) (played : Result (Unit {0}) Halt) (v : Verdict Frac64) → P ≡ expanded d p → N ≡ labels_meant d p → Begins N P most old → IsPlayedOut (pair d p) N P bytes old sent run played → GivesVerdict played v → outcome_of v ≢ outcomes.Valid → written ≡ new.account.report ++ verdict_text fraction_of N P v → Refuses v written
   says_why written (Ok u) v e n b s g o k = absurd (o (ap outcome_of g))
   says_why written (Err Memory) v e n b s g o k = absurd g
+  says_why written (Err WriteFault) v e n b s g o k = absurd g
   says_why written (Err (Refused w)) v e n b s g o k =
       let start = b.ready (plan_of (pair d p) [] false) (instances_of (pair d p) []) refl refl in
-      let at : IsStoppedOn (pair d p) N P old.timeline.line.most bytes new.account w = s.stops start.0 start.1 in
+      let at : StopsOn (pair d p) N P old.timeline.line.most bytes (left sent run) (Refused w) = s.stops start.0 start.1 in
       let here : IsStoppedInText (pair d p) N P old.timeline.line.most at.goes_on at.whole at.piece new.account w = at.stopped in
       let there : IsStoppedInText (pair d p) (labels_meant d p) (expanded d p) most at.goes_on at.whole at.piece new.account v =
       subst (λ M. IsStoppedInText (pair d p) M (expanded d p) most at.goes_on at.whole at.piece new.account v) n
@@ -172,7 +181,7 @@ module _ (d : Domain) (p : tree.Problem) (N : Labels) (P : Problem) (most : ℕ)
       }
 
   -- the verdict, its line and the counts
-  whole : (j : Judgement) (played : Result (Unit {0}) Halt) → ValidOrNot j.judged.verdict → P ≡ expanded d p → N ≡ labels_meant d p → Begins N P most old → IsPlayedOut (pair d p) N P bytes old new played → IfErr played (HaltFits P) → SumsUp N P run played j → JudgesText d p most bytes j.judged
+  whole : (j : Judgement) (played : Result (Unit {0}) Halt) → ValidOrNot j.judged.verdict → P ≡ expanded d p → N ≡ labels_meant d p → Begins N P most old → IsPlayedOut (pair d p) N P bytes old sent run played → IfErr played (HaltFits P) → SumsUp N P run played j → JudgesText d p most bytes j.judged
   whole j played (is_valid i) e n b s f u =
       let a = says (sent ++ j.bytes.items) played j.judged.verdict i e n b s f u.gives (written_is played j u) in
       verdicts.judged bytes false (refl, a.0) (verdicts.accepted refl (record {
@@ -203,7 +212,7 @@ module _ (d : Domain) (p : tree.Problem) (N : Labels) (P : Problem) (most : ℕ)
     refused = subst (λ (y : Outcome). IsRefused d p most a.text a.goes_on y (sent ++ j.bytes.items)) (sym o) a.refused;
   }
 
-  pub judged : (j : Judgement) (played : Result (Unit {0}) Halt) → P ≡ expanded d p → N ≡ labels_meant d p → Begins N P most old → IsPlayedOut (pair d p) N P bytes old new played → IfErr played (HaltFits P) → SumsUp N P run played j → IsJudged d p most bytes (sent ++ j.bytes.items) j
+  pub judged : (j : Judgement) (played : Result (Unit {0}) Halt) → P ≡ expanded d p → N ≡ labels_meant d p → Begins N P most old → IsPlayedOut (pair d p) N P bytes old sent run played → IfErr played (HaltFits P) → SumsUp N P run played j → IsJudged d p most bytes (sent ++ j.bytes.items) j
   judged j played e n b s f u =
       let v = j.judged.verdict in
       record {
@@ -218,6 +227,6 @@ pub sums_plain : (N : Labels) (P : Problem) (run : Run) (played : Result (Unit {
 sums_plain N P run played j u = subst IsPlain (sym u.outcome) (verdict_plain j.judged.verdict)
 
 -- a fact for the bytes under a name
-pub judged_told : (d : Domain) (p : tree.Problem) (N : Labels) (P : Problem) (most : ℕ) (told : Option (List ℕ)) (old : Progress) (sent : List ℕ) (run : Run) → IsGroundable IsFrac64 d p → (j : Judgement) (played : Result (Unit {0}) Halt) → P ≡ expanded d p → N ≡ labels_meant d p → Begins N P most old → IfSome told (λ bytes. IsPlayedOut (pair d p) N P bytes old (progress sent run) played) → IfErr played (HaltFits P) → SumsUp N P run played j → IfSome told (λ bytes. IsJudged d p most bytes (sent ++ j.bytes.items) j)
+pub judged_told : (d : Domain) (p : tree.Problem) (N : Labels) (P : Problem) (most : ℕ) (told : Option (List ℕ)) (old : Progress) (sent : List ℕ) (run : Run) → IsGroundable IsFrac64 d p → (j : Judgement) (played : Result (Unit {0}) Halt) → P ≡ expanded d p → N ≡ labels_meant d p → Begins N P most old → IfSome told (λ bytes. IsPlayedOut (pair d p) N P bytes old sent run played) → IfErr played (HaltFits P) → SumsUp N P run played j → IfSome told (λ bytes. IsJudged d p most bytes (sent ++ j.bytes.items) j)
 judged_told d p N P most None old sent run z j played e n b s f u = tt
 judged_told d p N P most (Some bytes) old sent run z j played e n b s f u = judged d p N P most bytes old sent run z j played e n b s f u

@@ -1,75 +1,60 @@
 -- What of a report is out, and what is told by it.
-use Rattle.std.proofs.Common.{◌≡◌, ℕ, ◌+◌, false, List, [], ◌++◌, length, take, Option, Some, None, refl, subst, sym, ap, ◌∙◌, arith, append-nil, length-append, inr}
-use Rattle.std.specs.Prelude.{IfSome}
-use Rattle.std.specs.Io.KnownBytes.{append_known}
-use Rattle.std.proofs.Math.Seq.{take-append-add}
-use Rattle.plus_io.specs.Files.{Takes, IsPrefix}
-use Rattle.plus_io.specs.Taken.{Took, TookPart}
-use Rattle.plus_io.proofs.Pieces.{append_known-append, Takes-prefix}
+use Rattle.std.proofs.Common.{◌≡◌, ℕ, ◌<◌, Bool, true, false, List, [], ◌∷◌, ◌++◌, map, length, take, Option, Some, None, refl, subst, sym, ap, ◌∙◌, arith, append-nil, length-append, inl, inr}
+use Rattle.std.specs.Prelude.{All, IfSome, IfErr, Result, Ok, Err}
+use Rattle.std.proofs.lemmas.List.{take_at}
+use Rattle.plus_io.specs.Files.{Takes}
+use Rattle.plus_io.specs.Taken.{Took}
 use Rattle.plus_model.specs.Terms.{Problem}
+use Rattle.plus_model.specs.History.{Part}
+use Rattle.plus_model.specs.Trajectory.{Prefix}
+use Rattle.plus_number.specs.declared.frac.Frac64.{Frac64}
 use Rattle.plus_number.specs.Frac.{IsFrac64}
 use Rattle.plus_state.specs.View.{Labels}
 use Rattle.plus_tree.specs.declared.trees.Domain.{Domain}
 use Rattle.plus_tree.specs.declared.trees.Problem as tree
 use Rattle.plus_expansion.specs.Counting.{IsGroundable}
 use Rattle.plus_expansion.specs.Expansion.{expanded, labels_meant}
+use Rattle.plus_plan.specs.declared.forms.Line.{Line}
+use Rattle.plus_plan.specs.declared.forms.PlanForm.TheVariants.{Timed}
+use Rattle.plus_plan.specs.declared.faults.PlanFault.{PlanFault}
+use Rattle.plus_plan.specs.Lines.{plan_lines}
 use Rattle.plus_plan.specs.Pieces.{IsIdle}
-use Rattle.plus_numbering.specs.declared.numbering.Numbering.{Numbering}
+use Rattle.plus_report.specs.declared.verdicts.Verdict.{Verdict}
 use Rattle.plus_validator.specs.declared.feed.Feed.{Feed}
+use Rattle.plus_validator.specs.declared.halt.Halt.{Halt}
+use Rattle.plus_validator.specs.declared.halt.Halt.TheVariants.{Refused, Memory, WriteFault}
+use Rattle.plus_validator.specs.declared.run.Run.{Run}
 use Rattle.plus_validator.specs.Account.{Account, Progress, progress}
 use Rattle.plus_validator.specs.Asking.{instances_of}
-use Rattle.plus_validator.specs.Plans.{Pair, pair, plan_of}
-use Rattle.plus_validator.specs.Playing.{Begins}
-use Rattle.plus_validator.specs.Refused.{IsCut}
-use Rattle.plus_validator.specs.Feeding.{Course, course, IsFed, IsFresh}
+use Rattle.plus_validator.specs.Halts.{HaltFits}
+use Rattle.plus_validator.specs.Handing.{HandsOn, StaysSo, Left, left, IsPartOut}
+use Rattle.plus_validator.specs.Plans.{Pair, pair, plan_of, plan_in, Reading, reading_of, HasValue}
+use Rattle.plus_validator.specs.Playing.{Begins, ReadiedFor}
+use Rattle.plus_validator.specs.Refused.{IsWaiting, IsPlayedOn, IsCut, WholeLines, Cause}
+use Rattle.plus_validator.specs.Stopped.{IsCutShortInText, IsStoppedInText}
+use Rattle.plus_validator.specs.Validates.{IsRead}
+use Rattle.plus_validator.specs.Feeding.{Course, course, IsFed, HaltsWith, PlaysText, IsPlayedOut}
 use Rattle.plus_validator.specs.Streaming.{HasCome, IsOut}
-use Rattle.plus_validator.specs.Leaving.{IsToldSoFar, TellsSoFar, TookSoFar, LeavesReport, BreaksOffSoFar, StopsReading, reading}
+use Rattle.plus_validator.specs.Leaving.{IsToldSoFar, TellsSoFar, TellsOnWay, TookSoFar, LeavesReport, BreaksOffSoFar, StopsReading, reading}
 use Rattle.plus_validator.proofs.Cutting.{cut_here, no_lf_from}
-use Rattle.plus_validator.proofs.StreamLemmas.{fresh_come}
-use Rattle.plus_validator.proofs.TextStops.{waiting_report, waiting_for}
+use Rattle.plus_validator.proofs.Handing.{took_both, kept_behind}
+use Rattle.plus_validator.proofs.Played.{all_more}
+use Rattle.plus_validator.proofs.TextStops.{waiting_report, waiting_for, lines_then, end_cut}
 
--- ---- one piece of the report after the other
-
-pub took_both : (old mid new : Option (List ℕ)) (a b : List ℕ) → Took old mid a → Took mid new b → Took old new (a ++ b)
-took_both old mid new a b e f = f ∙ ap (λ t. append_known t b) e ∙ append_known-append old a b
-
-pub took_part_behind : (old mid new : Option (List ℕ)) (a b : List ℕ) → Took old mid a → TookPart mid new b → TookPart old new (a ++ b)
-took_part_behind old mid new a b e (count, less, f) = (
-  length a + count,
-  omega (arith, length-append a b),
-  subst (Took old new) (sym (take-append-add a b count)) (took_both old mid new a (take count b) e f),
-)
-
-pub took_none : (old : Option (List ℕ)) → Took old old []
-took_none None = refl
-took_none (Some bytes) = ap Some (sym (append-nil bytes))
+-- ---- what is out
 
 -- what is kept is handed on
-pub same_progress : (one other : Progress) → one.timeline ≡ other.timeline → one.account ≡ other.account → one.ended ≡ other.ended → one ≡ other
-same_progress one other t a e = λ i. record { timeline = t i; account = a i; ended = e i }
+flushed : (sent gone : List ℕ) (feed now : Feed) → now.reader ≡ feed.reader → progress (sent ++ gone) now.run ≡ progress sent feed.run → course (sent ++ gone) now ≡ course sent feed
+flushed sent gone feed now r e = λ i. record { run = e i; reader = r i }
 
-pub flushed : (sent : List ℕ) (feed now : Feed) → now.reader ≡ feed.reader → progress (sent ++ feed.run.report.bytes.items) now.run ≡ progress sent feed.run → course (sent ++ feed.run.report.bytes.items) now ≡ course sent feed
-flushed sent feed now r e = λ i. record { run = e i; reader = r i }
-
-module _ (d : Pair) (N : Labels) (P : Problem) (bytes rest : Option (List ℕ)) (feed now : Feed) (old new : Option (List ℕ)) (same : now.reader ≡ feed.reader) (none : now.run.report.bytes.items ≡ [])
-    (stays : (sent : List ℕ) → progress (sent ++ feed.run.report.bytes.items) now.run ≡ progress sent feed.run) where
-  -- the first entry is out
-  pub out_first : (most : ℕ) (numbering : Numbering) → IsFresh N P most numbering feed → rest ≡ bytes → Took old new feed.run.report.bytes.items → IsOut d N P bytes rest 0 (progress [] feed.run) now old new
-  out_first most numbering f e t = record {
-    sent = feed.run.report.bytes.items;
-    took = t;
-    none_kept = none;
-    come = subst (HasCome d N P bytes rest 0 (progress [] feed.run)) (sym (flushed [] feed now same (stays []))) (fresh_come d N P most numbering bytes rest feed f e);
-  }
-
-  -- what a piece tells is out
-  pub out_more : (mid : Option (List ℕ)) (total : ℕ) (first : Progress) (sent : List ℕ) → Took old mid sent → Took mid new feed.run.report.bytes.items → HasCome d N P bytes rest total first (course sent feed) → IsOut d N P bytes rest total first now old new
-  out_more mid total first sent s t come = record {
-    sent = sent ++ feed.run.report.bytes.items;
-    took = took_both old mid new sent feed.run.report.bytes.items s t;
-    none_kept = none;
-    come = subst (HasCome d N P bytes rest total first) (sym (flushed sent feed now same (stays sent))) come;
-  }
+-- what a piece tells is out, too
+pub out_more : (d : Pair) (N : Labels) (P : Problem) (bytes rest : Option (List ℕ)) (total : ℕ) (first : Progress) (feed now : Feed) (old mid new : Option (List ℕ)) (sent : List ℕ) → now.reader ≡ feed.reader → now.run.report.bytes.items ≡ [] → HandsOn progress progress StaysSo feed.run now.run mid new → Took old mid sent → HasCome d N P bytes rest total first (course sent feed) → IsOut d N P bytes rest total first now old new
+out_more d N P bytes rest total first feed now old mid new sent same none k s come = record {
+  sent = sent ++ k.gone;
+  took = took_both old mid new sent k.gone s k.took;
+  none_kept = none;
+  come = subst (HasCome d N P bytes rest total first) (sym (flushed sent k.gone feed now same (k.goes sent))) come;
+}
 
 -- all that is told is out
 pub all_out : (sent : List ℕ) (feed : Feed) (old new : Option (List ℕ)) → feed.run.report.bytes.items ≡ [] → Took old new sent → Took old new (course sent feed).run.account.report
@@ -110,26 +95,6 @@ module _ (d : Domain) (p : tree.Problem) (N : Labels) (P : Problem) (most : ℕ)
     pub told_come : TellsSoFar d p most come.text feed.run.account.report
     told_come = told_so_far come.text feed i o come.fed
 
-    took_for : (old new : Option (List ℕ)) → Took old new feed.run.account.report → (text : List ℕ) → IsPrefix come.text text → TookSoFar d p most text old new
-    took_for old new t text prefix = record { read = come.text; begins = prefix; report = feed.run.account.report; told = told_come; took = t }
-
-    broken_for : (old new : Option (List ℕ)) → TookPart old new feed.run.account.report → (text : List ℕ) → IsPrefix come.text text → BreaksOffSoFar d p most text old new
-    broken_for old new t text prefix = record { read = come.text; begins = prefix; report = feed.run.account.report; told = told_come; part = t }
-
-    at_some : (o : Option (List ℕ)) (A B : List ℕ → Type 0) → ((x : List ℕ) → A x → B x) → IfSome o A → IfSome o B
-    at_some None A B f h = tt
-    at_some (Some x) A B f h = f x h
-
-    -- all of it is out
-    pub leaves_come : (old new : Option (List ℕ)) → Took old new feed.run.account.report → LeavesReport d p most bytes old new
-    leaves_come old new t =
-        inr (at_some bytes (IsPrefix come.text) (λ text. TookSoFar d p most text old new) (took_for old new t) (Takes-prefix bytes rest come.text come.front))
-
-    -- or a part of it
-    pub breaks_off_come : (old new : Option (List ℕ)) → TookPart old new feed.run.account.report → IfSome bytes (λ text. BreaksOffSoFar d p most text old new)
-    breaks_off_come old new t =
-        at_some bytes (IsPrefix come.text) (λ text. BreaksOffSoFar d p most text old new) (broken_for old new t) (Takes-prefix bytes rest come.text come.front)
-
 -- ---- before a piece is read, all that the lines tell is out
 
 module _ (d : Domain) (p : tree.Problem) (N : Labels) (P : Problem) (most : ℕ) (first : Progress) (z : IsGroundable IsFrac64 d p) (e : P ≡ expanded d p) (n : N ≡ labels_meant d p) (b : Begins N P most first)
@@ -137,17 +102,172 @@ module _ (d : Domain) (p : tree.Problem) (N : Labels) (P : Problem) (most : ℕ)
   report_out : Took old now (course out.sent feed).run.account.report
   report_out = all_out out.sent feed old now out.none_kept out.took
 
-  pub out_so_far : LeavesReport d p most bytes old now
-  out_so_far = leaves_come d p N P most first z e n b bytes rest total (course out.sent feed) i o out.come old now report_out
-
   pub out_reading : (picked left : Option (List ℕ)) → left ≡ rest → StopsReading d p most bytes picked left old now
   out_reading picked left same =
       reading out.come.text (course out.sent feed).run.account.report (subst (λ (r : Option (List ℕ)). Takes bytes r out.come.text) (sym same) out.come.front)
       (told_come d p N P most first z e n b bytes rest total (course out.sent feed) i o out.come) report_out
 
--- a part of what a piece tells is out
-pub breaks_off_piece : (d : Domain) (p : tree.Problem) (N : Labels) (P : Problem) (most : ℕ) (first : Progress) → IsGroundable IsFrac64 d p → P ≡ expanded d p → N ≡ labels_meant d p → Begins N P most first
-    → (bytes rest : Option (List ℕ)) (total : ℕ) (feed : Feed) (sent : List ℕ) (old mid new : Option (List ℕ)) → IsIdle feed.reader → feed.reader.closed ≡ false → HasCome (pair d p) N P bytes rest total first (course sent feed)
-    → Took old mid sent → TookPart mid new feed.run.report.bytes.items → IfSome bytes (λ text. BreaksOffSoFar d p most text old new)
-breaks_off_piece d p N P most first z e n b bytes rest total feed sent old mid new i o come s t =
-    breaks_off_come d p N P most first z e n b bytes rest total (course sent feed) i o come old new (took_part_behind old mid new sent feed.run.report.bytes.items s t)
+-- ---- on the way that a line tells
+
+-- which lines are played
+module _ (d : Pair) (P : Problem) (most : ℕ) (whole : List ℕ) (before : List Line) (h : List Part) (times : All HasValue before) where
+  abbrev OnWay : Bool → Reading → Type 0
+  OnWay goes_on known = IsPlayedOn d P most goes_on whole known h
+
+  plays_before : (goes_on : Bool) (behind : List (Result Line PlanFault)) (known : Reading) → plan_lines Timed whole ≡ map Ok before ++ behind → known ≡ reading_of before false → Prefix P (plan_in d known) h → IsWaiting P (plan_of d before false) most (instances_of d before) h → OnWay goes_on known
+  plays_before goes_on behind known r e p w = subst (OnWay goes_on) (sym e) (record {
+    before = before;
+    last = [];
+    are = sym (append-nil before);
+    one = omega arith;
+    rest = behind;
+    read = r;
+    all_read = λ c. absurd (let f : false ≡ true = c in cc f);
+    times = times;
+    worked = record { front = h; prefix = subst (λ (k : Reading). Prefix P (plan_in d k) h) e p; waits = w; begins = record { rest = []; is = sym (append-nil h) } };
+  })
+
+  cause_plays : (goes_on : Bool) (piece : List ℕ) (behind : List (Result Line PlanFault)) (known : Reading) (v : Verdict Frac64) → plan_lines Timed whole ≡ map Ok before ++ behind → Prefix P (plan_in d known) h → Cause d P most goes_on piece before behind known h v → OnWay goes_on known
+  cause_plays false piece [] known v r p s = subst (OnWay false) (sym s.reads) (record {
+    before = before;
+    last = [];
+    are = sym (append-nil before);
+    one = omega arith;
+    rest = [];
+    read = r;
+    all_read = λ c. (refl, refl, refl);
+    times = times;
+    worked = s.worked;
+  })
+  cause_plays true piece [] known v r p s = plays_before true [] known r s.reads p s.waits
+  cause_plays goes_on piece (Err fault ∷ behind) known v r p s = plays_before goes_on (Err fault ∷ behind) known r s.reads p s.waits
+  cause_plays goes_on piece (Ok line ∷ behind) known v r p (inl s) = plays_before goes_on (Ok line ∷ behind) known r s.reads p s.waits
+  cause_plays goes_on piece (Ok line ∷ behind) known v r p (inr s) = subst (OnWay goes_on) (sym s.reads) (record {
+    before = before;
+    last = line ∷ [];
+    are = refl;
+    one = omega arith;
+    rest = behind;
+    read = r ∙ lines_then before line behind;
+    all_read = λ c. absurd (let f : false ≡ true = c in cc f);
+    times = all_more HasValue before line times s.value;
+    worked = s.worked;
+  })
+
+-- what is out where a plan is refused
+stopped_cut : (d : Pair) (N : Labels) (P : Problem) (most : ℕ) (goes_on : Bool) (whole piece : List ℕ) (account : Account) (v : Verdict Frac64) (out : List ℕ) → IsStoppedInText d N P most goes_on whole piece account v → IsPartOut Memory out account.report → IsCutShortInText d N P most goes_on whole out Memory
+stopped_cut d N P most goes_on whole piece account v out s o =
+    let r = s.refusal in
+    record {
+      reading = r.reading;
+      played = cause_plays d P most whole r.before r.history r.times goes_on piece r.rest r.reading v r.read r.prefix r.cause;
+      cut = record {
+        history = r.history;
+        account = account;
+        reported = record { prefix = r.prefix; few = r.few; clear = r.clear; written = s.written };
+        part = o;
+      };
+    }
+
+-- a part of what is told of a text is out
+record IsPartTold (d : Domain) (p : tree.Problem) (most : ℕ) (bytes out : List ℕ) (halt : Halt) : Type 0 where
+  report : List ℕ
+  told : TellsOnWay d p most bytes report
+  part : IsPartOut halt out report
+
+module _ (d : Domain) (p : tree.Problem) (N : Labels) (P : Problem) (most : ℕ) (first : Progress) (z : IsGroundable IsFrac64 d p) (e : P ≡ expanded d p) (n : N ≡ labels_meant d p) (b : Begins N P most first) where
+  abbrev start : (h : List Part) × ReadiedFor (pair d p) N P [] h first
+  start = b.ready (plan_of (pair d p) [] false) (instances_of (pair d p) []) refl refl
+
+  module _ (bytes : List ℕ) where
+    cut_told : (text : List ℕ) (goes_on : Bool) (whole piece out : List ℕ) (halt : Halt) → IsRead bytes text goes_on → WholeLines goes_on text whole piece → IsCutShortInText (pair d p) N P first.timeline.line.most goes_on whole out halt → IsPartTold d p most bytes out halt
+    cut_told text goes_on whole piece out halt r c s =
+        let k : IsCutShortInText (pair d p) (labels_meant d p) (expanded d p) most goes_on whole out halt =
+        subst (λ M. IsCutShortInText (pair d p) M (expanded d p) most goes_on whole out halt) n
+        (subst (λ Q. IsCutShortInText (pair d p) N Q most goes_on whole out halt) e
+        (subst (λ m. IsCutShortInText (pair d p) N P m goes_on whole out halt) b.rests.most_is s)) in
+        record {
+          report = k.cut.account.report;
+          told = record {
+            groundable = z;
+            text = text;
+            goes_on = goes_on;
+            within = r;
+            whole = whole;
+            piece = piece;
+            cut = c;
+            reading = k.reading;
+            history = k.cut.history;
+            played = k.played;
+            prefix = k.cut.reported.prefix;
+            few = k.cut.reported.few;
+            clear = k.cut.reported.clear;
+            written = ap (λ (a : Account). a.report) k.cut.reported.written;
+          };
+          part = k.cut.part;
+        }
+
+    -- the text is played
+    played_told : (out : List ℕ) (new : Progress) → IsPartOut Memory out new.account.report → PlaysText (pair d p) N P bytes first new → IsPartTold d p most bytes out Memory
+    played_told out new o s =
+        let finish = s.plays.ends start.0 start.1 in
+        cut_told bytes false bytes [] out Memory (refl, s.within) refl
+        (end_cut (pair d p) N P first.timeline.line.most bytes s.plays.lines out Memory s.plays.read s.plays.times (s.works start.0 start.1) (record {
+          history = finish.0;
+          account = new.account;
+          reported = record { prefix = finish.1.happens.prefix; few = finish.1.few; clear = finish.1.clear; written = finish.1.written };
+          part = o;
+        }))
+
+    -- the run halts in it
+    refused_told : (new : Left) (v : Verdict Frac64) → IsPartOut Memory new.out new.account.report → HaltsWith (pair d p) N P bytes first new (Refused v) → IsPartTold d p most bytes new.out Memory
+    refused_told new v o s =
+        let k = s.stops start.0 start.1 in
+        cut_told k.text k.goes_on k.whole k.piece new.out Memory k.read k.cut
+        (stopped_cut (pair d p) N P first.timeline.line.most k.goes_on k.whole k.piece new.account v new.out k.stopped o)
+
+    wanting_told : (new : Left) → HaltsWith (pair d p) N P bytes first new Memory → IsPartTold d p most bytes new.out Memory
+    wanting_told new s = (let k = s.stops start.0 start.1 in cut_told k.text k.goes_on k.whole k.piece new.out Memory k.read k.cut k.stopped)
+
+    broken_told : (new : Left) → HaltsWith (pair d p) N P bytes first new WriteFault → IsPartTold d p most bytes new.out WriteFault
+    broken_told new s = (let k = s.stops start.0 start.1 in cut_told k.text k.goes_on k.whole k.piece new.out WriteFault k.read k.cut k.stopped)
+
+    -- what is out, however it was played
+    some_told : (sent : List ℕ) (run : Run) (played : Result (Unit {0}) Halt) → IfErr played (HaltFits P) → IsPlayedOut (pair d p) N P bytes first sent run played → IsPartTold d p most bytes sent Memory
+    some_told sent run (Ok u) f s = played_told sent (progress sent run) (kept_behind sent run) s
+    some_told sent run (Err (Refused v)) f s = refused_told (left sent run) v (kept_behind sent run) s
+    some_told sent run (Err Memory) f s = wanting_told (left sent run) s
+    some_told sent run (Err WriteFault) f s = absurd f.names
+
+    took_some : (old new : Option (List ℕ)) (out : List ℕ) → Took old new out → IsPartTold d p most bytes out Memory → TookSoFar d p most bytes old new
+    took_some old new out t k = record { report = k.report; told = k.told; out = out; begins = k.part; took = t }
+
+    took_part : (old new : Option (List ℕ)) (out : List ℕ) → Took old new out → IsPartTold d p most bytes out WriteFault → BreaksOffSoFar d p most bytes old new
+    took_part old new out t k =
+        let rest = k.part.0 in
+        let some : 0 < length rest = k.part.2 in
+        record {
+          report = k.report;
+          told = k.told;
+          part = (
+            length out,
+            omega (arith, ap length k.part.1, length-append out rest),
+            subst (Took old new) (sym (ap (take (length out)) k.part.1 ∙ take_at out rest (length out) refl)) t,
+          );
+        }
+
+  at_some : (o : Option (List ℕ)) (A B : List ℕ → Type 0) → ((x : List ℕ) → A x → B x) → IfSome o A → IfSome o B
+  at_some None A B f h = tt
+  at_some (Some x) A B f h = f x h
+
+  -- what is out is some of the report
+  pub leaves_played : (bytes : Option (List ℕ)) (sent : List ℕ) (run : Run) (played : Result (Unit {0}) Halt) (old new : Option (List ℕ)) → IfErr played (HaltFits P) → Took old new sent → IfSome bytes (λ text. IsPlayedOut (pair d p) N P text first sent run played) → LeavesReport d p most bytes old new
+  leaves_played bytes sent run played old new f t s =
+      inr (at_some bytes (λ text. IsPlayedOut (pair d p) N P text first sent run played) (λ text. TookSoFar d p most text old new)
+      (λ text k. took_some text old new sent t (some_told text sent run played f k)) s)
+
+  -- or the sink failed
+  pub leaves_broken : (bytes : Option (List ℕ)) (sent : List ℕ) (run : Run) (old new : Option (List ℕ)) → Took old new sent → IfSome bytes (λ text. HaltsWith (pair d p) N P text first (left sent run) WriteFault) → IfSome bytes (λ text. BreaksOffSoFar d p most text old new)
+  leaves_broken bytes sent run old new t s =
+      at_some bytes (λ text. HaltsWith (pair d p) N P text first (left sent run) WriteFault) (λ text. BreaksOffSoFar d p most text old new)
+      (λ text k. took_part text old new sent t (broken_told text (left sent run) k)) s

@@ -13,6 +13,7 @@ pub mod Played
 pub mod Shown
 mod Grounded
 pub mod Owned
+pub mod Handing
 pub mod Halting
 pub mod Stopping
 pub mod Waiting
@@ -22,6 +23,7 @@ pub mod Cutting
 pub mod FeedLemmas
 pub mod StreamLemmas
 pub mod Leaving
+pub mod Endings
 pub mod Longer
 pub mod Telling
 pub mod Between

@@ -232,7 +232,7 @@ reach_now P u t c m e = record {
 pub played_none : (d : Pair) (N : Labels) (P : Problem) (run : Progress) → IsResting P run.timeline.line.most run.timeline → HasPlayed d N P [] run run
 played_none d N P run r = record { rests = r; times = All-nil HasValue; ready = λ h k. (h, k) }
 
-all_more : {A : Type 0} (P : A → Type 0) (xs : List A) (x : A) → All P xs → P x → All P (xs ++ x ∷ [])
+pub all_more : {A : Type 0} (P : A → Type 0) (xs : List A) (x : A) → All P xs → P x → All P (xs ++ x ∷ [])
 all_more P [] x a h = All-cons P x [] h a
 all_more P (y ∷ xs) x a h = All-cons P y (xs ++ x ∷ []) (All-head P y xs a) (all_more P xs x (All-tail P y xs a) h)
 
@@ -246,7 +246,7 @@ played_more d N P lines line first run new r p = record {
 }
 
 -- the text is played to its end
-pub plays_all : (d : Pair) (N : Labels) (P : Problem) (text : List ℕ) (lines : List Line) (old mid new : Progress) → HasPlayed d N P lines old mid → plan_lines Timed text ≡ map Ok lines → Closes N P mid new → PlaysAll d N P text old new
+abbrev pub plays_all : (d : Pair) (N : Labels) (P : Problem) (text : List ℕ) (lines : List Line) (old mid new : Progress) → HasPlayed d N P lines old mid → plan_lines Timed text ≡ map Ok lines → Closes N P mid new → PlaysAll d N P text old new
 plays_all d N P text lines old mid new r e c = record {
   lines = lines;
   read = e;

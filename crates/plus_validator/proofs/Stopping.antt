@@ -1,7 +1,7 @@
 -- A run that halts: the verdict stands at the history that is reported.
 use Rattle.plus_validator.specs.Account.{Account, Progress}
 use Rattle.plus_validator.specs.Plans.{Pair}
-use Rattle.std.proofs.Common.{◌≡◌, ℕ, ◌≤◌, List, [], refl, ap, sym, subst, ◌∙◌}
+use Rattle.std.proofs.Common.{◌≡◌, ℕ, ◌≤◌, Bool, true, false, List, [], refl, ap, sym, subst, ◌∙◌}
 use Rattle.std.specs.Prelude.{Option, Some, None, Err, IsSomeAnd}
 use Rattle.plus_fraction.specs.Fraction.{Fraction}
 use Rattle.plus_model.specs.Terms.{Action, State, Problem}
@@ -34,12 +34,13 @@ use Rattle.plus_report.specs.declared.verdicts.Verdict.{Verdict}
 use Rattle.plus_report.specs.declared.verdicts.Verdict.TheVariants.{Invalid, Beyond, Other}
 use Rattle.plus_report.specs.Report.{called_label}
 use Rattle.plus_validator.specs.declared.halt.Halt.{Halt}
-use Rattle.plus_validator.specs.declared.halt.Halt.TheVariants.{Refused, Memory}
+use Rattle.plus_validator.specs.declared.halt.Halt.TheVariants.{Refused, Memory, WriteFault}
 use Rattle.plus_validator.specs.Halts.{stop_halt, CallHalts, CallVerdict}
 use Rattle.plus_validator.specs.Standing.{IsPlayed, CanGoOn, CanReach, IsReached}
-use Rattle.plus_validator.specs.Running.{IsOnWay}
+use Rattle.plus_validator.specs.Running.{IsOnWay, Steps}
+use Rattle.plus_validator.specs.Handing.{Left, left_by, IsPartOut}
 use Rattle.plus_validator.specs.Refused.{BreachNames, NamesNone, NamesLine, Stands, IsBroken}
-use Rattle.plus_validator.specs.Stopped.{IsReported, StopsOnWay, HaltsOnWay, IsStoppedIn, StopsIn, HaltsInAct}
+use Rattle.plus_validator.specs.Stopped.{IsReported, IsCutShort, StopsOnWay, HaltsOnWay, IsStoppedIn, StopsIn, HaltsInAct}
 use Rattle.plus_validator.proofs.Runs.{Along}
 use Rattle.plus_validator.specs.Asking.{Fails, call_tests}
 use Rattle.plus_timeline.specs.Asked.{act_tests, asked, line_tests}
@@ -64,6 +65,10 @@ reported N P L instance h t old new p w e = record {
   clear = p.clear;
   written = e ∙ p.written;
 }
+
+-- a fault comes where this is played
+pub cut_short : (N : Labels) (P : Problem) (L : Plan) (instance : ℕ → List Test) (h : List Part) (t : TimelineView) (account : Account) (out : List ℕ) (halt : Halt) → IsPlayed N P L instance h t account → t.entries ≤ t.most → IsPartOut halt out account.report → IsCutShort N P L t.most instance out halt
+cut_short N P L instance h t account out halt p w o = record { history = h; account = account; reported = reported N P L instance h t account account p w refl; part = o }
 
 -- ---- a test that fails at the view of a history that is played
 
@@ -103,8 +108,8 @@ way_fails : (P : Problem) (L : Plan) (instance : ℕ → List Test) (u : Fractio
 way_fails P L instance u t test e f =
     advance_fails P L t.most instance t.entries t.now test (subst (λ (ts : List Test). FirstFailing IsFrac64 ts test) (way_is P L u t e) f)
 
-pub advance_stops : (N : Labels) (P : Problem) (L : Plan) (instance : ℕ → List Test) (u : Fraction) (acted : ℕ) (h : List Part) (old new : Progress) (stop : Stop Frac64) → HasBegun L → CanReach P u old.timeline → IsOnWay N P L instance u acted h old → AdvanceTold fraction_of IsFrac64 P u old.timeline.line new.timeline.line (Err stop) → new.account ≡ old.account → StopsOnWay N P L old.timeline.line.most instance new.account (stop_halt stop)
-advance_stops N P L instance u acted h old new (stops.Breach b) begun c w k r = record {
+pub advance_stops : (N : Labels) (P : Problem) (L : Plan) (instance : ℕ → List Test) (u : Fraction) (acted : ℕ) (h : List Part) (old new : Progress) (out : List ℕ) (stop : Stop Frac64) → HasBegun L → CanReach P u old.timeline → IsOnWay N P L instance u acted h old → AdvanceTold fraction_of IsFrac64 P u old.timeline.line new.timeline.line (Err stop) → new.account ≡ old.account → IsPartOut Memory out old.account.report → StopsOnWay N P L old.timeline.line.most instance (left_by out new) (stop_halt stop)
+advance_stops N P L instance u acted h old new out (stops.Breach b) begun c w k r o = record {
   stopped = record {
     history = h;
     reported = reported N P L instance h old.timeline.line old.account new.account w.played c.goes.within r;
@@ -114,7 +119,7 @@ advance_stops N P L instance u acted h old new (stops.Breach b) begun c w k r = 
   };
   names = names_none P _ old.timeline.line.now b k.means;
 }
-advance_stops N P L instance u acted h old new (stops.Limit l) begun c w k r = record {
+advance_stops N P L instance u acted h old new out (stops.Limit l) begun c w k r o = record {
   stopped = record {
     history = h;
     reported = reported N P L instance h old.timeline.line old.account new.account w.played c.goes.within r;
@@ -122,23 +127,48 @@ advance_stops N P L instance u acted h old new (stops.Limit l) begun c w k r = r
   };
   names = tt;
 }
-advance_stops N P L instance u acted h old new stops.Ended begun c w k r = tt
-advance_stops N P L instance u acted h old new stops.Memory begun c w k r = tt
+advance_stops N P L instance u acted h old new out stops.Ended begun c w k r o = cut_short N P L instance h old.timeline.line old.account out Memory w.played c.goes.within o
+advance_stops N P L instance u acted h old new out stops.Memory begun c w k r o = cut_short N P L instance h old.timeline.line old.account out Memory w.played c.goes.within o
 
-pub advance_halts_on : (N : Labels) (P : Problem) (u : Fraction) (old new : Progress) (stop : Stop Frac64) (halt : Halt) → CanReach P u old.timeline → halt ≡ stop_halt stop → AdvanceTold fraction_of IsFrac64 P u old.timeline.line new.timeline.line (Err stop) → new.account ≡ old.account → HaltsOnWay N P u old new halt
-advance_halts_on N P u old new stop halt c e k r = record {
-  stops = λ L instance acted h begun w. subst (StopsOnWay N P L old.timeline.line.most instance new.account) (sym e) (advance_stops N P L instance u acted h old new stop begun c w k r);
+pub advance_halts_on : (N : Labels) (P : Problem) (u : Fraction) (old new : Progress) (out : List ℕ) (stop : Stop Frac64) (halt : Halt) → CanReach P u old.timeline → halt ≡ stop_halt stop → AdvanceTold fraction_of IsFrac64 P u old.timeline.line new.timeline.line (Err stop) → new.account ≡ old.account → IsPartOut Memory out old.account.report → HaltsOnWay N P u old (left_by out new) halt
+advance_halts_on N P u old new out stop halt c e k r o = record {
+  stops = λ L instance acted h begun w. subst (StopsOnWay N P L old.timeline.line.most instance (left_by out new)) (sym e) (advance_stops N P L instance u acted h old new out stop begun c w k r o);
+}
+
+-- memory is wanting on the way
+pub way_wants : (N : Labels) (P : Problem) (u : Fraction) (old : Progress) (new : Left) → CanReach P u old.timeline → IsPartOut Memory new.out old.account.report → HaltsOnWay N P u old new Memory
+way_wants N P u old new c o = record {
+  stops = λ L instance acted h begun w. cut_short N P L instance h old.timeline.line old.account new.out Memory w.played c.goes.within o;
+}
+
+-- the sink fails behind a step
+pub way_breaks : (N : Labels) (P : Problem) (u : Fraction) (old mid : Progress) (new : Left) (there : Bool) → Steps N P u old mid there → IsPartOut WriteFault new.out mid.account.report → HaltsOnWay N P u old new WriteFault
+way_breaks N P u old mid new true s o = record {
+  stops = λ L instance acted h begun w.
+      let x = s.reached L instance acted h begun w in
+      subst (λ k. IsCutShort N P L k instance new.out WriteFault) s.most (cut_short N P L instance x.0 mid.timeline.line mid.account new.out WriteFault x.1.played s.can.within o);
+}
+way_breaks N P u old mid new false s o = record {
+  stops = λ L instance acted h begun w.
+      let x = s.on_way L instance acted h begun w in
+      subst (λ k. IsCutShort N P L k instance new.out WriteFault) s.most (cut_short N P L instance x.0 mid.timeline.line mid.account new.out WriteFault x.1.played s.can.goes.within o);
 }
 
 -- several steps, and then a halt
-pub along_halts : (N : Labels) (P : Problem) (u : Fraction) (start run new : Progress) (halt : Halt) → Along N P u start run → HaltsOnWay N P u run new halt → HaltsOnWay N P u start new halt
+pub along_halts : (N : Labels) (P : Problem) (u : Fraction) (start run : Progress) (new : Left) (halt : Halt) → Along N P u start run → HaltsOnWay N P u run new halt → HaltsOnWay N P u start new halt
 along_halts N P u start run new halt a s = record {
   stops = λ L instance acted h begun w.
       let x = a.on_way L instance acted h begun w in
-      subst (λ m. StopsOnWay N P L m instance new.account halt) a.most (s.stops L instance acted x.0 begun x.1);
+      subst (λ m. StopsOnWay N P L m instance new halt) a.most (s.stops L instance acted x.0 begun x.1);
 }
 
 -- ---- an action that is due
+
+-- memory is wanting at it
+pub act_wants : (w : Pair) (N : Labels) (P : Problem) (n : ℕ) (k : Call) (old : Progress) (new : Left) → CanGoOn P old.timeline → IsPartOut Memory new.out old.account.report → HaltsInAct w N P n k old new Memory
+act_wants w N P n k old new c o = record {
+  stops = λ L instance h begun i r d. cut_short N P L instance h old.timeline.line old.account new.out Memory r.played c.within o;
+}
 
 -- the verdict stands at the history that is played, and names this line
 stopped_in : (N : Labels) (P : Problem) (L : Plan) (instance : ℕ → List Test) (n : ℕ) (h : List Part) (old new : Progress) (v : Verdict Frac64) → CanGoOn P old.timeline → IsPlayed N P L instance h old.timeline.line old.account → new.account ≡ old.account → Stands P L old.timeline.line.most instance h v → NamesLine n (called_label (next_line L old.timeline.line.now)) v → IsStoppedIn N P L old.timeline.line.most instance n new.account v
@@ -194,11 +224,12 @@ call_stops w N P n k (instances.Literal span) run v L instance h c f e begun i r
     (instance_fails w N P k f.action run L instance h (no_number span.start span.«end») f.is i r d (call_unfit w k span f)) tt)
 call_stops w N P n k instances.Memory run v L instance h c f e begun i r d = absurd e
 
-pub call_halts_in : (w : Pair) (N : Labels) (P : Problem) (n : ℕ) (k : Call) (fault : InstanceFault) (run : Progress) (halt : Halt) → CanGoOn P run.timeline → RefusesCall IsFrac64 w.domain k.name (called_of w.domain w.problem k.name k.args) fault → CallHalts fault n k.name halt → HaltsInAct w N P n k run run halt
-call_halts_in w N P n k fault run (Refused v) c f e = record {
+pub call_halts_in : (w : Pair) (N : Labels) (P : Problem) (n : ℕ) (k : Call) (fault : InstanceFault) (run : Progress) (out : List ℕ) (halt : Halt) → CanGoOn P run.timeline → RefusesCall IsFrac64 w.domain k.name (called_of w.domain w.problem k.name k.args) fault → CallHalts fault n k.name halt → IsPartOut Memory out run.account.report → HaltsInAct w N P n k run (left_by out run) halt
+call_halts_in w N P n k fault run out (Refused v) c f e o = record {
   stops = λ L instance h begun i r d. call_stops w N P n k fault run v L instance h c f e begun i r d;
 }
-call_halts_in w N P n k fault run Memory c f e = record { stops = λ L instance h begun i r d. tt }
+call_halts_in w N P n k fault run out Memory c f e o = act_wants w N P n k run (left_by out run) c o
+call_halts_in w N P n k fault run out WriteFault c f e o = absurd e
 
 -- what the action asks fails
 act_fails : (w : Pair) (N : Labels) (P : Problem) (k : Call) (action : Action) (run : Progress) (L : Plan) (instance : ℕ → List Test) (h : List Part) (test : Test) → IsInstance IsFrac64 w.domain k.name (called_of w.domain w.problem k.name k.args) action → instance run.timeline.line.now.acted ≡ call_tests w k → IsReached N P L instance run.timeline.line.now.acted run.timeline.line.now.time h run.timeline.line run.account → next_line L run.timeline.line.now ≡ Some (ActLine run.timeline.line.now.time (Instance action)) → FirstFailing IsFrac64 (act_tests run.timeline.line.now.acted action run.timeline.line.now.state) test → FirstFailing IsFrac64 (asked P L run.timeline.line.most instance run.timeline.line.entries run.timeline.line.now) test
@@ -220,22 +251,22 @@ act_names action n s (breaches.Coupled x y) label e r = tt
 act_names action n s (breaches.NoFirstMoment x t) label e r = tt
 act_names action n s breaches.Goal label e r = tt
 
-act_stops : (w : Pair) (N : Labels) (P : Problem) (n : ℕ) (k : Call) (action : Action) (old new : Progress) (stop : Stop Frac64) (L : Plan) (instance : ℕ → List Test) (h : List Part) → CanGoOn P old.timeline → IsInstance IsFrac64 w.domain k.name (called_of w.domain w.problem k.name k.args) action → ActTold {A = Unit {0}} fraction_of IsFrac64 P action n old.timeline.line new.timeline.line (Err stop) → new.account ≡ old.account → HasBegun L → instance old.timeline.line.now.acted ≡ call_tests w k → IsReached N P L instance old.timeline.line.now.acted old.timeline.line.now.time h old.timeline.line old.account → next_line L old.timeline.line.now ≡ Some (ActLine old.timeline.line.now.time (Instance action)) → StopsIn N P L old.timeline.line.most instance n new.account (stop_halt stop)
-act_stops w N P n k action old new (stops.Breach b) L instance h c i t r begun m q d =
+act_stops : (w : Pair) (N : Labels) (P : Problem) (n : ℕ) (k : Call) (action : Action) (old new : Progress) (out : List ℕ) (stop : Stop Frac64) (L : Plan) (instance : ℕ → List Test) (h : List Part) → CanGoOn P old.timeline → IsInstance IsFrac64 w.domain k.name (called_of w.domain w.problem k.name k.args) action → ActTold {A = Unit {0}} fraction_of IsFrac64 P action n old.timeline.line new.timeline.line (Err stop) → new.account ≡ old.account → HasBegun L → instance old.timeline.line.now.acted ≡ call_tests w k → IsReached N P L instance old.timeline.line.now.acted old.timeline.line.now.time h old.timeline.line old.account → next_line L old.timeline.line.now ≡ Some (ActLine old.timeline.line.now.time (Instance action)) → IsPartOut Memory out old.account.report → StopsIn N P L old.timeline.line.most instance n (left_by out new) (stop_halt stop)
+act_stops w N P n k action old new out (stops.Breach b) L instance h c i t r begun m q d o =
     stopped_in N P L instance n h old new (Invalid b) c q.played r
     (broken_at N P L instance h old.timeline.line old.account q.played b begun (act_breaks fraction_of P L old.timeline.line action n b q.present d t.means)
     (and_then (breach_of fraction_of old.timeline.line.now.acted b) (λ x. FirstFailing IsFrac64 (act_tests old.timeline.line.now.acted action old.timeline.line.now.state) (breach x)) (λ x. FirstFailing IsFrac64 (asked P L old.timeline.line.most instance old.timeline.line.entries old.timeline.line.now) (breach x))
     (λ x f. act_fails w N P k action old L instance h (breach x) i m q d f) t.first))
     (act_names action n old.timeline.line.now.state b (called_label (next_line L old.timeline.line.now)) (ap called_label d) t.means)
-act_stops w N P n k action old new (stops.Limit l) L instance h c i t r begun m q d =
+act_stops w N P n k action old new out (stops.Limit l) L instance h c i t r begun m q d o =
     stopped_in N P L instance n h old new (Beyond l) c q.played r
     (fails_at N P L instance h old.timeline.line old.account q.played (of_limit fraction_of l) (act_fails w N P k action old L instance h (of_limit fraction_of l) i m q d t.first)) tt
-act_stops w N P n k action old new stops.Ended L instance h c i t r begun m q d = tt
-act_stops w N P n k action old new stops.Memory L instance h c i t r begun m q d = tt
+act_stops w N P n k action old new out stops.Ended L instance h c i t r begun m q d o = cut_short N P L instance h old.timeline.line old.account out Memory q.played c.within o
+act_stops w N P n k action old new out stops.Memory L instance h c i t r begun m q d o = cut_short N P L instance h old.timeline.line old.account out Memory q.played c.within o
 
-pub act_halts_in : (w : Pair) (N : Labels) (P : Problem) (n : ℕ) (k : Call) (action : Action) (old new : Progress) (stop : Stop Frac64) (halt : Halt) → CanGoOn P old.timeline → IsInstance IsFrac64 w.domain k.name (called_of w.domain w.problem k.name k.args) action → halt ≡ stop_halt stop → ActTold {A = Unit {0}} fraction_of IsFrac64 P action n old.timeline.line new.timeline.line (Err stop) → new.account ≡ old.account → HaltsInAct w N P n k old new halt
-act_halts_in w N P n k action old new stop halt c i e t r = record {
+pub act_halts_in : (w : Pair) (N : Labels) (P : Problem) (n : ℕ) (k : Call) (action : Action) (old new : Progress) (out : List ℕ) (stop : Stop Frac64) (halt : Halt) → CanGoOn P old.timeline → IsInstance IsFrac64 w.domain k.name (called_of w.domain w.problem k.name k.args) action → halt ≡ stop_halt stop → ActTold {A = Unit {0}} fraction_of IsFrac64 P action n old.timeline.line new.timeline.line (Err stop) → new.account ≡ old.account → IsPartOut Memory out old.account.report → HaltsInAct w N P n k old (left_by out new) halt
+act_halts_in w N P n k action old new out stop halt c i e t r o = record {
   stops = λ L instance h begun m q d.
-      subst (StopsIn N P L old.timeline.line.most instance n new.account) (sym e)
-      (act_stops w N P n k action old new stop L instance h c i t r begun m q (d ∙ ap (λ x. Some (ActLine old.timeline.line.now.time x)) i.is));
+      subst (StopsIn N P L old.timeline.line.most instance n (left_by out new)) (sym e)
+      (act_stops w N P n k action old new out stop L instance h c i t r begun m q (d ∙ ap (λ x. Some (ActLine old.timeline.line.now.time x)) i.is) o);
 }

@@ -19,17 +19,18 @@ use Rattle.plus_report.specs.declared.verdicts.Verdict.TheVariants.{Other}
 use Rattle.plus_report.specs.declared.refusals.Early.TheVariants.{TooLong}
 use Rattle.plus_report.specs.declared.refusals.Text.TheVariants as texts
 use Rattle.plus_validator.specs.Account.{Progress, progress}
+use Rattle.plus_validator.specs.Handing.{HandsOn, Left, left_by, left, IsPartOut}
 use Rattle.plus_validator.specs.declared.feed.Feed.{Feed}
 use Rattle.plus_validator.specs.declared.halt.Halt.{Halt}
-use Rattle.plus_validator.specs.declared.halt.Halt.TheVariants.{Refused}
+use Rattle.plus_validator.specs.declared.halt.Halt.TheVariants.{Refused, WriteFault}
 use Rattle.plus_validator.specs.Limits.{text_limit}
 use Rattle.plus_validator.specs.Plans.{Pair, pair_in}
 use Rattle.plus_validator.specs.Playing.{IsResting}
-use Rattle.plus_validator.specs.Feeding.{Course, course, IsFresh, IsFed, IsOpen, HaltsWith, HaltsOn, Feeds, HaltsFeeding, EndsFeeding, HaltsEnding, IsPlayedOut}
+use Rattle.plus_validator.specs.Feeding.{Course, course, IsFresh, IsFed, IsOpen, HaltsWith, HaltsOn, Feeds, HaltsFeeding, PlaysText, EndsFeeding, HaltsEnding, IsPlayedOut}
 use Rattle.plus_validator.specs.declared.run.Run.{Run}
-use Rattle.plus_validator.specs.Streaming.{HasCome, IsPlayedFrom}
+use Rattle.plus_validator.specs.Streaming.{HasCome, IsPlayedFrom, IsPlayedThrough}
 use Rattle.plus_validator.specs.Leaving.{StopsReading, BreaksOffSoFar}
-use Rattle.plus_validator.proofs.FeedLemmas.{long_text_halts}
+use Rattle.plus_validator.proofs.FeedLemmas.{idle_breaks, long_text_halts}
 use Rattle.plus_validator.proofs.Played.{played_none}
 
 -- ---- the same pair
@@ -38,20 +39,17 @@ module _ (n m : Numbering) (N : Labels) (P : Problem) (same : n ≡ m) where
   pub feeds_same : (piece : List ℕ) (old new : Course) → Feeds (pair_in n.typed.now) N P piece old new → Feeds (pair_in m.typed.now) N P piece old new
   feeds_same piece old new h = subst (λ (k : Numbering). Feeds (pair_in k.typed.now) N P piece old new) same h
 
-  pub halts_same : (piece : List ℕ) (old : Course) (new : Progress) (halt : Halt) → HaltsFeeding (pair_in n.typed.now) N P piece old new halt → HaltsFeeding (pair_in m.typed.now) N P piece old new halt
+  pub halts_same : (piece : List ℕ) (old : Course) (new : Left) (halt : Halt) → HaltsFeeding (pair_in n.typed.now) N P piece old new halt → HaltsFeeding (pair_in m.typed.now) N P piece old new halt
   halts_same piece old new halt h = subst (λ (k : Numbering). HaltsFeeding (pair_in k.typed.now) N P piece old new halt) same h
 
-  pub ends_same : (r : Result (Unit {0}) Halt) (old : Course) (new : Progress) → OnOk r (EndsFeeding (pair_in n.typed.now) N P old new) → OnOk r (EndsFeeding (pair_in m.typed.now) N P old new)
-  ends_same r old new h = subst (λ (k : Numbering). OnOk r (EndsFeeding (pair_in k.typed.now) N P old new)) same h
+  pub ends_same : (old : Course) (new : Progress) → EndsFeeding (pair_in n.typed.now) N P old new → EndsFeeding (pair_in m.typed.now) N P old new
+  ends_same old new h = subst (λ (k : Numbering). EndsFeeding (pair_in k.typed.now) N P old new) same h
 
-  pub ending_same : (r : Result (Unit {0}) Halt) (old : Course) (new : Progress) → IfErr r (HaltsEnding (pair_in n.typed.now) N P old new) → IfErr r (HaltsEnding (pair_in m.typed.now) N P old new)
-  ending_same r old new h = subst (λ (k : Numbering). IfErr r (HaltsEnding (pair_in k.typed.now) N P old new)) same h
+  pub ending_same : (old : Course) (new : Left) (halt : Halt) → HaltsEnding (pair_in n.typed.now) N P old new halt → HaltsEnding (pair_in m.typed.now) N P old new halt
+  ending_same old new halt h = subst (λ (k : Numbering). HaltsEnding (pair_in k.typed.now) N P old new halt) same h
 
-  pub played_same : (bytes : List ℕ) (first new : Progress) (played : Result (Unit {0}) Halt) → IsPlayedOut (pair_in n.typed.now) N P bytes first new played → IsPlayedOut (pair_in m.typed.now) N P bytes first new played
-  played_same bytes first new played h = subst (λ (k : Numbering). IsPlayedOut (pair_in k.typed.now) N P bytes first new played) same h
-
-  pub told_same : (told : Option (List ℕ)) (first new : Progress) (played : Result (Unit {0}) Halt) → IfSome told (λ bytes. IsPlayedOut (pair_in n.typed.now) N P bytes first new played) → IfSome told (λ bytes. IsPlayedOut (pair_in m.typed.now) N P bytes first new played)
-  told_same told first new played h = subst (λ (k : Numbering). IfSome told (λ bytes. IsPlayedOut (pair_in k.typed.now) N P bytes first new played)) same h
+  pub played_same : (bytes : List ℕ) (first : Progress) (sent : List ℕ) (new : Run) (played : Result (Unit {0}) Halt) → IsPlayedOut (pair_in n.typed.now) N P bytes first sent new played → IsPlayedOut (pair_in m.typed.now) N P bytes first sent new played
+  played_same bytes first sent new played h = subst (λ (k : Numbering). IsPlayedOut (pair_in k.typed.now) N P bytes first sent new played) same h
 
 -- ---- nothing has come
 
@@ -140,7 +138,7 @@ module _ (d : Pair) (N : Labels) (P : Problem) (bytes rest left : Option (List �
     fed_more new f = f.fed come.text first come.fed text_within
 
     -- the run halts in it
-    pub halts_more : (new : Progress) (halt : Halt) → feed.reader.closed ≡ false → HaltsFeeding d N P part feed new halt → IfSome bytes (λ text. IsPlayedOut d N P text first new (Err halt))
+    pub halts_more : (new : Left) (halt : Halt) → feed.reader.closed ≡ false → HaltsFeeding d N P part feed new halt → IfSome bytes (λ text. HaltsWith d N P text first new halt)
     halts_more new halt o h = at left taken
       where
         on : HaltsOn d N P (come.text ++ part) feed.reader.closed first new halt
@@ -155,18 +153,18 @@ module _ (d : Pair) (N : Labels) (P : Problem) (bytes rest left : Option (List �
         at (Some behind) e = subst (λ b. IfSome b (λ text. HaltsWith d N P text first new halt)) (sym e) (all ((come.text ++ take count piece) ++ behind) behind refl)
 
     -- the text is too long
-    pub halts_long : (new : Course) → Feeds d N P part feed new → new.reader.closed ≡ false → IsIdle new.reader → within < count → total + within ≡ text_limit → IfSome bytes (λ text. IsPlayedOut d N P text first new.run (Err (Refused (Other (TooLong texts.Plan)))))
-    halts_long new f o i more full = at left taken
+    pub halts_long : (new : Course) → Feeds d N P part feed new → new.reader.closed ≡ false → IsIdle new.reader → within < count → total + within ≡ text_limit → (out : List ℕ) → IfSome bytes (λ text. HaltsWith d N P text first (left_by out new.run) (Refused (Other (TooLong texts.Plan))))
+    halts_long new f o i more full out = at left taken
       where
-        all : (behind : List ℕ) → HaltsWith d N P ((come.text ++ take count piece) ++ behind) first new.run (Refused (Other (TooLong texts.Plan)))
+        all : (behind : List ℕ) → HaltsWith d N P ((come.text ++ take count piece) ++ behind) first (left_by out new.run) (Refused (Other (TooLong texts.Plan)))
         all behind =
             let some : 0 < length (drop within (take count piece) ++ behind) =
             omega (arith, length-append (drop within (take count piece)) behind, length-drop within (take count piece), length-take-le count piece fits) in
-            long_text_halts d N P (come.text ++ part) first new (fed_more new f) text_within (drop within (take count piece) ++ behind) ((come.text ++ take count piece) ++ behind) o i (text_size ∙ full) some (bytes_are behind)
+            long_text_halts d N P (come.text ++ part) first new (fed_more new f) text_within (drop within (take count piece) ++ behind) ((come.text ++ take count piece) ++ behind) o i (text_size ∙ full) some (bytes_are behind) out
 
-        at : (l : Option (List ℕ)) → Takes bytes l (come.text ++ take count piece) → IfSome bytes (λ text. HaltsWith d N P text first new.run (Refused (Other (TooLong texts.Plan))))
-        at None e = subst (λ b. IfSome b (λ text. HaltsWith d N P text first new.run (Refused (Other (TooLong texts.Plan))))) (sym e) tt
-        at (Some behind) e = subst (λ b. IfSome b (λ text. HaltsWith d N P text first new.run (Refused (Other (TooLong texts.Plan))))) (sym e) (all behind)
+        at : (l : Option (List ℕ)) → Takes bytes l (come.text ++ take count piece) → IfSome bytes (λ text. HaltsWith d N P text first (left_by out new.run) (Refused (Other (TooLong texts.Plan))))
+        at None e = subst (λ b. IfSome b (λ text. HaltsWith d N P text first (left_by out new.run) (Refused (Other (TooLong texts.Plan))))) (sym e) tt
+        at (Some behind) e = subst (λ b. IfSome b (λ text. HaltsWith d N P text first (left_by out new.run) (Refused (Other (TooLong texts.Plan))))) (sym e) (all behind)
 
     -- all of the piece is played
     pub has_more : (new : Course) → Feeds d N P part feed new → within ≡ count → HasCome d N P bytes left (total + count) first new
@@ -179,19 +177,35 @@ module _ (d : Pair) (N : Labels) (P : Problem) (bytes rest left : Option (List �
 
 -- ---- all has come
 
-played_out : (d : Pair) (N : Labels) (P : Problem) (text : List ℕ) (first : Progress) (feed : Course) (new : Progress) (played : Result (Unit {0}) Halt) → IsFed d N P text first feed → length text ≤ text_limit → OnOk played (EndsFeeding d N P feed new) → IfErr played (HaltsEnding d N P feed new) → IsPlayedOut d N P text first new played
-played_out d N P text first feed new (Ok u) h w e s = e.ends text first h w
-played_out d N P text first feed new (Err halt) h w e s = s.halts text first h w
+module _ (d : Pair) (N : Labels) (P : Problem) (bytes rest : Option (List ℕ)) (total : ℕ) (first : Progress) (feed : Course) (come : HasCome d N P bytes rest total first feed) (end : IsAtEnd rest) (room : total ≤ text_limit) where
+  at_all : (Q : List ℕ → Type 0) → Q come.text → IfSome bytes Q
+  at_all Q q = at bytes (Takes-whole bytes rest come.text come.front end)
+    where
+      at : (b : Option (List ℕ)) → IfSome b (λ text. come.text ≡ text) → IfSome b Q
+      at None k = tt
+      at (Some text) k = subst Q k q
 
-pub ends_read : (d : Pair) (N : Labels) (P : Problem) (bytes rest : Option (List ℕ)) (total : ℕ) (first : Progress) (feed : Course) (new : Progress) (played : Result (Unit {0}) Halt) → HasCome d N P bytes rest total first feed → IsAtEnd rest → total ≤ text_limit → OnOk played (EndsFeeding d N P feed new) → IfErr played (HaltsEnding d N P feed new) → IfSome bytes (λ text. IsPlayedOut d N P text first new played)
-ends_read d N P bytes rest total first feed new played come end room e s = at bytes (Takes-whole bytes rest come.text come.front end)
+  within : length come.text ≤ text_limit
+  within = subst (λ n. n ≤ text_limit) (sym come.size) room
+
+  pub ends_read : (new : Progress) → EndsFeeding d N P feed new → IfSome bytes (λ text. PlaysText d N P text first new)
+  ends_read new e = at_all (λ text. PlaysText d N P text first new) (e.ends come.text first come.fed within)
+
+  pub ends_halting : (new : Left) (halt : Halt) → HaltsEnding d N P feed new halt → IfSome bytes (λ text. HaltsWith d N P text first new halt)
+  ends_halting new halt e = at_all (λ text. HaltsWith d N P text first new halt) (e.halts come.text first come.fed within)
+
+-- the sink fails between two pieces
+pub come_breaks : (d : Pair) (N : Labels) (P : Problem) (bytes rest : Option (List ℕ)) (total : ℕ) (first : Progress) (feed : Course) (new : Left) → HasCome d N P bytes rest total first feed → total ≤ text_limit → feed.reader.closed ≡ false → IsIdle feed.reader → IsPartOut WriteFault new.out feed.run.account.report → IfSome bytes (λ text. HaltsWith d N P text first new WriteFault)
+come_breaks d N P bytes rest total first feed new come room o i m = at rest come.front
   where
-    out : IsPlayedOut d N P come.text first new played
-    out = played_out d N P come.text first feed new played come.fed (subst (λ n. n ≤ text_limit) (sym come.size) room) e s
+    within : length come.text ≤ text_limit
+    within = subst (λ n. n ≤ text_limit) (sym come.size) room
 
-    at : (b : Option (List ℕ)) → IfSome b (λ text. come.text ≡ text) → IfSome b (λ text. IsPlayedOut d N P text first new played)
-    at None k = tt
-    at (Some text) k = subst (λ t. IsPlayedOut d N P t first new played) k out
+    at : (l : Option (List ℕ)) → Takes bytes l come.text → IfSome bytes (λ text. HaltsWith d N P text first new WriteFault)
+    at None e = subst (λ b. IfSome b (λ text. HaltsWith d N P text first new WriteFault)) (sym e) tt
+    at (Some behind) e =
+        subst (λ b. IfSome b (λ text. HaltsWith d N P text first new WriteFault)) (sym e)
+        (idle_breaks d N P come.text first feed come.fed within (come.text ++ behind) behind new o i refl m)
 
 -- ---- the text stands in memory
 
@@ -211,7 +225,7 @@ module _ (d : Pair) (N : Labels) (P : Problem) (bytes : List ℕ) (first : Progr
     pub bytes_more : (next : Course) → Feeds d N P piece feed next → IsFed d N P (take stop bytes) first next
     bytes_more next f = subst (λ t. IsFed d N P t first next) (sym piece_is) (f.fed (take total bytes) first fed with_piece)
 
-    pub bytes_halt : (new : Progress) (halt : Halt) → feed.reader.closed ≡ false → HaltsFeeding d N P piece feed new halt → HaltsWith d N P bytes first new halt
+    pub bytes_halt : (new : Left) (halt : Halt) → feed.reader.closed ≡ false → HaltsFeeding d N P piece feed new halt → HaltsWith d N P bytes first new halt
     bytes_halt new halt o h =
         (h.halts (take total bytes) first fed with_piece).halts bytes (record {
           behind = drop stop bytes;
@@ -220,23 +234,31 @@ module _ (d : Pair) (N : Labels) (P : Problem) (bytes : List ℕ) (first : Progr
           all = λ c. absurd (let q : true ≡ false = sym c ∙ o in cc q);
         })
 
-  pub bytes_long : feed.reader.closed ≡ false → IsIdle feed.reader → total < length bytes → total ≡ text_limit → HaltsWith d N P bytes first feed.run (Refused (Other (TooLong texts.Plan)))
-  bytes_long o i more full =
+  pub bytes_long : feed.reader.closed ≡ false → IsIdle feed.reader → total < length bytes → total ≡ text_limit → (out : List ℕ) → HaltsWith d N P bytes first (left_by out feed.run) (Refused (Other (TooLong texts.Plan)))
+  bytes_long o i more full out =
       let size = length-take-le total bytes (omega arith) in
       let some : 0 < length (drop total bytes) = omega (arith, length-drop total bytes) in
-      long_text_halts d N P (take total bytes) first feed fed (omega (arith, size)) (drop total bytes) bytes o i (size ∙ full) some (sym (take-append-drop total bytes))
+      long_text_halts d N P (take total bytes) first feed fed (omega (arith, size)) (drop total bytes) bytes o i (size ∙ full) some (sym (take-append-drop total bytes)) out
 
-  pub bytes_end : (new : Progress) (played : Result (Unit {0}) Halt) → take total bytes ≡ bytes → length bytes ≤ text_limit → OnOk played (EndsFeeding d N P feed new) → IfErr played (HaltsEnding d N P feed new) → IsPlayedOut d N P bytes first new played
-  bytes_end new played all few e s = played_out d N P bytes first feed new played (subst (λ t. IsFed d N P t first feed) all fed) few e s
+-- the end is played, of bytes that are all played
+pub bytes_end : (d d' : Pair) (N : Labels) (P : Problem) (bytes : List ℕ) (first : Progress) (total : ℕ) (sent : List ℕ) (feed : Feed) (new : Run) (r : Result (Unit {0}) Halt) (old now : Option (List ℕ)) → IsFed d N P (take total bytes) first (course sent feed) → take total bytes ≡ bytes → length bytes ≤ text_limit → ((c : Course) (l : Progress) → EndsFeeding d' N P c l → EndsFeeding d N P c l) → ((c : Course) (l : Left) (halt : Halt) → HaltsEnding d' N P c l halt → HaltsEnding d N P c l halt) → OnOk r (HandsOn course progress (EndsFeeding d' N P) feed new old now) → IfErr r (λ halt. HandsOn course left (λ c l. HaltsEnding d' N P c l halt) feed new old now) → IsPlayedThrough d N P bytes first new r
+bytes_end d d' N P bytes first total sent feed new (Ok u) old now h all few f g e s = record {
+  gone = sent ++ e.gone;
+  out = (f (course sent feed) (progress (sent ++ e.gone) new) (e.goes sent)).ends bytes first (subst (λ t. IsFed d N P t first (course sent feed)) all h) few;
+}
+bytes_end d d' N P bytes first total sent feed new (Err halt) old now h all few f g e s = record {
+  gone = sent ++ s.gone;
+  out = (g (course sent feed) (left (sent ++ s.gone) new) halt (s.goes sent)).halts bytes first (subst (λ t. IsFed d N P t first (course sent feed)) all h) few;
+}
 
 -- ---- what became of a file, for the same pair
 
-module _ (n m : Numbering) (N : Labels) (P : Problem) (same : n ≡ m) (most : ℕ) (bytes : Option (List ℕ)) (old new : Option (List ℕ)) where
-  pub from_same : (first : Progress) (run : Run) (played : Result (Unit {0}) Halt) → IsPlayedFrom n.typed.now.domain n.typed.now.problem N P most bytes first run old new played → IsPlayedFrom m.typed.now.domain m.typed.now.problem N P most bytes first run old new played
-  from_same first run played h = subst (λ (k : Numbering). IsPlayedFrom k.typed.now.domain k.typed.now.problem N P most bytes first run old new played) same h
+module _ (n m : Numbering) (N : Labels) (P : Problem) (same : n ≡ m) (bytes : Option (List ℕ)) (old new : Option (List ℕ)) where
+  pub from_same : (first : Progress) (run : Run) (played : Result (Unit {0}) Halt) → IsPlayedFrom n.typed.now.domain n.typed.now.problem N P bytes first run old new played → IsPlayedFrom m.typed.now.domain m.typed.now.problem N P bytes first run old new played
+  from_same first run played h = subst (λ (k : Numbering). IsPlayedFrom k.typed.now.domain k.typed.now.problem N P bytes first run old new played) same h
 
-  pub reading_same : (picked rest : Option (List ℕ)) → StopsReading n.typed.now.domain n.typed.now.problem most bytes picked rest old new → StopsReading m.typed.now.domain m.typed.now.problem most bytes picked rest old new
-  reading_same picked rest h = subst (λ (k : Numbering). StopsReading k.typed.now.domain k.typed.now.problem most bytes picked rest old new) same h
+  pub reading_same : (most : ℕ) (picked rest : Option (List ℕ)) → StopsReading n.typed.now.domain n.typed.now.problem most bytes picked rest old new → StopsReading m.typed.now.domain m.typed.now.problem most bytes picked rest old new
+  reading_same most picked rest h = subst (λ (k : Numbering). StopsReading k.typed.now.domain k.typed.now.problem most bytes picked rest old new) same h
 
-  pub broken_same : IfSome bytes (λ text. BreaksOffSoFar n.typed.now.domain n.typed.now.problem most text old new) → IfSome bytes (λ text. BreaksOffSoFar m.typed.now.domain m.typed.now.problem most text old new)
-  broken_same h = subst (λ (k : Numbering). IfSome bytes (λ text. BreaksOffSoFar k.typed.now.domain k.typed.now.problem most text old new)) same h
+  pub broken_same : (most : ℕ) → IfSome bytes (λ text. BreaksOffSoFar n.typed.now.domain n.typed.now.problem most text old new) → IfSome bytes (λ text. BreaksOffSoFar m.typed.now.domain m.typed.now.problem most text old new)
+  broken_same most h = subst (λ (k : Numbering). IfSome bytes (λ text. BreaksOffSoFar k.typed.now.domain k.typed.now.problem most text old new)) same h

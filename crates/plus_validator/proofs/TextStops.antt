@@ -1,7 +1,7 @@
 -- A run that halts in a text: the plan is refused.
-use Rattle.std.proofs.Common.{◌≡◌, ℕ, ◌+◌, Bool, true, false, List, [], ◌∷◌, ◌++◌, refl, ap, sym, subst, ◌∙◌, inl, inr, append_assoc, append-nil}
-use Rattle.std.specs.Prelude.{◌≢◌, ◌⊎◌, Option, Some, None, Result, Ok, Err, IsSomeAnd, length, map}
-use Rattle.plus_model.specs.Terms.{Problem}
+use Rattle.std.proofs.Common.{◌≡◌, ℕ, ◌+◌, ◌<◌, Bool, true, false, List, [], ◌∷◌, ◌++◌, refl, ap, sym, subst, ◌∙◌, inl, inr, append_assoc, append-nil, arith, length-append}
+use Rattle.std.specs.Prelude.{◌≢◌, ◌⊎◌, All, Option, Some, None, Result, Ok, Err, IsSomeAnd, length, map}
+use Rattle.plus_model.specs.Terms.{State, Problem}
 use Rattle.plus_model.specs.Plan as model
 use Rattle.plus_model.specs.Plan.{Plan}
 use Rattle.plus_model.specs.History.{Part}
@@ -33,18 +33,21 @@ use Rattle.plus_report.specs.declared.refusals.Early.{Early}
 use Rattle.plus_report.specs.declared.refusals.Early.TheVariants as early
 use Rattle.plus_report.specs.declared.refusals.Early.TheVariants.{BadLine, LineTooLong}
 use Rattle.plus_report.specs.declared.refusals.Text.TheVariants as texts
-use Rattle.plus_validator.specs.Account.{Account, Progress}
+use Rattle.plus_report.specs.Report.{part_text, state_after, report_from, report_of}
+use Rattle.plus_validator.specs.Account.{Account, Progress, account_of}
 use Rattle.plus_validator.specs.declared.halt.Halt.{Halt}
-use Rattle.plus_validator.specs.declared.halt.Halt.TheVariants.{Refused, Memory}
+use Rattle.plus_validator.specs.declared.halt.Halt.TheVariants.{Refused, Memory, WriteFault}
 use Rattle.plus_validator.specs.Halts.{line_halt}
-use Rattle.plus_validator.specs.Plans.{Pair, line_meant, lines_meant, plan_of, reading_of}
+use Rattle.plus_validator.specs.Handing.{Left, left_by, IsPartOut}
+use Rattle.plus_validator.specs.Plans.{Pair, line_meant, lines_meant, plan_of, reading_of, HasValue}
 use Rattle.plus_validator.specs.Standing.{CanGoOn}
 use Rattle.plus_validator.specs.Playing.{ReadiedFor}
 use Rattle.plus_validator.specs.Refused.{IsBroken, StandsEarly, Stands, AreWorked, NamesFault, IsWaiting, TimeFault, after_end, no_value, goes_back, cut_verdict, NonePlays, BreachRefutes, Refutes, IsOfText, IsNoLimit, number_in}
-use Rattle.plus_validator.specs.Stopped.{IsReported, StopsOnWay, StopsInLine, HaltsInLine, HaltsAtEnd, IsStoppedInText, StopsInText}
+use Rattle.plus_validator.specs.Stopped.{IsReported, IsWorkedOut, IsCutShort, IsCutShortIn, IsCutShortInText, StopsOnWay, StopsInLine, HaltsInLine, HaltsAtEnd, IsStoppedInText, StopsInText}
 use Rattle.plus_validator.specs.Feeding.{HasPlayed}
 use Rattle.plus_validator.proofs.Stopping.{reported}
 use Rattle.plus_validator.proofs.Waiting.{waits}
+use Rattle.plus_validator.proofs.Played.{all_more}
 use Rattle.plus_validator.proofs.Clear.{clear_grows, unbegun_rest}
 use Rattle.plus_validator.specs.Asking.{IsClear, NoneFails, asked_at, instances_of}
 use Rattle.plus_validator.proofs.CalledTests.{instances_agree}
@@ -240,6 +243,84 @@ are_worked d P ls more closed most g h v a c w p s (inr n) = record {
   };
 }
 
+-- ---- a fault comes where the lines before are worked
+
+report_from_more : (N : Labels) (P : Problem) (L : Plan) (s : State) (a b : List Part) → (more : List ℕ) × (report_from N P L s (a ++ b) ≡ report_from N P L s a ++ more)
+unfolding report_from
+report_from_more N P L s [] b = (report_from N P L s b, refl)
+report_from_more N P L s (p ∷ a) b =
+    let k = report_from_more N P L (state_after s p) a b in
+    (k.0, ap (λ t. part_text N P L s p ++ t) k.1 ∙ sym (append_assoc (part_text N P L s p) (report_from N P L (state_after s p) a) k.0))
+
+report_more : (N : Labels) (P : Problem) (L : Plan) (a b : List Part) → (more : List ℕ) × (report_of N P L (a ++ b) ≡ report_of N P L a ++ more)
+unfolding report_of
+report_more N P L a b = report_from_more N P L P.initial a b
+
+-- what is out of a report is out of a longer one
+part_longer : (halt : Halt) (out report more : List ℕ) → IsPartOut halt out report → IsPartOut halt out (report ++ more)
+part_longer (Refused v) out report more o = (o.0 ++ more, ap (λ t. t ++ more) o.1 ∙ append_assoc out o.0 more)
+part_longer Memory out report more o = (o.0 ++ more, ap (λ t. t ++ more) o.1 ∙ append_assoc out o.0 more)
+part_longer WriteFault out report more o = (
+  o.0 ++ more,
+  ap (λ t. t ++ more) o.1 ∙ append_assoc out o.0 more,
+  (let some : 0 < length o.0 = o.2 in omega (arith, length-append o.0 more)),
+)
+
+-- a fault comes in one history with these lines, in a beginning of which they are worked
+record IsCutBehind (d : Pair) (N : Labels) (P : Problem) (M : Plan) (most : ℕ) (instance : ℕ → List Test) (ls : List Line) (out : List ℕ) (halt : Halt) : Type 0 where
+  cut : IsCutShort N P M most instance out halt
+  worked : AreWorked d P most ls cut.history
+
+module _ (d : Pair) (N : Labels) (P : Problem) (ls more : List Line) (closed : Bool) (most : ℕ) (g : List Part) (account : Account) (out : List ℕ) (halt : Halt)
+    (r : IsReported N P (plan_of d ls false) most (instances_of d ls) g account) (w : IsWaiting P (plan_of d ls false) most (instances_of d ls) g)
+    (s : IsCutShort N P (plan_of d (ls ++ more) closed) most (instances_of d (ls ++ more)) out halt) where
+  abbrev L : Plan
+  L = plan_of d ls false
+
+  abbrev M : Plan
+  M = plan_of d (ls ++ more) closed
+
+  worked_in : (h : List Part) → Begins g h → AreWorked d P most ls h
+  worked_in h b = record { front = g; prefix = r.prefix; waits = w; begins = b }
+
+  -- it comes before they are worked
+  cut_sooner : Prefix P M g → HasBegun M → Begins s.history g → IsCutBehind d N P M most (instances_of d (ls ++ more)) ls out halt
+  cut_sooner p b x =
+      let k = report_more N P M s.history x.rest in
+      record {
+        cut = record {
+          history = g;
+          account = account_of N P M g;
+          reported = record {
+            prefix = p;
+            few = r.few;
+            clear = clear_grows P L M most (instances_of d ls) (instances_of d (ls ++ more)) (goes_on d ls more false closed) (instances_agree d ls more) g r.prefix r.clear;
+            written = refl;
+          };
+          part = subst (IsPartOut halt out) (sym (ap (report_of N P M) x.is ∙ k.1))
+              (part_longer halt out (report_of N P M s.history) k.0 (subst (IsPartOut halt out) (ap (λ (a : Account). a.report) s.reported.written) s.part));
+        };
+        worked = worked_in g (record { rest = []; is = sym (append-nil g) });
+      }
+
+  cut_begun : HasBegun M → IsCutBehind d N P M most (instances_of d (ls ++ more)) ls out halt
+  cut_begun b =
+      let p = prefix_goes_on P L M g r.prefix (goes_on d ls more false closed) s.reported.prefix.ordered b in
+      elim (one_path P M g s.history p s.reported.prefix) [
+        | inl x ↦ record { cut = s; worked = worked_in s.history x }
+        | inr x ↦ cut_sooner p b x
+      ]
+
+  cut_worked : (HasBegun M) ⊎ (HasBegun M → ⊥) → IsCutBehind d N P M most (instances_of d (ls ++ more)) ls out halt
+  cut_worked (inl b) = cut_begun b
+  cut_worked (inr n) = record {
+    cut = s;
+    worked = worked_in s.history (record {
+      rest = [];
+      is = unbegun_is P M s.history n s.reported.prefix ∙ sym (unbegun_is P L g (λ b. n (begun_more d ls more closed b)) r.prefix) ∙ sym (append-nil g);
+    });
+  }
+
 -- ---- what the run leaves
 
 -- the report is that of the lines read, which are worked
@@ -251,6 +332,22 @@ waiting_report d N P ls most h run c m r =
 pub waiting_for : (d : Pair) (N : Labels) (P : Problem) (ls : List Line) (most : ℕ) (h : List Part) (run : Progress) → run.timeline.line.most ≡ most → ReadiedFor d N P ls h run → IsWaiting P (plan_of d ls false) most (instances_of d ls) h
 waiting_for d N P ls most h run m r =
     subst (λ k. IsWaiting P (plan_of d ls false) k (instances_of d ls) h) m (waits N P (plan_of d ls false) (instances_of d ls) h run r)
+
+-- the lines that are played are worked
+pub works_out : (d : Pair) (N : Labels) (P : Problem) (start run : Progress) (lines : List Line) → HasPlayed d N P lines start run → (h : List Part) → ReadiedFor d N P [] h start → IsWorkedOut d N P start.timeline.line.most lines
+works_out d N P start run lines r h ready =
+    let a = r.ready h ready in
+    record {
+      history = a.0;
+      account = run.account;
+      reported = waiting_report d N P lines start.timeline.line.most a.0 run r.rests.can r.rests.most_is a.1;
+      waits = waiting_for d N P lines start.timeline.line.most a.0 run r.rests.most_is a.1;
+    }
+
+-- the next line is the last of those read
+pub lines_then : (lines : List Line) (line : Line) (behind : List (Result Line PlanFault)) → map Ok lines ++ Ok line ∷ behind ≡ map Ok (lines ++ line ∷ []) ++ behind
+lines_then [] line behind = refl
+lines_then (x ∷ lines) line behind = ap (λ rs. Ok x ∷ rs) (lines_then lines line behind)
 
 -- the lines of these whole lines begin with those that are played
 module _ (d : Pair) (N : Labels) (P : Problem) (start run : Progress) (lines : List Line) (r : HasPlayed d N P lines start run) (whole : List ℕ) (behind : List (Result Line PlanFault)) (more : Bool) (piece : List ℕ) where
@@ -280,13 +377,60 @@ module _ (d : Pair) (N : Labels) (P : Problem) (start run : Progress) (lines : L
         written = w.written;
       }
 
-  pub bad_stops : (fault : PlanFault) (h : List Part) → plan_lines Timed whole ≡ map Ok lines ++ Err fault ∷ behind → ReadiedFor d N P [] h start → StopsInText d N P start.timeline.line.most more whole piece run.account (line_halt fault)
-  bad_stops (faults.NotLine n begin last) h e ready = none_next (faults.NotLine n begin last) (Other (BadLine n begin last)) h e refl tt ready
-  bad_stops (faults.LineTooLong n) h e ready = none_next (faults.LineTooLong n) (Other (LineTooLong n)) h e refl tt ready
-  bad_stops faults.Memory h e ready = tt
+  -- a fault comes behind them
+  pub cut_behind : (rest : List (Result Line PlanFault)) (out : List ℕ) (halt : Halt) (h : List Part) → plan_lines Timed whole ≡ map Ok lines ++ rest → IsPartOut halt out run.account.report → ReadiedFor d N P [] h start → IsCutShortInText d N P start.timeline.line.most more whole out halt
+  cut_behind rest out halt h e o ready =
+      let a = r.ready h ready in
+      let w = waiting_report d N P lines start.timeline.line.most a.0 run r.rests.can r.rests.most_is a.1 in
+      record {
+        reading = reading_of lines false;
+        cut = record { history = a.0; account = run.account; reported = w; part = o };
+        played = record {
+          before = lines;
+          last = [];
+          are = sym (append-nil lines);
+          one = omega arith;
+          rest = rest;
+          read = e;
+          all_read = λ c. absurd (let f : false ≡ true = c in cc f);
+          times = r.times;
+          worked = record {
+            front = a.0;
+            prefix = w.prefix;
+            waits = waiting_for d N P lines start.timeline.line.most a.0 run r.rests.most_is a.1;
+            begins = record { rest = []; is = sym (append-nil a.0) };
+          };
+        };
+      }
 
-  line_stops : (new : Progress) (line : Line) (halt : Halt) (g : List Part) → IsReported N P (plan_of d lines false) start.timeline.line.most (instances_of d lines) g run.account → IsWaiting P (plan_of d lines false) start.timeline.line.most (instances_of d lines) g → plan_lines Timed whole ≡ map Ok lines ++ Ok line ∷ behind → StopsInLine d N P lines start.timeline.line.most line new.account halt → StopsInText d N P start.timeline.line.most more whole piece new.account halt
-  line_stops new line Memory g ready w e s = tt
+  pub bad_stops : (fault : PlanFault) (out : List ℕ) (h : List Part) → plan_lines Timed whole ≡ map Ok lines ++ Err fault ∷ behind → IsPartOut Memory out run.account.report → ReadiedFor d N P [] h start → StopsInText d N P start.timeline.line.most more whole piece (left_by out run) (line_halt fault)
+  bad_stops (faults.NotLine n begin last) out h e o ready = none_next (faults.NotLine n begin last) (Other (BadLine n begin last)) h e refl tt ready
+  bad_stops (faults.LineTooLong n) out h e o ready = none_next (faults.LineTooLong n) (Other (LineTooLong n)) h e refl tt ready
+  bad_stops faults.Memory out h e o ready = cut_behind (Err faults.Memory ∷ behind) out Memory h e o ready
+
+  -- one comes in the next line, or on the way to it
+  cut_with : (line : Line) (out : List ℕ) (halt : Halt) (g : List Part) → IsReported N P (plan_of d lines false) start.timeline.line.most (instances_of d lines) g run.account → IsWaiting P (plan_of d lines false) start.timeline.line.most (instances_of d lines) g → plan_lines Timed whole ≡ map Ok lines ++ Ok line ∷ behind → IsCutShortIn d N P lines start.timeline.line.most line out halt → IsCutShortInText d N P start.timeline.line.most more whole out halt
+  cut_with line out halt g ready w e s =
+      let k = cut_worked d N P lines (line ∷ []) false start.timeline.line.most g run.account out halt ready w s.cut (is_begun (lines_meant d (lines ++ line ∷ []))) in
+      record {
+        reading = reading_of (lines ++ line ∷ []) false;
+        cut = k.cut;
+        played = record {
+          before = lines;
+          last = line ∷ [];
+          are = refl;
+          one = omega arith;
+          rest = behind;
+          read = e ∙ lines_then lines line behind;
+          all_read = λ c. absurd (let f : false ≡ true = c in cc f);
+          times = all_more HasValue lines line r.times s.value;
+          worked = k.worked;
+        };
+      }
+
+  line_stops : (new : Left) (line : Line) (halt : Halt) (g : List Part) → IsReported N P (plan_of d lines false) start.timeline.line.most (instances_of d lines) g run.account → IsWaiting P (plan_of d lines false) start.timeline.line.most (instances_of d lines) g → plan_lines Timed whole ≡ map Ok lines ++ Ok line ∷ behind → StopsInLine d N P lines start.timeline.line.most line new halt → StopsInText d N P start.timeline.line.most more whole piece new halt
+  line_stops new line Memory g ready w e s = cut_with line new.out Memory g ready w e s
+  line_stops new line WriteFault g ready w e s = cut_with line new.out WriteFault g ready w e s
   line_stops new line (Refused v) g ready w e (inl b) =
       let longest = waiting_longest d P lines start.timeline.line.most (instances_of d lines) b.history b.reported.prefix b.waits in
       record {
@@ -338,14 +482,36 @@ module _ (d : Pair) (N : Labels) (P : Problem) (start run : Progress) (lines : L
       }
 
   -- the next line halts the run
-  pub next_stops : (new : Progress) (line : Line) (halt : Halt) (h : List Part) → plan_lines Timed whole ≡ map Ok lines ++ Ok line ∷ behind → HaltsInLine d N P line run new halt → ReadiedFor d N P [] h start → StopsInText d N P start.timeline.line.most more whole piece new.account halt
+  pub next_stops : (new : Left) (line : Line) (halt : Halt) (h : List Part) → plan_lines Timed whole ≡ map Ok lines ++ Ok line ∷ behind → HaltsInLine d N P line run new halt → ReadiedFor d N P [] h start → StopsInText d N P start.timeline.line.most more whole piece new halt
   next_stops new line halt h e s ready =
       let a = r.ready h ready in
       line_stops new line halt a.0 (waiting_report d N P lines start.timeline.line.most a.0 run r.rests.can r.rests.most_is a.1)
       (waiting_for d N P lines start.timeline.line.most a.0 run r.rests.most_is a.1) e
-      (subst (λ m. StopsInLine d N P lines m line new.account halt) r.rests.most_is (s.stops lines a.0 a.1))
+      (subst (λ m. StopsInLine d N P lines m line new halt) r.rests.most_is (s.stops lines a.0 a.1))
 
 -- ---- all lines are worked
+
+pub end_cut : (d : Pair) (N : Labels) (P : Problem) (most : ℕ) (text : List ℕ) (lines : List Line) (out : List ℕ) (halt : Halt) → plan_lines Timed text ≡ map Ok lines → All HasValue lines → IsWorkedOut d N P most lines → IsCutShort N P (plan_of d lines true) most (instances_of d lines) out halt → IsCutShortInText d N P most false text out halt
+end_cut d N P most text lines out halt said times g s =
+    let k : IsCutBehind d N P (plan_of d lines true) most (instances_of d lines) lines out halt =
+    subst (λ (ls : List Line). IsCutBehind d N P (plan_of d ls true) most (instances_of d ls) lines out halt) (append-nil lines)
+    (cut_worked d N P lines [] true most g.history g.account out halt g.reported g.waits
+    (subst (λ (ls : List Line). IsCutShort N P (plan_of d ls true) most (instances_of d ls) out halt) (sym (append-nil lines)) s) (inl (inr refl))) in
+    record {
+      reading = reading_of lines true;
+      cut = k.cut;
+      played = record {
+        before = lines;
+        last = [];
+        are = sym (append-nil lines);
+        one = omega arith;
+        rest = [];
+        read = said ∙ sym (append-nil (map Ok lines));
+        all_read = λ c. (refl, refl, refl);
+        times = times;
+        worked = k.worked;
+      };
+    }
 
 module _ (d : Pair) (N : Labels) (P : Problem) (text : List ℕ) (old mid : Progress) (lines : List Line) (r : HasPlayed d N P lines old mid) (said : plan_lines Timed text ≡ map Ok lines) where
   end_worked : (g h : List Part) (v : Verdict Frac64) → IsReported N P (plan_of d lines false) old.timeline.line.most (instances_of d lines) g mid.account → IsWaiting P (plan_of d lines false) old.timeline.line.most (instances_of d lines) g → Prefix P (plan_of d lines true) h → Stands P (plan_of d lines true) old.timeline.line.most (instances_of d lines) h v → AreWorked d P old.timeline.line.most lines h
@@ -354,9 +520,12 @@ module _ (d : Pair) (N : Labels) (P : Problem) (text : List ℕ) (old mid : Prog
       (subst (λ (ls : List Line). Prefix P (plan_of d ls true) h) (sym (append-nil lines)) p)
       (subst (λ (ls : List Line). Stands P (plan_of d ls true) old.timeline.line.most (instances_of d ls) h v) (sym (append-nil lines)) s) (inl (inr refl))
 
-  end_stops : (account : Account) (halt : Halt) (g : List Part) → IsReported N P (plan_of d lines false) old.timeline.line.most (instances_of d lines) g mid.account → IsWaiting P (plan_of d lines false) old.timeline.line.most (instances_of d lines) g → StopsOnWay N P (plan_of d lines true) old.timeline.line.most (instances_of d lines) account halt → StopsInText d N P old.timeline.line.most false text [] account halt
-  end_stops account Memory g ready w s = tt
-  end_stops account (Refused v) g ready w s = record {
+  end_stops : (new : Left) (halt : Halt) (g : List Part) → IsReported N P (plan_of d lines false) old.timeline.line.most (instances_of d lines) g mid.account → IsWaiting P (plan_of d lines false) old.timeline.line.most (instances_of d lines) g → StopsOnWay N P (plan_of d lines true) old.timeline.line.most (instances_of d lines) new halt → StopsInText d N P old.timeline.line.most false text [] new halt
+  end_stops new Memory g ready w s =
+      end_cut d N P old.timeline.line.most text lines new.out Memory said r.times (record { history = g; account = mid.account; reported = ready; waits = w }) s
+  end_stops new WriteFault g ready w s =
+      end_cut d N P old.timeline.line.most text lines new.out WriteFault said r.times (record { history = g; account = mid.account; reported = ready; waits = w }) s
+  end_stops new (Refused v) g ready w s = record {
     refusal = record {
       before = lines;
       rest = [];
@@ -376,12 +545,12 @@ module _ (d : Pair) (N : Labels) (P : Problem) (text : List ℕ) (old mid : Prog
   }
 
   -- the text is at its end
-  pub halts_after_all : (new : Progress) (halt : Halt) (h : List Part) → HaltsAtEnd N P mid new halt → ReadiedFor d N P [] h old → StopsInText d N P old.timeline.line.most false text [] new.account halt
+  pub halts_after_all : (new : Left) (halt : Halt) (h : List Part) → HaltsAtEnd N P mid new halt → ReadiedFor d N P [] h old → StopsInText d N P old.timeline.line.most false text [] new halt
   halts_after_all new halt h s ready =
       let a = r.ready h ready in
-      end_stops new.account halt a.0 (waiting_report d N P lines old.timeline.line.most a.0 mid r.rests.can r.rests.most_is a.1)
+      end_stops new halt a.0 (waiting_report d N P lines old.timeline.line.most a.0 mid r.rests.can r.rests.most_is a.1)
       (waiting_for d N P lines old.timeline.line.most a.0 mid r.rests.most_is a.1)
-      (subst (λ m. StopsOnWay N P (plan_of d lines true) m (instances_of d lines) new.account halt) r.rests.most_is (s.stops (plan_of d lines false) (instances_of d lines) a.0 a.1))
+      (subst (λ m. StopsOnWay N P (plan_of d lines true) m (instances_of d lines) new halt) r.rests.most_is (s.stops (plan_of d lines false) (instances_of d lines) a.0 a.1))
 
   -- the text goes on behind a piece of a line
   pub cut_stops : (piece : List ℕ) (v : Verdict Frac64) (h : List Part) → v ≡ Other (cut_verdict (length lines + 1) (length piece)) → ReadiedFor d N P [] h old → IsStoppedInText d N P old.timeline.line.most true text piece mid.account v

@@ -23,7 +23,8 @@ use Rattle.plus_validator.specs.Streaming.{IsPlayedFrom}
 use Rattle.plus_validator.specs.Judged.{IsPlain, IsJudged, SumsUp, Concludes, told, broken, no_memory}
 use Rattle.plus_validator.specs.Validates.{Accepts, Refuses, BreaksOff, IsWhole, RefusesPair, RefusesPairInPart, IsRefusal, IsRefusedIn, EndsUngrounded}
 use Rattle.plus_validator.proofs.Judging.{judged_told, sums_plain}
-use Rattle.plus_validator.proofs.Leaving.{took_both, took_part_behind}
+use Rattle.plus_validator.proofs.Handing.{took_both, took_part_behind}
+use Rattle.plus_validator.proofs.Leaving.{leaves_played}
 
 -- a fact for the bytes under a name
 some_fact : {A : Type 0} (o : Option A) (P Q : A → Type 0) → ((x : A) → P x → Q x) → IfSome o P → IfSome o Q
@@ -97,14 +98,10 @@ judged_memory o p e = subst IsPlain e p
 pub judged_writes : (o : Outcome) → IsPlain o → o ≡ WriteFault → ⊥
 judged_writes o p e = subst IsPlain e p
 
--- a count that rose later rose
-pub rose_since : (a b n : ℕ) → a ≤ b → Rose b n → Rose a n
-rose_since a b n l r = grind arith
-
 -- ---- the plan is played, and what is left is written
 
 module _ (d : Domain) (p : Problem) (N : Labels) (P : terms.Problem) (most : ℕ) (bytes : Option (List ℕ)) (first : Progress) (run : Run) (played : Result (Unit {0}) Halt) (old mid : Option (List ℕ))
-    (z : IsGroundable IsFrac64 d p) (e : P ≡ expanded d p) (n : N ≡ labels_meant d p) (b : Begins N P most first) (f : IsPlayedFrom d p N P most bytes first run old mid played) (fits : IfErr played (HaltFits P)) where
+    (z : IsGroundable IsFrac64 d p) (e : P ≡ expanded d p) (n : N ≡ labels_meant d p) (b : Begins N P most first) (f : IsPlayedFrom d p N P bytes first run old mid played) (fits : IfErr played (HaltFits P)) where
   module _ (j : Judgement) (u : SumsUp N P run played j) where
     judged_here : IfSome bytes (λ text. IsJudged d p most text (f.sent ++ j.bytes.items) j)
     judged_here = judged_told d p N P most bytes first f.sent run z j played e n b f.out fits u
@@ -142,4 +139,4 @@ module _ (d : Domain) (p : Problem) (N : Labels) (P : terms.Problem) (most : ℕ
     pub ends_wanting : Ended → outcome ≡ NoMemory → LeavesReport d p most bytes old new
     ends_wanting (told j u o t) h = absurd (judged_memory j.outcome (sums_plain N P run played j u) (sym o ∙ h))
     ends_wanting (broken j u o r t) h = absurd (let k : WriteFault ≡ NoMemory = sym o ∙ h in cc k)
-    ends_wanting (no_memory o same) h = subst (LeavesReport d p most bytes old) (sym same) f.so_far
+    ends_wanting (no_memory o same) h = subst (LeavesReport d p most bytes old) (sym same) (leaves_played d p N P most first z e n b bytes f.sent run played old mid fits f.took f.out)

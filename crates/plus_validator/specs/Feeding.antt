@@ -2,7 +2,6 @@
 use Rattle.std.specs.Prelude.{◌≡◌, ℕ, ◌≤◌, Bool, true, false, List, [], ◌++◌, length, All, None, Result, Ok, Err}
 use Rattle.plus_model.specs.Terms.{Problem}
 use Rattle.plus_model.specs.History.{Part}
-use Rattle.plus_number.specs.declared.frac.Frac64.{Frac64}
 use Rattle.plus_numbering.specs.declared.numbering.Numbering.{Numbering}
 use Rattle.plus_state.specs.View.{Labels}
 use Rattle.plus_plan.specs.declared.forms.Line.{Line}
@@ -11,16 +10,16 @@ use Rattle.plus_plan.specs.Given.{HasGiven}
 use Rattle.plus_plan.specs.Pending.{Pending}
 use Rattle.plus_plan.specs.Pieces.{fresh, IsIdle}
 use Rattle.plus_instances.specs.Made.{AreMade}
-use Rattle.plus_report.specs.declared.verdicts.Verdict.{Verdict}
 use Rattle.plus_validator.specs.declared.feed.Feed.{Feed}
 use Rattle.plus_validator.specs.declared.halt.Halt.{Halt}
-use Rattle.plus_validator.specs.declared.halt.Halt.TheVariants.{Refused, Memory}
-use Rattle.plus_validator.specs.Account.{Account, Progress, progress}
+use Rattle.plus_validator.specs.declared.run.Run.{Run}
+use Rattle.plus_validator.specs.Account.{Progress, progress}
+use Rattle.plus_validator.specs.Handing.{Left, left}
 use Rattle.plus_validator.specs.Limits.{text_limit}
 use Rattle.plus_validator.specs.Plans.{Pair, HasValue}
 use Rattle.plus_validator.specs.Playing.{ReadiedFor, IsResting, Begins, PlaysAll}
 use Rattle.plus_validator.specs.Refused.{WholeLines}
-use Rattle.plus_validator.specs.Stopped.{IsStoppedInText}
+use Rattle.plus_validator.specs.Stopped.{IsWorkedOut, StopsInText}
 use Rattle.plus_validator.specs.Validates.{IsRead}
 
 -- A plan that is played as its text comes: how far it is played, and what the reader of its lines holds.
@@ -71,26 +70,22 @@ pub record IsReadOf (bytes text : List ℕ) (ended : Bool) : Type 0 where
   pub within : length text ≤ text_limit
   pub all : ended ≡ true → behind ≡ []
 
--- the plan text that stands in these bytes is refused, and the report is that of the history before
-pub record IsStoppedOn (d : Pair) (N : Labels) (P : Problem) (most : ℕ) (bytes : List ℕ) (account : Account) (v : Verdict Frac64) : Type 0 where
+-- the run halts in the plan text that stands in these bytes
+pub record StopsOn (d : Pair) (N : Labels) (P : Problem) (most : ℕ) (bytes : List ℕ) (new : Left) (halt : Halt) : Type 0 where
   pub text : List ℕ
   pub goes_on : Bool
   pub read : IsRead bytes text goes_on
   pub whole : List ℕ
   pub piece : List ℕ
   pub cut : WholeLines goes_on text whole piece
-  pub stopped : IsStoppedInText d N P most goes_on whole piece account v
+  pub stopped : StopsInText d N P most goes_on whole piece new halt
 
-abbrev pub StopsOn : Pair → Labels → Problem → ℕ → List ℕ → Account → Halt → Type 0
-StopsOn d N P most bytes account (Refused v) = IsStoppedOn d N P most bytes account v
-StopsOn d N P most bytes account Memory = Unit {0}
-
--- the run halts in the plan text that stands in these bytes
-pub record HaltsWith (d : Pair) (N : Labels) (P : Problem) (bytes : List ℕ) (first new : Progress) (halt : Halt) : Type 0 where
-  pub stops : (h : List Part) → ReadiedFor d N P [] h first → StopsOn d N P first.timeline.line.most bytes new.account halt
+-- so it does, from where it began
+pub record HaltsWith (d : Pair) (N : Labels) (P : Problem) (bytes : List ℕ) (first : Progress) (new : Left) (halt : Halt) : Type 0 where
+  pub stops : (h : List Part) → ReadiedFor d N P [] h first → StopsOn d N P first.timeline.line.most bytes new halt
 
 -- it halts in this text, whatever stands behind it
-pub record HaltsOn (d : Pair) (N : Labels) (P : Problem) (text : List ℕ) (ended : Bool) (first new : Progress) (halt : Halt) : Type 0 where
+pub record HaltsOn (d : Pair) (N : Labels) (P : Problem) (text : List ℕ) (ended : Bool) (first : Progress) (new : Left) (halt : Halt) : Type 0 where
   pub halts : (bytes : List ℕ) → IsReadOf bytes text ended → HaltsWith d N P bytes first new halt
 
 -- this piece of a text is played, where the text with it is within the limit
@@ -100,7 +95,7 @@ pub record Feeds (d : Pair) (N : Labels) (P : Problem) (piece : List ℕ) (old n
       → IsFed d N P (text ++ piece) first new
 
 -- the run halts in this piece
-pub record HaltsFeeding (d : Pair) (N : Labels) (P : Problem) (piece : List ℕ) (old : Course) (new : Progress) (halt : Halt) : Type 0 where
+pub record HaltsFeeding (d : Pair) (N : Labels) (P : Problem) (piece : List ℕ) (old : Course) (new : Left) (halt : Halt) : Type 0 where
   pub halts :
       (text : List ℕ) (first : Progress) → IsFed d N P text first old → length (text ++ piece) ≤ text_limit
       → HaltsOn d N P (text ++ piece) old.reader.closed first new halt
@@ -111,6 +106,7 @@ pub record HaltsFeeding (d : Pair) (N : Labels) (P : Problem) (piece : List ℕ)
 pub record PlaysText (d : Pair) (N : Labels) (P : Problem) (bytes : List ℕ) (first new : Progress) : Type 0 where
   pub within : length bytes ≤ text_limit
   pub plays : PlaysAll d N P bytes first new
+  pub works : (h : List Part) → ReadiedFor d N P [] h first → IsWorkedOut d N P first.timeline.line.most plays.lines
 
 pub record EndsFeeding (d : Pair) (N : Labels) (P : Problem) (old : Course) (new : Progress) : Type 0 where
   pub ends :
@@ -118,12 +114,12 @@ pub record EndsFeeding (d : Pair) (N : Labels) (P : Problem) (old : Course) (new
       → PlaysText d N P text first new
 
 -- or the run halts
-pub record HaltsEnding (d : Pair) (N : Labels) (P : Problem) (old : Course) (new : Progress) (halt : Halt) : Type 0 where
+pub record HaltsEnding (d : Pair) (N : Labels) (P : Problem) (old : Course) (new : Left) (halt : Halt) : Type 0 where
   pub halts :
       (text : List ℕ) (first : Progress) → IsFed d N P text first old → length text ≤ text_limit
       → HaltsWith d N P text first new halt
 
--- the plan text that stands in these bytes is played, or the run halts in it
-abbrev pub IsPlayedOut : Pair → Labels → Problem → List ℕ → Progress → Progress → Result (Unit {0}) Halt → Type 0
-IsPlayedOut d N P bytes first new (Ok u) = PlaysText d N P bytes first new
-IsPlayedOut d N P bytes first new (Err halt) = HaltsWith d N P bytes first new halt
+-- the plan text that stands in these bytes is played, or the run halts in it; these first bytes of its report are handed on
+abbrev pub IsPlayedOut : Pair → Labels → Problem → List ℕ → Progress → List ℕ → Run → Result (Unit {0}) Halt → Type 0
+IsPlayedOut d N P bytes first sent new (Ok u) = PlaysText d N P bytes first (progress sent new)
+IsPlayedOut d N P bytes first sent new (Err halt) = HaltsWith d N P bytes first (left sent new) halt

@@ -1,5 +1,6 @@
 -- Which verdict a refusal is.
 use Rattle.std.specs.Prelude.{◌≡◌, ℕ, List}
+use Rattle.plus_io.specs.Faults.{Rose}
 use Rattle.plus_model.specs.Terms.{Problem}
 use Rattle.plus_state.specs.declared.outcome.Breach.TheVariants as breaches
 use Rattle.plus_ground.specs.declared.faults.InstanceFault.{InstanceFault}
@@ -17,7 +18,7 @@ use Rattle.plus_report.specs.declared.refusals.Kinds.TheVariants as kinds
 use Rattle.plus_report.specs.declared.refusals.Text.TheVariants as texts
 use Rattle.plus_report.specs.Verdicts.{BreachFits, LimitFits}
 use Rattle.plus_validator.specs.declared.halt.Halt.{Halt}
-use Rattle.plus_validator.specs.declared.halt.Halt.TheVariants.{Refused, Memory}
+use Rattle.plus_validator.specs.declared.halt.Halt.TheVariants.{Refused, Memory, WriteFault}
 
 -- by a refusal of its timeline; one that has ended is not called again
 abbrev pub stop_halt : Stop Frac64 → Halt
@@ -31,16 +32,23 @@ line_halt (faults.NotLine n start last) = Refused (Other (BadLine n start last))
 line_halt (faults.LineTooLong n) = Refused (Other (LineTooLong n))
 line_halt faults.Memory = Memory
 
--- it is a refusal, and the ids that it names are those of the problem
+-- it is a refusal whose ids are those of the problem, or want of memory
 abbrev pub NamesOf : Problem → Halt → Type 0
 NamesOf P (Refused Valid) = ⊥
 NamesOf P (Refused (Invalid breach)) = BreachFits P breach
 NamesOf P (Refused (Beyond limit)) = LimitFits P limit
 NamesOf P (Refused (Other early)) = Unit {0}
 NamesOf P Memory = Unit {0}
+NamesOf P WriteFault = ⊥
 
 pub record HaltFits (P : Problem) (halt : Halt) : Type 0 where
   pub names : NamesOf P halt
+
+-- so it is, or the sink failed between these counts of its faults
+abbrev pub HasCause : Problem → ℕ → ℕ → Halt → Type 0
+HasCause P before now (Refused v) = HaltFits P (Refused v)
+HasCause P before now Memory = HaltFits P Memory
+HasCause P before now WriteFault = Rose before now
 
 -- the verdict on the call of a line: its number and the name where it names no action, else which limit its instance is over
 abbrev pub CallVerdict : InstanceFault → ℕ → List ℕ → Verdict Frac64 → Type 0
@@ -53,3 +61,4 @@ CallVerdict instances.Memory line name v = ⊥
 abbrev pub CallHalts : InstanceFault → ℕ → List ℕ → Halt → Type 0
 CallHalts fault line name (Refused v) = CallVerdict fault line name v
 CallHalts fault line name Memory = Unit {0}
+CallHalts fault line name WriteFault = ⊥

@@ -12,7 +12,7 @@ use Rattle.plus_report.specs.declared.verdicts.Verdict.{Verdict}
 use Rattle.plus_report.specs.declared.verdicts.Verdict.TheVariants.{Valid}
 use Rattle.plus_report.specs.Verdicts.{verdict_text}
 use Rattle.plus_validator.specs.declared.halt.Halt.{Halt}
-use Rattle.plus_validator.specs.declared.halt.Halt.TheVariants.{Refused, Memory}
+use Rattle.plus_validator.specs.declared.halt.Halt.TheVariants.{Refused, Memory, WriteFault}
 use Rattle.plus_validator.specs.declared.judgement.Judgement.{Judgement}
 use Rattle.plus_validator.specs.declared.judge.Outcome.{Outcome}
 use Rattle.plus_validator.specs.declared.judge.Outcome.TheVariants as outcomes
@@ -27,6 +27,7 @@ abbrev pub GivesVerdict : Result (Unit {0}) Halt → Verdict Frac64 → Type 0
 GivesVerdict (Ok u) v = v ≡ Valid
 GivesVerdict (Err (Refused w)) v = v ≡ w
 GivesVerdict (Err Memory) v = ⊥
+GivesVerdict (Err WriteFault) v = ⊥
 
 -- what is said of a plan that was played so: its verdict, what is kept of the report with the verdict's line, and what is counted
 pub record SumsUp (N : Labels) (P : Problem) (run : Run) (played : Result (Unit {0}) Halt) (j : Judgement) : Type 0 where

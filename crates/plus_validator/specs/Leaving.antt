@@ -1,5 +1,5 @@
--- What the check of a plan leaves written where it stops before the plan is judged: the report of the lines read so far.
-use Rattle.std.specs.Prelude.{◌≡◌, ◌⊎◌, ℕ, ◌≤◌, false, List, map, All, Option, None, IfSome, Ok}
+-- What the check of a plan leaves written where it stops before the plan is judged: what the lines read so far tell.
+use Rattle.std.specs.Prelude.{◌≡◌, ◌⊎◌, ℕ, ◌≤◌, Bool, false, List, map, All, Option, None, IfSome, Ok}
 use Rattle.plus_io.specs.Files.{Takes, IsPrefix}
 use Rattle.plus_io.specs.Taken.{Took, TookPart}
 use Rattle.plus_model.specs.Terms.{Problem}
@@ -16,9 +16,9 @@ use Rattle.plus_expansion.specs.Expansion.{expanded, labels_meant}
 use Rattle.plus_expansion.specs.Counting.{IsGroundable}
 use Rattle.plus_report.specs.Report.{report_of}
 use Rattle.plus_validator.specs.Asking.{entries_of, instances_of, IsClear}
-use Rattle.plus_validator.specs.Plans.{Pair, pair, plan_of, HasValue}
-use Rattle.plus_validator.specs.Refused.{IsWaiting, IsCut}
-use Rattle.plus_validator.specs.Validates.{BreaksOff}
+use Rattle.plus_validator.specs.Plans.{Pair, pair, plan_of, Reading, plan_in, HasValue}
+use Rattle.plus_validator.specs.Refused.{IsWaiting, IsPlayedOn, IsCut, WholeLines}
+use Rattle.plus_validator.specs.Validates.{IsRead, BreaksOff}
 
 -- All whole lines of this text are played: each is a line, all are worked in one history, nothing that is asked before fails,
 -- and this is the history's report.
@@ -50,15 +50,48 @@ pub data StopsReading (d : Domain) (p : tree.Problem) (most : ℕ) (bytes picked
       (read report : List ℕ) → Takes bytes rest read → TellsSoFar d p most read report → Took old new report
       → StopsReading d p most bytes picked rest old new
 
--- ---- memory is wanting
-
 -- the sink took the report for a beginning of the plan text
-pub record TookSoFar (d : Domain) (p : tree.Problem) (most : ℕ) (text : List ℕ) (old new : Option (List ℕ)) : Type 0 where
+pub record TookLines (d : Domain) (p : tree.Problem) (most : ℕ) (text : List ℕ) (old new : Option (List ℕ)) : Type 0 where
   pub read : List ℕ
   pub begins : IsPrefix read text
   pub report : List ℕ
   pub told : TellsSoFar d p most read report
   pub took : Took old new report
+
+-- ---- on the way that a line tells
+
+-- The first lines of the plan text that stands in these bytes are played, or all, and then its end may be: those before the last
+-- are worked in one history, which may stop on the way that the last tells; nothing that is asked before fails, and this is the
+-- history's report.
+pub record IsToldOnWay (d : Pair) (N : Labels) (P : Problem) (most : ℕ) (bytes report : List ℕ) : Type 0 where
+  pub groundable : IsGroundable IsFrac64 d.domain d.problem
+  pub text : List ℕ
+  pub goes_on : Bool
+  pub within : IsRead bytes text goes_on
+  pub whole : List ℕ
+  pub piece : List ℕ
+  pub cut : WholeLines goes_on text whole piece
+  pub reading : Reading
+  pub history : List Part
+  pub played : IsPlayedOn d P most goes_on whole reading history
+  pub prefix : Prefix P (plan_in d reading) history
+  pub few : entries_of history ≤ most
+  pub clear : IsClear P (plan_in d reading) most (instances_of d reading.lines) history
+  pub written : report ≡ report_of N P (plan_in d reading) history
+
+-- that of a pair
+abbrev pub TellsOnWay : Domain → tree.Problem → ℕ → List ℕ → List ℕ → Type 0
+TellsOnWay d p most bytes report = IsToldOnWay (pair d p) (labels_meant d p) (expanded d p) most bytes report
+
+-- ---- memory is wanting
+
+-- the sink took first bytes of such a report, and these may be all
+pub record TookSoFar (d : Domain) (p : tree.Problem) (most : ℕ) (text : List ℕ) (old new : Option (List ℕ)) : Type 0 where
+  pub report : List ℕ
+  pub told : TellsOnWay d p most text report
+  pub out : List ℕ
+  pub begins : IsPrefix out report
+  pub took : Took old new out
 
 -- or nothing
 abbrev pub LeavesReport : Domain → tree.Problem → ℕ → Option (List ℕ) → Option (List ℕ) → Option (List ℕ) → Type 0
@@ -66,12 +99,10 @@ LeavesReport d p most bytes old new = (new ≡ old) ⊎ IfSome bytes (λ text. T
 
 -- ---- the sink fails
 
--- it took some first bytes of the report for a beginning of the plan text, and not all
+-- it took first bytes of such a report, and not all
 pub record BreaksOffSoFar (d : Domain) (p : tree.Problem) (most : ℕ) (text : List ℕ) (old new : Option (List ℕ)) : Type 0 where
-  pub read : List ℕ
-  pub begins : IsPrefix read text
   pub report : List ℕ
-  pub told : TellsSoFar d p most read report
+  pub told : TellsOnWay d p most text report
   pub part : TookPart old new report
 
 -- so it is, or it took all that is due before the end of the plan text, and then a part

@@ -2,6 +2,7 @@ pub mod Plans
 pub mod Limits
 pub mod Asking
 pub mod Account
+pub mod Handing
 pub mod Fires
 pub mod Accepted
 pub mod Standing

@@ -143,6 +143,19 @@ pub record AreWorked (d : Pair) (P : Problem) (most : ℕ) (lines : List Line) (
   pub waits : IsWaiting P (plan_of d lines false) most (instances_of d lines) front
   pub begins : Begins front h
 
+-- Of the whole lines of a text the first are played, or all, and then its end may be: those before the last are worked in a
+-- beginning of the history, and so is the last unless the history stops on the way that it tells.
+pub record IsPlayedOn (d : Pair) (P : Problem) (most : ℕ) (goes_on : Bool) (whole : List ℕ) (reading : Reading) (h : List Part) : Type 0 where
+  pub before : List Line  -- those that are worked
+  pub last : List Line
+  pub are : reading.lines ≡ before ++ last
+  pub one : length last ≤ 1
+  pub rest : List (Result Line PlanFault)
+  pub read : plan_lines Timed whole ≡ map Ok reading.lines ++ rest
+  pub all_read : reading.closed ≡ true → (last ≡ []) × (rest ≡ []) × (goes_on ≡ false)
+  pub times : All HasValue reading.lines
+  pub worked : AreWorked d P most before h
+
 -- the lines before are worked, the next has its place and its time, and then a breach or a limit stands on the way to it or
 -- in it
 pub record IsStopped (d : Pair) (P : Problem) (most : ℕ) (before : List Line) (line : Line) (reading : Reading) (h : List Part) (v : Verdict Frac64) : Type 0 where

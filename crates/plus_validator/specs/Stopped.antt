@@ -14,17 +14,18 @@ use Rattle.plus_plan.specs.TimeValue.{value_of}
 use Rattle.plus_report.specs.declared.verdicts.Verdict.{Verdict}
 use Rattle.plus_report.specs.Report.{called_label}
 use Rattle.plus_validator.specs.declared.halt.Halt.{Halt}
-use Rattle.plus_validator.specs.declared.halt.Halt.TheVariants.{Refused, Memory}
+use Rattle.plus_validator.specs.declared.halt.Halt.TheVariants.{Refused, Memory, WriteFault}
 use Rattle.plus_stretch.specs.Tests.{Test}
 use Rattle.plus_validator.specs.Asking.{entries_of, call_tests, instances_of, IsClear}
-use Rattle.plus_validator.specs.Plans.{Pair, line_meant, plan_of, plan_in, HasTime, HasValue}
+use Rattle.plus_validator.specs.Plans.{Pair, line_meant, plan_of, Reading, plan_in, HasTime, HasValue}
 use Rattle.plus_tree.specs.declared.trees.Call.{Call}
 use Rattle.plus_expansion.specs.Calls.{called_of}
 use Rattle.plus_validator.specs.Account.{Account, Progress, account_of}
+use Rattle.plus_validator.specs.Handing.{Left, IsPartOut}
 use Rattle.plus_validator.specs.Standing.{IsReached}
 use Rattle.plus_validator.specs.Running.{IsOnWay}
 use Rattle.plus_validator.specs.Playing.{Readied, ReadiedFor, closed}
-use Rattle.plus_validator.specs.Refused.{Stands, NamesLine, NamesNoLine, IsWaiting, number_in, TimeFault, Refusal}
+use Rattle.plus_validator.specs.Refused.{Stands, NamesLine, NamesNoLine, IsWaiting, IsPlayedOn, number_in, TimeFault, Refusal}
 
 -- the report is that of a history of the plan, before which all that is asked passes
 pub record IsReported (N : Labels) (P : Problem) (L : Plan) (most : ℕ) (instance : ℕ → List Test) (h : List Part) (account : Account) : Type 0 where
@@ -39,27 +40,42 @@ pub record IsStoppedAt (N : Labels) (P : Problem) (L : Plan) (most : ℕ) (insta
   pub reported : IsReported N P L most instance history account
   pub stands : Stands P L most instance history v
 
+-- a fault: what is out is a first part of the report of a history of the plan, before which all that is asked passes
+pub record IsCutShort (N : Labels) (P : Problem) (L : Plan) (most : ℕ) (instance : ℕ → List Test) (out : List ℕ) (halt : Halt) : Type 0 where
+  pub history : List Part
+  pub account : Account
+  pub reported : IsReported N P L most instance history account
+  pub part : IsPartOut halt out account.report
+
+-- these lines are worked in a history, before which all that is asked passes
+pub record IsWorkedOut (d : Pair) (N : Labels) (P : Problem) (most : ℕ) (lines : List Line) : Type 0 where
+  pub history : List Part
+  pub account : Account
+  pub reported : IsReported N P (plan_of d lines false) most (instances_of d lines) history account
+  pub waits : IsWaiting P (plan_of d lines false) most (instances_of d lines) history
+
 -- ---- on the way to a time
 
 pub record IsStoppedOnWay (N : Labels) (P : Problem) (L : Plan) (most : ℕ) (instance : ℕ → List Test) (account : Account) (v : Verdict Frac64) : Type 0 where
   pub stopped : IsStoppedAt N P L most instance account v
   pub names : NamesNoLine v
 
-abbrev pub StopsOnWay : Labels → Problem → Plan → ℕ → (ℕ → List Test) → Account → Halt → Type 0
-StopsOnWay N P L most instance account (Refused v) = IsStoppedOnWay N P L most instance account v
-StopsOnWay N P L most instance account Memory = Unit {0}
+abbrev pub StopsOnWay : Labels → Problem → Plan → ℕ → (ℕ → List Test) → Left → Halt → Type 0
+StopsOnWay N P L most instance new (Refused v) = IsStoppedOnWay N P L most instance new.account v
+StopsOnWay N P L most instance new Memory = IsCutShort N P L most instance new.out Memory
+StopsOnWay N P L most instance new WriteFault = IsCutShort N P L most instance new.out WriteFault
 
 -- the run halts on its way to the time u
-pub record HaltsOnWay (N : Labels) (P : Problem) (u : Fraction) (old new : Progress) (halt : Halt) : Type 0 where
+pub record HaltsOnWay (N : Labels) (P : Problem) (u : Fraction) (old : Progress) (new : Left) (halt : Halt) : Type 0 where
   pub stops :
       (L : Plan) (instance : ℕ → List Test) (acted : ℕ) (h : List Part) → HasBegun L → IsOnWay N P L instance u acted h old
-      → StopsOnWay N P L old.timeline.line.most instance new.account halt
+      → StopsOnWay N P L old.timeline.line.most instance new halt
 
 -- the run halts at the end of the text
-pub record HaltsAtEnd (N : Labels) (P : Problem) (old new : Progress) (halt : Halt) : Type 0 where
+pub record HaltsAtEnd (N : Labels) (P : Problem) (old : Progress) (new : Left) (halt : Halt) : Type 0 where
   pub stops :
       (L : Plan) (instance : ℕ → List Test) (h : List Part) → Readied N P L instance h old
-      → StopsOnWay N P (closed L) old.timeline.line.most instance new.account halt
+      → StopsOnWay N P (closed L) old.timeline.line.most instance new halt
 
 -- ---- in a line
 
@@ -68,21 +84,23 @@ pub record IsStoppedIn (N : Labels) (P : Problem) (L : Plan) (most : ℕ) (insta
   pub stopped : IsStoppedAt N P L most instance account v
   pub names : NamesLine n (called_label (next_line L (view_of P stopped.history))) v
 
-abbrev pub StopsIn : Labels → Problem → Plan → ℕ → (ℕ → List Test) → ℕ → Account → Halt → Type 0
-StopsIn N P L most instance n account (Refused v) = IsStoppedIn N P L most instance n account v
-StopsIn N P L most instance n account Memory = Unit {0}
+abbrev pub StopsIn : Labels → Problem → Plan → ℕ → (ℕ → List Test) → ℕ → Left → Halt → Type 0
+StopsIn N P L most instance n new (Refused v) = IsStoppedIn N P L most instance n new.account v
+StopsIn N P L most instance n new Memory = IsCutShort N P L most instance new.out Memory
+StopsIn N P L most instance n new WriteFault = IsCutShort N P L most instance new.out WriteFault
 
 -- the run halts at the action that is due, which line n calls
-pub record HaltsInAct (d : Pair) (N : Labels) (P : Problem) (n : ℕ) (call : Call) (old new : Progress) (halt : Halt) : Type 0 where
+pub record HaltsInAct (d : Pair) (N : Labels) (P : Problem) (n : ℕ) (call : Call) (old : Progress) (new : Left) (halt : Halt) : Type 0 where
   pub stops :
       (L : Plan) (instance : ℕ → List Test) (h : List Part) → HasBegun L → instance old.timeline.line.now.acted ≡ call_tests d call
       → IsReached N P L instance old.timeline.line.now.acted old.timeline.line.now.time h old.timeline.line old.account
       → next_line L old.timeline.line.now ≡ Some (ActLine old.timeline.line.now.time (called_of d.domain d.problem call.name call.args))
-      → StopsIn N P L old.timeline.line.most instance n new.account halt
+      → StopsIn N P L old.timeline.line.most instance n new halt
 
 abbrev pub TimeHalts : Problem → Plan → List Part → ℕ → model.Line → Time → Halt → Type 0
 TimeHalts P L h n meant time (Refused v) = TimeFault P L h n meant time v
-TimeHalts P L h n meant time Memory = Unit {0}
+TimeHalts P L h n meant time Memory = ⊥
+TimeHalts P L h n meant time WriteFault = ⊥
 
 -- a line with this number and this time cannot be played
 pub record HaltsAtMoment (n : ℕ) (time : Time) (run : Progress) (halt : Halt) : Type 0 where
@@ -107,16 +125,22 @@ pub record IsStoppedBehind (d : Pair) (N : Labels) (P : Problem) (ls : List Line
   pub value : HasValue line
   pub stopped : IsStoppedIn N P (plan_of d (ls ++ line ∷ []) false) most (instances_of d (ls ++ line ∷ [])) (number_in line) account v
 
-abbrev pub StopsInLine : Pair → Labels → Problem → List Line → ℕ → Line → Account → Halt → Type 0
-StopsInLine d N P ls most line account (Refused v) =
-    IsStoppedBefore d N P ls most line account v ⊎ IsStoppedBehind d N P ls most line account v
-StopsInLine d N P ls most line account Memory = Unit {0}
+-- so it is, and a fault comes
+pub record IsCutShortIn (d : Pair) (N : Labels) (P : Problem) (ls : List Line) (most : ℕ) (line : Line) (out : List ℕ) (halt : Halt) : Type 0 where
+  pub value : HasValue line
+  pub cut : IsCutShort N P (plan_of d (ls ++ line ∷ []) false) most (instances_of d (ls ++ line ∷ [])) out halt
+
+abbrev pub StopsInLine : Pair → Labels → Problem → List Line → ℕ → Line → Left → Halt → Type 0
+StopsInLine d N P ls most line new (Refused v) =
+    IsStoppedBefore d N P ls most line new.account v ⊎ IsStoppedBehind d N P ls most line new.account v
+StopsInLine d N P ls most line new Memory = IsCutShortIn d N P ls most line new.out Memory
+StopsInLine d N P ls most line new WriteFault = IsCutShortIn d N P ls most line new.out WriteFault
 
 -- the run halts at a line, or on its way to it
-pub record HaltsInLine (d : Pair) (N : Labels) (P : Problem) (line : Line) (old new : Progress) (halt : Halt) : Type 0 where
+pub record HaltsInLine (d : Pair) (N : Labels) (P : Problem) (line : Line) (old : Progress) (new : Left) (halt : Halt) : Type 0 where
   pub stops :
       (ls : List Line) (h : List Part) → ReadiedFor d N P ls h old
-      → StopsInLine d N P ls old.timeline.line.most line new.account halt
+      → StopsInLine d N P ls old.timeline.line.most line new halt
 
 -- ---- in a text
 
@@ -125,6 +149,13 @@ pub record IsStoppedInText (d : Pair) (N : Labels) (P : Problem) (most : ℕ) (g
   pub refusal : Refusal d P most goes_on whole piece v
   pub written : account ≡ account_of N P (plan_in d refusal.reading) refusal.history
 
-abbrev pub StopsInText : Pair → Labels → Problem → ℕ → Bool → List ℕ → List ℕ → Account → Halt → Type 0
-StopsInText d N P most goes_on whole piece account (Refused v) = IsStoppedInText d N P most goes_on whole piece account v
-StopsInText d N P most goes_on whole piece account Memory = Unit {0}
+-- a fault comes on the way that the lines of the text tell
+pub record IsCutShortInText (d : Pair) (N : Labels) (P : Problem) (most : ℕ) (goes_on : Bool) (whole out : List ℕ) (halt : Halt) : Type 0 where
+  pub reading : Reading
+  pub cut : IsCutShort N P (plan_in d reading) most (instances_of d reading.lines) out halt
+  pub played : IsPlayedOn d P most goes_on whole reading cut.history
+
+abbrev pub StopsInText : Pair → Labels → Problem → ℕ → Bool → List ℕ → List ℕ → Left → Halt → Type 0
+StopsInText d N P most goes_on whole piece new (Refused v) = IsStoppedInText d N P most goes_on whole piece new.account v
+StopsInText d N P most goes_on whole piece new Memory = IsCutShortInText d N P most goes_on whole new.out Memory
+StopsInText d N P most goes_on whole piece new WriteFault = IsCutShortInText d N P most goes_on whole new.out WriteFault

@@ -1,5 +1,5 @@
 -- A plan that is read from a shelf, and played as it comes, while its report goes to a sink.
-use Rattle.std.specs.Prelude.{◌≡◌, ℕ, List, [], length, take, Option, IfSome, Result}
+use Rattle.std.specs.Prelude.{◌≡◌, ℕ, List, [], length, take, Option, IfSome, Result, Ok, Err}
 use Rattle.plus_io.specs.Files.{Takes}
 use Rattle.plus_io.specs.Taken.{Took}
 use Rattle.plus_model.specs.Terms.{Problem}
@@ -8,13 +8,13 @@ use Rattle.plus_tree.specs.declared.trees.Domain.{Domain}
 use Rattle.plus_tree.specs.declared.trees.Problem as tree
 use Rattle.plus_validator.specs.declared.feed.Feed.{Feed}
 use Rattle.plus_validator.specs.declared.halt.Halt.{Halt}
+use Rattle.plus_validator.specs.declared.halt.Halt.TheVariants as halts
 use Rattle.plus_validator.specs.declared.run.Run.{Run}
 use Rattle.plus_validator.specs.declared.stream.Ending.{Ending}
 use Rattle.plus_validator.specs.declared.stream.Ending.TheVariants.{Played, ReadFault, WriteFault}
-use Rattle.plus_validator.specs.Account.{Progress, progress}
+use Rattle.plus_validator.specs.Account.{Progress}
 use Rattle.plus_validator.specs.Plans.{Pair, pair}
 use Rattle.plus_validator.specs.Feeding.{Course, course, IsFed, IsPlayedOut}
-use Rattle.plus_validator.specs.Leaving.{LeavesReport}
 
 -- of these bytes so many have come, and are played
 pub record HasCome (d : Pair) (N : Labels) (P : Problem) (bytes rest : Option (List ℕ)) (total : ℕ) (first : Progress) (feed : Course) : Type 0 where
@@ -30,13 +30,11 @@ pub record IsOut (d : Pair) (N : Labels) (P : Problem) (bytes rest : Option (Lis
   pub none_kept : feed.run.report.bytes.items ≡ []
   pub come : HasCome d N P bytes rest total first (course sent feed)
 
--- The plan text is played, or the run halts in it. What the sink took is the report for a beginning of the text, and the run keeps
--- the rest of the report.
-pub record IsPlayedFrom (d : Domain) (p : tree.Problem) (N : Labels) (P : Problem) (most : ℕ) (bytes : Option (List ℕ)) (first : Progress) (new : Run) (old now : Option (List ℕ)) (played : Result (Unit {0}) Halt) : Type 0 where
+-- The plan text is played, or the run halts in it. What the sink took is the beginning of the report, and the run keeps the rest.
+pub record IsPlayedFrom (d : Domain) (p : tree.Problem) (N : Labels) (P : Problem) (bytes : Option (List ℕ)) (first : Progress) (new : Run) (old now : Option (List ℕ)) (played : Result (Unit {0}) Halt) : Type 0 where
   pub sent : List ℕ
   pub took : Took old now sent
-  pub out : IfSome bytes (λ text. IsPlayedOut (pair d p) N P text first (progress sent new) played)
-  pub so_far : LeavesReport d p most bytes old now
+  pub out : IfSome bytes (λ text. IsPlayedOut (pair d p) N P text first sent new played)
 
 -- ---- a text that stands in memory
 
@@ -48,9 +46,16 @@ pub record HasGone (d : Pair) (N : Labels) (P : Problem) (bytes : List ℕ) (tot
 -- The plan text that stands in these bytes is played, or the run halts in it. The run keeps the end of the report.
 pub record IsPlayedThrough (d : Pair) (N : Labels) (P : Problem) (bytes : List ℕ) (first : Progress) (new : Run) (played : Result (Unit {0}) Halt) : Type 0 where
   pub gone : List ℕ
-  pub out : IsPlayedOut d N P bytes first (progress gone new) played
+  pub out : IsPlayedOut d N P bytes first gone new played
 
 -- ---- by how the playing ends
+
+-- the text is played so
+abbrev pub ended : Result (Unit {0}) Halt → Ending
+ended (Ok u) = Played (Ok u)
+ended (Err (halts.Refused v)) = Played (Err (halts.Refused v))
+ended (Err halts.Memory) = Played (Err halts.Memory)
+ended (Err halts.WriteFault) = WriteFault
 
 abbrev pub OnPlayed : Ending → (Result (Unit {0}) Halt → Type 0) → Type 0
 OnPlayed (Played played) Q = Q played

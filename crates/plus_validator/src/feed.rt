@@ -1,12 +1,13 @@
-//! Plays a plan text as it comes, in pieces.
-ghost use Rattle.std.specs.Prelude.{◌≡◌, ℕ, ◌≤◌, List, [], None, OnOk, IfOk, IfErr};
+//! Plays a plan text as it comes, in pieces, and hands its report on.
+ghost use Rattle.std.specs.Prelude.{◌≡◌, ◌≤◌, [], None, OnOk, IfOk, IfErr};
 ghost use Rattle.plus_number.specs.Frac.{fraction_of};
 ghost use Rattle.plus_state.specs.View.{problem_of, labels_of};
 ghost use Rattle.plus_instances.specs.Made.{AreMade, StayMade};
 ghost use Rattle.plus_plan.specs.Pieces.{IsIdle};
 ghost use Rattle.plus_validator.specs.Account.{progress};
 ghost use Rattle.plus_validator.specs.Plans.{pair_in};
-ghost use Rattle.plus_validator.specs.Halts.{HaltFits};
+ghost use Rattle.plus_validator.specs.Halts.{HasCause};
+ghost use Rattle.plus_validator.specs.Handing.{HandsOn, left};
 ghost use Rattle.plus_validator.specs.Playing.{IsGroundOf, IsResting};
 ghost use Rattle.plus_validator.specs.Standing.{CanGoOn};
 ghost use Rattle.plus_validator.specs.Feeding.{course, IsFresh, IsOpen, Feeds, HaltsFeeding, EndsFeeding, HaltsEnding};
@@ -14,6 +15,7 @@ ghost use Rattle.plus_validator.specs.Feeding.{course, IsFresh, IsOpen, Feeds, H
 use crate::halt::{Halt, fault_halt};
 use crate::run::Run;
 use plus_instances::Instances;
+use plus_io::Sink;
 use plus_number::frac::Frac64;
 use plus_numbering::Numbering;
 use plus_plan::{Line, PlanForm, PlanReader};
@@ -50,44 +52,59 @@ impl<'a> Feed<'a> {
     }
 
     // Plays the line that is due, if one is.
-    fn line(&mut self, alloc: Global, ground: &Ground<Frac64>) -> Result<(), Halt>
+    fn line<O: Sink>(
+        &mut self,
+        alloc: Global,
+        ground: &Ground<Frac64>,
+        out: &mut O,
+    ) -> Result<(), Halt>
         requires expands { IsGroundOf self.old.instances.numbering.now.typed.now.domain self.old.instances.numbering.now.typed.now.problem ground.now }
         requires kept { AreMade self.old.instances }
         requires can { CanGoOn (problem_of fraction_of ground.now) self.old.run.timeline }
         requires moment { self.old.run.timeline.line.now.running ≡ None }
-        ensures feeds { (sent : List ℕ) → OnOk result (Feeds (pair_in self.old.instances.numbering.now.typed.now) (labels_of ground.now)
-            (problem_of fraction_of ground.now) [] (course sent self.old) (course sent self.new)) }
+        ensures feeds { OnOk result (HandsOn course course (Feeds (pair_in self.old.instances.numbering.now.typed.now) (labels_of ground.now)
+            (problem_of fraction_of ground.now) []) self.old self.new (O.taken out.old) (O.taken out.new)) }
         ensures rests { OnOk result (IsResting (problem_of fraction_of ground.now) self.old.run.timeline.line.most self.new.run.timeline) }
         ensures idle { OnOk result (self.old.reader.fault ≡ None → IsIdle self.new.reader) }
         ensures closed { OnOk result (self.new.reader.closed ≡ self.old.reader.closed) }
-        ensures halts { (sent : List ℕ) → IfErr result (HaltsFeeding (pair_in self.old.instances.numbering.now.typed.now) (labels_of ground.now)
-            (problem_of fraction_of ground.now) [] (course sent self.old) (progress sent self.new.run)) }
-        ensures fits { IfErr result (HaltFits (problem_of fraction_of ground.now)) }
+        ensures halts { IfErr result (λ halt. HandsOn course left (λ old new. HaltsFeeding (pair_in self.old.instances.numbering.now.typed.now)
+            (labels_of ground.now) (problem_of fraction_of ground.now) [] old new halt) self.old self.new.run (O.taken out.old) (O.taken out.new)) }
+        ensures cause { IfErr result (HasCause (problem_of fraction_of ground.now) (O.faults out.old) (O.faults out.new)) }
+        ensures no_fall { O.faults out.old ≤ O.faults out.new }
         ensures kept { StayMade self.old.instances self.new.instances }
     {
         let mut read = Line::Blank;
         match self.reader.next_line_in(&mut read) {
-            Ok(true) => self.run.line(alloc, &mut self.instances, ground, &read),
+            Ok(true) => self
+                .run
+                .line(alloc, &mut self.instances, ground, &read, out),
             Ok(false) => Ok(()),
             Err(fault) => Err(fault_halt(fault)),
         }
     }
 
     /// Plays a piece of the text.
-    pub fn take(&mut self, alloc: Global, ground: &Ground<Frac64>, piece: &[u8]) -> Result<(), Halt>
+    pub fn take<O: Sink>(
+        &mut self,
+        alloc: Global,
+        ground: &Ground<Frac64>,
+        piece: &[u8],
+        out: &mut O,
+    ) -> Result<(), Halt>
         requires expands { IsGroundOf self.old.instances.numbering.now.typed.now.domain self.old.instances.numbering.now.typed.now.problem ground.now }
         requires waits { IsOpen (problem_of fraction_of ground.now) self.old.run.timeline.line.most self.old.instances.numbering.now self.old }
-        ensures feeds { (sent : List ℕ) → OnOk result (Feeds (pair_in self.old.instances.numbering.now.typed.now) (labels_of ground.now)
-            (problem_of fraction_of ground.now) piece.now (course sent self.old) (course sent self.new)) }
+        ensures feeds { OnOk result (HandsOn course course (Feeds (pair_in self.old.instances.numbering.now.typed.now) (labels_of ground.now)
+            (problem_of fraction_of ground.now) piece.now) self.old self.new (O.taken out.old) (O.taken out.new)) }
         ensures waits { OnOk result (IsOpen (problem_of fraction_of ground.now) self.old.run.timeline.line.most self.old.instances.numbering.now self.new) }
-        ensures halts { (sent : List ℕ) → IfErr result (HaltsFeeding (pair_in self.old.instances.numbering.now.typed.now) (labels_of ground.now)
-            (problem_of fraction_of ground.now) piece.now (course sent self.old) (progress sent self.new.run)) }
-        ensures fits { IfErr result (HaltFits (problem_of fraction_of ground.now)) }
+        ensures halts { IfErr result (λ halt. HandsOn course left (λ old new. HaltsFeeding (pair_in self.old.instances.numbering.now.typed.now)
+            (labels_of ground.now) (problem_of fraction_of ground.now) piece.now old new halt) self.old self.new.run (O.taken out.old) (O.taken out.new)) }
+        ensures cause { IfErr result (HasCause (problem_of fraction_of ground.now) (O.faults out.old) (O.faults out.new)) }
+        ensures no_fall { O.faults out.old ≤ O.faults out.new }
     {
         let mut from = 0;
         'piece: while from < piece.len() {
             from += self.reader.feed(&piece[from..]);
-            match self.line(alloc, ground) {
+            match self.line(alloc, ground, out) {
                 Ok(()) => {}
                 Err(halt) => return Err(halt),
             }
@@ -96,18 +113,24 @@ impl<'a> Feed<'a> {
     }
 
     /// Plays on at the end of the text.
-    pub fn end(&mut self, alloc: Global, ground: &Ground<Frac64>) -> Result<(), Halt>
+    pub fn end<O: Sink>(
+        &mut self,
+        alloc: Global,
+        ground: &Ground<Frac64>,
+        out: &mut O,
+    ) -> Result<(), Halt>
         requires expands { IsGroundOf self.old.instances.numbering.now.typed.now.domain self.old.instances.numbering.now.typed.now.problem ground.now }
         requires waits { IsOpen (problem_of fraction_of ground.now) self.old.run.timeline.line.most self.old.instances.numbering.now self.old }
-        ensures ends { (sent : List ℕ) → OnOk result (EndsFeeding (pair_in self.old.instances.numbering.now.typed.now) (labels_of ground.now)
-            (problem_of fraction_of ground.now) (course sent self.old) (progress sent self.new.run)) }
-        ensures halts { (sent : List ℕ) → IfErr result (HaltsEnding (pair_in self.old.instances.numbering.now.typed.now) (labels_of ground.now)
-            (problem_of fraction_of ground.now) (course sent self.old) (progress sent self.new.run)) }
-        ensures fits { IfErr result (HaltFits (problem_of fraction_of ground.now)) }
+        ensures ends { OnOk result (HandsOn course progress (EndsFeeding (pair_in self.old.instances.numbering.now.typed.now) (labels_of ground.now)
+            (problem_of fraction_of ground.now)) self.old self.new.run (O.taken out.old) (O.taken out.new)) }
+        ensures halts { IfErr result (λ halt. HandsOn course left (λ old new. HaltsEnding (pair_in self.old.instances.numbering.now.typed.now)
+            (labels_of ground.now) (problem_of fraction_of ground.now) old new halt) self.old self.new.run (O.taken out.old) (O.taken out.new)) }
+        ensures cause { IfErr result (HasCause (problem_of fraction_of ground.now) (O.faults out.old) (O.faults out.new)) }
+        ensures no_fall { O.faults out.old ≤ O.faults out.new }
     {
         self.reader.close();
-        match self.line(alloc, ground) {
-            Ok(()) => self.run.close(ground),
+        match self.line(alloc, ground, out) {
+            Ok(()) => self.run.close(ground, out),
             Err(halt) => Err(halt),
         }
     }

@@ -18,6 +18,8 @@ pub enum Halt {
     Refused(Verdict<Frac64>),
     /// Memory is wanting.
     Memory,
+    /// The sink failed.
+    WriteFault,
 }
 
 impl From<Failed> for Halt {

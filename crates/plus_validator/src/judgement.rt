@@ -1,5 +1,5 @@
 //! The report and the verdict of a plan that is played.
-ghost use Rattle.std.specs.Prelude.{◌≡◌, IfOk, IfErr};
+ghost use Rattle.std.specs.Prelude.{◌≡◌, ◌≢◌, IfOk, IfErr};
 ghost use Rattle.plus_state.specs.View.{problem_of, labels_of};
 ghost use Rattle.plus_number.specs.Frac.{fraction_of};
 ghost use Rattle.plus_validator.specs.Halts.{HaltFits};
@@ -24,6 +24,7 @@ pub struct Judgement {
 
 // The verdict on a text whose lines are played.
 fn verdict_of(played: Result<(), Halt>) -> Result<Verdict<Frac64>, Halt>
+    requires { IfErr played (λ halt. halt ≢ Halt.WriteFault) }
     ensures gives { IfOk result (GivesVerdict played) }
     ensures memory { IfErr result (λ halt. halt ≡ Halt.Memory) }
 {
@@ -31,6 +32,7 @@ fn verdict_of(played: Result<(), Halt>) -> Result<Verdict<Frac64>, Halt>
         Ok(()) => Ok(Verdict::Valid),
         Err(Halt::Refused(verdict)) => Ok(verdict),
         Err(Halt::Memory) => Err(Halt::Memory),
+        Err(Halt::WriteFault) => unreachable!(),
     }
 }
 

@@ -1,5 +1,5 @@
 //! Plays the lines of a plan.
-ghost use Rattle.std.specs.Prelude.{◌≡◌, ℕ, ◌<◌, List, None, OnOk, IfOk, IfErr};
+ghost use Rattle.std.specs.Prelude.{◌≡◌, ℕ, ◌<◌, ◌≤◌, List, None, OnOk, IfOk, IfErr};
 ghost use Rattle.plus_number.specs.Frac.{fraction_of};
 ghost use Rattle.plus_model.specs.Terms.{Problem};
 ghost use Rattle.plus_model.specs.Trajectory.{is_below};
@@ -7,9 +7,10 @@ ghost use Rattle.plus_plan.specs.Answers.{HasBottom};
 ghost use Rattle.plus_state.specs.View.{problem_of, labels_of};
 ghost use Rattle.plus_timeline.specs.Finish.{IsPaused};
 ghost use Rattle.plus_validator.specs.Account.{progress};
+ghost use Rattle.plus_validator.specs.Handing.{HandsOn, left};
 ghost use Rattle.plus_validator.specs.Plans.{pair_in};
 ghost use Rattle.plus_instances.specs.Made.{AreMade, StayMade};
-ghost use Rattle.plus_validator.specs.Halts.{CallHalts, HaltFits};
+ghost use Rattle.plus_validator.specs.Halts.{CallHalts, HaltFits, HasCause};
 ghost use Rattle.plus_validator.specs.Standing.{CanGoOn};
 ghost use Rattle.plus_validator.specs.Stopped.{HaltsAtMoment, HaltsInAct, HaltsInLine, HaltsAtEnd};
 ghost use Rattle.plus_validator.specs.Playing.{IsGroundOf, IsInTime, ActsOnce, PlaysLine, Closes};
@@ -18,6 +19,7 @@ use crate::halt::{Halt, halted};
 use crate::run::Run;
 use plus_ground::InstanceFault;
 use plus_instances::Instances;
+use plus_io::Sink;
 use plus_number::exact::Exact;
 use plus_number::frac::Frac64;
 use plus_numbering::MOST_NODES;
@@ -125,7 +127,7 @@ impl Run {
         ensures acts { (sent : List ℕ) → OnOk result (ActsOnce (pair_in instances.old.numbering.now.typed.now) (labels_of ground.now)
             (problem_of fraction_of ground.now) call.now (progress sent self.old) (progress sent self.new)) }
         ensures stops { (sent : List ℕ) → IfErr result (HaltsInAct (pair_in instances.old.numbering.now.typed.now) (labels_of ground.now)
-            (problem_of fraction_of ground.now) line call.now (progress sent self.old) (progress sent self.new)) }
+            (problem_of fraction_of ground.now) line call.now (progress sent self.old) (left sent self.new)) }
         ensures kept { StayMade instances.old instances.new }
         ensures fits { IfErr result (HaltFits (problem_of fraction_of ground.now)) }
     {
@@ -148,36 +150,38 @@ impl Run {
     }
 
     /// Plays one line of the text.
-    pub fn line(
+    pub fn line<O: Sink>(
         &mut self,
         alloc: Global,
         instances: &mut Instances<'_>,
         ground: &Ground<Frac64>,
         read: &Line,
+        out: &mut O,
     ) -> Result<(), Halt>
         requires expands { IsGroundOf instances.old.numbering.now.typed.now.domain instances.old.numbering.now.typed.now.problem ground.now }
         requires kept { AreMade instances.old }
         requires can { CanGoOn (problem_of fraction_of ground.now) self.old.timeline }
         requires moment { self.old.timeline.line.now.running ≡ None }
         requires bottom { HasBottom read.now }
-        ensures plays { (sent : List ℕ) → OnOk result (PlaysLine (pair_in instances.old.numbering.now.typed.now) (labels_of ground.now)
-            (problem_of fraction_of ground.now) read.now (progress sent self.old) (progress sent self.new)) }
-        ensures stops { (sent : List ℕ) → IfErr result (HaltsInLine (pair_in instances.old.numbering.now.typed.now) (labels_of ground.now)
-            (problem_of fraction_of ground.now) read.now (progress sent self.old) (progress sent self.new)) }
+        ensures plays { OnOk result (HandsOn progress progress (PlaysLine (pair_in instances.old.numbering.now.typed.now) (labels_of ground.now)
+            (problem_of fraction_of ground.now) read.now) self.old self.new (O.taken out.old) (O.taken out.new)) }
+        ensures stops { IfErr result (λ halt. HandsOn progress left (λ old new. HaltsInLine (pair_in instances.old.numbering.now.typed.now) (labels_of ground.now)
+            (problem_of fraction_of ground.now) read.now old new halt) self.old self.new (O.taken out.old) (O.taken out.new)) }
         ensures kept { StayMade instances.old instances.new }
-        ensures fits { IfErr result (HaltFits (problem_of fraction_of ground.now)) }
+        ensures cause { IfErr result (HasCause (problem_of fraction_of ground.now) (O.faults out.old) (O.faults out.new)) }
+        ensures no_fall { O.faults out.old ≤ O.faults out.new }
     {
         match read {
             Line::Act { line, time, call } => {
                 let until = self.moment(*line, time)?;
-                self.reach(ground, until)?;
+                self.reach(ground, until, out)?;
                 self.act(alloc, instances, ground, *line, call)?;
                 let now = self.timeline.time();
-                self.reach(ground, now)
+                self.reach(ground, now, out)
             }
             Line::End { line, time } => {
                 let until = self.moment(*line, time)?;
-                self.reach(ground, until)?;
+                self.reach(ground, until, out)?;
                 self.ended = true;
                 Ok(())
             }
@@ -186,17 +190,18 @@ impl Run {
     }
 
     /// Plays on at the end of the text.
-    pub fn close(&mut self, ground: &Ground<Frac64>) -> Result<(), Halt>
+    pub fn close<O: Sink>(&mut self, ground: &Ground<Frac64>, out: &mut O) -> Result<(), Halt>
         requires can { CanGoOn (problem_of fraction_of ground.now) self.old.timeline }
         requires moment { self.old.timeline.line.now.running ≡ None }
-        ensures closes { (sent : List ℕ) → OnOk result (Closes (labels_of ground.now)
-            (problem_of fraction_of ground.now) (progress sent self.old) (progress sent self.new)) }
-        ensures stops { (sent : List ℕ) → IfErr result (HaltsAtEnd (labels_of ground.now)
-            (problem_of fraction_of ground.now) (progress sent self.old) (progress sent self.new)) }
-        ensures fits { IfErr result (HaltFits (problem_of fraction_of ground.now)) }
+        ensures closes { OnOk result (HandsOn progress progress (Closes (labels_of ground.now) (problem_of fraction_of ground.now))
+            self.old self.new (O.taken out.old) (O.taken out.new)) }
+        ensures stops { IfErr result (λ halt. HandsOn progress left (λ old new. HaltsAtEnd (labels_of ground.now)
+            (problem_of fraction_of ground.now) old new halt) self.old self.new (O.taken out.old) (O.taken out.new)) }
+        ensures cause { IfErr result (HasCause (problem_of fraction_of ground.now) (O.faults out.old) (O.faults out.new)) }
+        ensures no_fall { O.faults out.old ≤ O.faults out.new }
     {
         let now = self.timeline.time();
-        self.reach(ground, now)?;
+        self.reach(ground, now, out)?;
         match self.timeline.finish(ground) {
             Ok(()) => Ok(()),
             Err(stop) => Err(halted(stop)),

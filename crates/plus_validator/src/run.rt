@@ -1,12 +1,12 @@
-//! A plan that is played, and its report as it goes out.
+//! A plan that is played, and its report as it goes out: no more of it is kept than a step tells behind 64 KiB.
 ghost use Rattle.std.specs.Prelude.{◌≡◌, ℕ, ◌≤◌, ◌+◌, List, [], ◌++◌, OnOk, OnErr, IfOk, IfErr};
 ghost use Rattle.plus_io.specs.Faults.{Rose};
-ghost use Rattle.plus_io.specs.Taken.{Took, TookPart};
 ghost use Rattle.plus_number.specs.Frac.{fraction_of};
 ghost use Rattle.plus_state.specs.View.{problem_of, labels_of};
 ghost use Rattle.plus_validator.specs.Account.{progress};
+ghost use Rattle.plus_validator.specs.Handing.{HandsOn, StaysSo, left, BreaksOffAt};
 ghost use Rattle.plus_validator.specs.Running.{Steps, Reaches};
-ghost use Rattle.plus_validator.specs.Halts.{HaltFits};
+ghost use Rattle.plus_validator.specs.Halts.{HaltFits, HasCause};
 ghost use Rattle.plus_validator.specs.Stopped.{HaltsOnWay};
 ghost use Rattle.plus_validator.specs.Playing.{Begins};
 ghost use Rattle.plus_validator.specs.Standing.{CanReach, MovesThenChanges, IsShown, next_text, entries_in, firings_in, is_there, CanShow};
@@ -20,6 +20,9 @@ use plus_report::{write_entry_changes, write_literals_changes, write_round_chang
 use plus_state::problem::Ground;
 use plus_timeline::Next;
 use std::alloc::{AllocError, Global};
+
+// What is kept of the report is much if it has more bytes.
+const MUCH: usize = 65536;
 
 /// A plan that is played, and its report.
 #[derive(Drop)]
@@ -139,12 +142,13 @@ impl Run {
     }
 
     /// Takes one step toward a time, and says whether the time is reached and nothing is due.
+    #[inline(always)]
     fn step(&mut self, ground: &Ground<Frac64>, until: Frac64) -> Result<bool, Halt>
         requires can { CanReach (problem_of fraction_of ground.now) (fraction_of until) self.old.timeline }
         ensures steps { (sent : List ℕ) → IfOk result (Steps (labels_of ground.now) (problem_of fraction_of ground.now)
             (fraction_of until) (progress sent self.old) (progress sent self.new)) }
         ensures stops { (sent : List ℕ) → IfErr result (HaltsOnWay (labels_of ground.now) (problem_of fraction_of ground.now)
-            (fraction_of until) (progress sent self.old) (progress sent self.new)) }
+            (fraction_of until) (progress sent self.old) (left sent self.new)) }
         ensures fits { IfErr result (HaltFits (problem_of fraction_of ground.now)) }
     {
         let next = match self.timeline.advance(ground, until) {
@@ -157,41 +161,55 @@ impl Run {
     }
 
     /// Plays on up to a time, until nothing is due there.
-    pub fn reach(&mut self, ground: &Ground<Frac64>, until: Frac64) -> Result<(), Halt>
+    #[inline(always)]
+    pub fn reach<O: Sink>(
+        &mut self,
+        ground: &Ground<Frac64>,
+        until: Frac64,
+        out: &mut O,
+    ) -> Result<(), Halt>
         requires can { CanReach (problem_of fraction_of ground.now) (fraction_of until) self.old.timeline }
-        ensures reaches { (sent : List ℕ) → OnOk result (Reaches (labels_of ground.now) (problem_of fraction_of ground.now)
-            (fraction_of until) (progress sent self.old) (progress sent self.new)) }
-        ensures stops { (sent : List ℕ) → IfErr result (HaltsOnWay (labels_of ground.now) (problem_of fraction_of ground.now)
-            (fraction_of until) (progress sent self.old) (progress sent self.new)) }
-        ensures fits { IfErr result (HaltFits (problem_of fraction_of ground.now)) }
+        ensures reaches { OnOk result (HandsOn progress progress (Reaches (labels_of ground.now) (problem_of fraction_of ground.now)
+            (fraction_of until)) self.old self.new (O.taken out.old) (O.taken out.new)) }
+        ensures stops { IfErr result (λ halt. HandsOn progress left (λ old new. HaltsOnWay (labels_of ground.now) (problem_of fraction_of ground.now)
+            (fraction_of until) old new halt) self.old self.new (O.taken out.old) (O.taken out.new)) }
+        ensures cause { IfErr result (HasCause (problem_of fraction_of ground.now) (O.faults out.old) (O.faults out.new)) }
+        ensures no_fall { O.faults out.old ≤ O.faults out.new }
     {
         'steps: loop {
-            if self.step(ground, until)? {
+            let there = self.step(ground, until)?;
+            let Ok(()) = self.flush_much(out) else {
+                return Err(Halt::WriteFault);
+            };
+            if there {
                 return Ok(());
             }
         }
     }
 
-    /// Hands on what is kept of the report.
-    pub fn flush<O: Sink>(&mut self, out: &mut O) -> Result<(), Failed>
-        ensures took { OnOk result (Took (O.taken out.old) (O.taken out.new) self.old.report.bytes.items) }
-        ensures empty { OnOk result (self.new.report.bytes.items ≡ []) }
-        ensures stays { OnOk result ((sent : List ℕ) →
-            progress (sent ++ self.old.report.bytes.items) self.new ≡ progress sent self.old) }
+    // Hands on what is kept of the report, where it is much.
+    fn flush_much<O: Sink>(&mut self, out: &mut O) -> Result<(), Failed>
+        ensures goes { OnOk result (HandsOn progress progress StaysSo self.old self.new (O.taken out.old) (O.taken out.new)) }
+        ensures breaks { OnErr result (HandsOn progress left BreaksOffAt self.old self.new (O.taken out.old) (O.taken out.new)) }
         ensures cause { OnErr result (Rose (O.faults out.old) (O.faults out.new)) }
-        ensures part { OnErr result (TookPart (O.taken out.old) (O.taken out.new) self.old.report.bytes.items) }
         ensures no_fall { O.faults out.old ≤ O.faults out.new }
     {
-        write_all(out, &self.report.bytes)?;
-        self.let_go();
+        if self.report.bytes.len() > MUCH {
+            return self.flush(out);
+        }
         Ok(())
     }
 
-    /// Lets go what is kept of the report.
-    pub fn let_go(&mut self)
-        ensures empty { self.new.report.bytes.items ≡ [] }
-        ensures stays { (sent : List ℕ) → progress (sent ++ self.old.report.bytes.items) self.new ≡ progress sent self.old }
+    /// Hands on what is kept of the report.
+    pub fn flush<O: Sink>(&mut self, out: &mut O) -> Result<(), Failed>
+        ensures goes { OnOk result (HandsOn progress progress StaysSo self.old self.new (O.taken out.old) (O.taken out.new)) }
+        ensures empty { OnOk result (self.new.report.bytes.items ≡ []) }
+        ensures breaks { OnErr result (HandsOn progress left BreaksOffAt self.old self.new (O.taken out.old) (O.taken out.new)) }
+        ensures cause { OnErr result (Rose (O.faults out.old) (O.faults out.new)) }
+        ensures no_fall { O.faults out.old ≤ O.faults out.new }
     {
+        write_all(out, &self.report.bytes)?;
         self.report.bytes.clear();
+        Ok(())
     }
 }

@@ -15,24 +15,19 @@ ghost use Rattle.plus_validator.specs.Halts.{HaltFits};
 ghost use Rattle.plus_validator.specs.Playing.{IsGroundOf};
 ghost use Rattle.plus_validator.specs.Feeding.{IsFresh};
 ghost use Rattle.plus_validator.specs.Leaving.{StopsReading, BreaksOffSoFar};
-ghost use Rattle.plus_validator.specs.Streaming.{IsPlayedFrom, IsPlayedThrough, OnPlayed, OnReadFault, OnWriteFault};
+ghost use Rattle.plus_validator.specs.Streaming.{IsPlayedFrom, IsPlayedThrough, ended, OnPlayed, OnReadFault, OnWriteFault};
 
 use crate::feed::Feed;
 use crate::halt::Halt;
 use crate::limits::TEXT_LIMIT;
-use plus_io::{Failed, Shelf, Sink};
+use plus_io::{Failed, QuietSink, Shelf, Sink};
 use plus_number::frac::Frac64;
 use plus_report::{Early, Text, Verdict};
 use plus_state::problem::Ground;
 use std::alloc::Global;
 
-/// How many bytes are played at once, at most and at first.
+/// How many bytes are played at once, at most.
 const PIECE: usize = 4096;
-
-const FIRST_PIECE: usize = 64;
-
-/// What a piece tells is much if it has more bytes.
-const MUCH: usize = 65536;
 
 // A plan text that goes on behind its limit.
 fn too_long() -> Halt
@@ -42,31 +37,10 @@ fn too_long() -> Halt
     Halt::Refused(Verdict::Other(Early::TooLong { text: Text::Plan }))
 }
 
-// How many bytes are asked for behind a piece of this size, which told so many: fewer where it told much, since
-// all that a piece tells waits in memory.
-fn next_size(size: usize, told: usize) -> usize
-    requires some { 1 ≤ size }
-    requires fits { size ≤ PIECE }
-    ensures some { 1 ≤ result }
-    ensures fits { result ≤ PIECE }
-{
-    if told > MUCH {
-        (size / 2).max(1)
-    } else {
-        (2 * size).min(PIECE)
-    }
-}
-
-// Reads a piece of a plan of which so many bytes have come: at most this size, and one byte past the limit.
-fn read_piece<S: Shelf>(
-    shelf: &mut S,
-    buffer: &mut [u8],
-    size: usize,
-    total: usize,
-) -> Result<usize, Failed>
+// Reads a piece of a plan of which so many bytes have come, and at most one byte past the limit.
+fn read_piece<S: Shelf>(shelf: &mut S, buffer: &mut [u8], total: usize) -> Result<usize, Failed>
     requires within { total ≤ text_limit }
-    requires some { 1 ≤ size }
-    requires room { size ≤ length buffer.old }
+    requires room { PIECE ≤ length buffer.old }
     ensures fits { IfOk result (λ count. count ≤ length buffer.new) }
     ensures most { IfOk result (λ count. total + count ≤ text_limit + 1) }
     ensures piece { IfOk result (λ count. Takes (S.rest shelf.old) (S.rest shelf.new) (take count buffer.new)) }
@@ -77,7 +51,7 @@ fn read_piece<S: Shelf>(
     ensures untold { OnErr result (S.picks shelf.new ≡ S.picks shelf.old) }
     ensures keeps { KeepsFiles S.names S.bytes S.faults shelf.old shelf.new }
 {
-    let most = (TEXT_LIMIT - total).min(size - 1) + 1;
+    let most = (TEXT_LIMIT - total).min(PIECE - 1) + 1;
     shelf.read(&mut buffer[..most])
 }
 
@@ -90,6 +64,16 @@ pub enum Ending {
     ReadFault,
     /// The sink failed.
     WriteFault,
+}
+
+// How the playing of a file ends whose text is played so.
+fn ended(played: Result<(), Halt>) -> Ending
+    ensures { result ≡ ended played }
+{
+    match played {
+        Err(Halt::WriteFault) => Ending::WriteFault,
+        played => Ending::Played(played),
+    }
 }
 
 /// Reads the plan text under a name, and plays it as it comes. What a piece tells is handed on before the
@@ -107,7 +91,7 @@ pub fn play_file<S: Shelf, O: Sink>(
     requires groundable { IsGroundable IsFrac64 feed.old.instances.numbering.now.typed.now.domain feed.old.instances.numbering.now.typed.now.problem }
     requires fresh { IsFresh (labels_of ground.now) (problem_of fraction_of ground.now) happenings feed.old.instances.numbering.now feed.old }
     ensures plays { OnPlayed result (IsPlayedFrom feed.old.instances.numbering.now.typed.now.domain feed.old.instances.numbering.now.typed.now.problem
-        (labels_of ground.now) (problem_of fraction_of ground.now) happenings (S.bytes shelf.old plan.now) (progress [] feed.old.run) feed.new.run
+        (labels_of ground.now) (problem_of fraction_of ground.now) (S.bytes shelf.old plan.now) (progress [] feed.old.run) feed.new.run
         (O.taken out.old) (O.taken out.new)) }
     ensures fits { OnPlayed result (λ played. IfErr played (HaltFits (problem_of fraction_of ground.now))) }
     ensures read_fault { OnReadFault result (Rose (S.faults shelf.old) (S.faults shelf.new)
@@ -127,23 +111,21 @@ pub fn play_file<S: Shelf, O: Sink>(
         return Ending::WriteFault;
     };
     let mut buffer = [0u8; PIECE];
-    let mut size = FIRST_PIECE;
     let mut total = 0;
     'pieces: loop {
-        let Ok(count) = read_piece(shelf, &mut buffer, size, total) else {
+        let Ok(count) = read_piece(shelf, &mut buffer, total) else {
             return Ending::ReadFault;
         };
         if count == 0 {
-            return Ending::Played(feed.end(alloc, ground));
+            return ended(feed.end(alloc, ground, out));
         }
         let within = count.min(TEXT_LIMIT - total);
-        if let Err(halt) = feed.take(alloc, ground, &buffer[..within]) {
-            return Ending::Played(Err(halt));
+        if let Err(halt) = feed.take(alloc, ground, &buffer[..within], out) {
+            return ended(Err(halt));
         }
         if within < count {
             return Ending::Played(Err(too_long()));
         }
-        size = next_size(size, feed.run.report.bytes.len());
         let Ok(()) = feed.run.flush(out) else {
             return Ending::WriteFault;
         };
@@ -151,8 +133,7 @@ pub fn play_file<S: Shelf, O: Sink>(
     }
 }
 
-/// Plays the plan text that stands in these bytes, in pieces. What a piece tells is let go before the next
-/// is played.
+/// Plays the plan text that stands in these bytes, in pieces. What is told is let go as it comes to be much.
 pub fn play_bytes(
     feed: &mut Feed<'_>,
     alloc: Global,
@@ -167,17 +148,17 @@ pub fn play_bytes(
     ensures fits { IfErr result (HaltFits (problem_of fraction_of ground.now)) }
 {
     let within = bytes.len().min(TEXT_LIMIT);
+    let mut quiet = QuietSink::new();
     let mut total = 0;
     'pieces: while total < within {
         let stop = total + PIECE.min(within - total);
-        if let Err(halt) = feed.take(alloc, ground, &bytes[total..stop]) {
+        if let Err(halt) = feed.take(alloc, ground, &bytes[total..stop], &mut quiet) {
             return Err(halt);
         }
-        feed.run.let_go();
         total = stop;
     }
     if within < bytes.len() {
         return Err(too_long());
     }
-    feed.end(alloc, ground)
+    feed.end(alloc, ground, &mut quiet)
 }

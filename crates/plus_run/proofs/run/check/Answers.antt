@@ -1,7 +1,7 @@
 use Rattle.std.proofs.Common.{[], ◌∷◌, ap, sym, ◌∙◌, refl}
 use Rattle.plus_io.proofs.Pieces.{KeepsFiles-trans}
 use Rattle.plus_io.proofs.Readings.{each_then, of_more}
-use Rattle.plus_run.proofs.RunLemmas.{only_broken, only_read, only_memory, no_usage, rose_before, valid_run, plan_refused, plan_broken, plan_stopped, reading_leaves, pair_refused, pair_broken}
+use Rattle.plus_run.proofs.RunLemmas.{only_broken, only_read, only_memory, no_usage, rose_before, valid_run, plan_refused, plan_broken, plan_stopped, plan_unread, pair_refused, pair_broken}
 use Rattle.plus_run.proofs.AnswerLemmas.{some_none, line_answer}
 use Rattle.plus_run.specs.Stopping.{in_pair}
 use Rattle.plus_run.proofs.StopLemmas.{line_no_read, plan_stops}
@@ -20,8 +20,7 @@ returns-in-Ok-clause-answers g c =
       read_fault = λ v.
           let h = c.validate.ensures.read_fault (only_read c.validate.result (sym c.of.ensures ∙ v)) in (
             rose_before _ _ _ c.in-Ok.ensures.keeps.no_fall h.0,
-            plan_stopped _ _ _ _ _ c.in-Ok.typed.domain c.in-Ok.typed.problem _ _ same c.in-Ok.ensures.read c.in-Ok.typed.well_typed
-                (reading_leaves _ _ _ _ _ _ _ _ h.1),
+            plan_unread _ _ _ _ _ _ _ c.in-Ok.typed.domain c.in-Ok.typed.problem _ _ same c.in-Ok.ensures.read c.in-Ok.typed.well_typed h.1,
           );
       write_fault = λ v. (
         (c.validate.ensures.write_fault (only_broken c.validate.result (sym c.of.ensures ∙ v))).0,

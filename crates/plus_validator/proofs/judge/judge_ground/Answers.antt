@@ -31,6 +31,7 @@ returns c =
           (λ (j : Judgement) u.
           (judged d p N P c.args.happenings c.args.bytes.now (progress [] c.in_ok-feed.feed.run) played.gone c.play_bytes-played.new.feed.run c.requires.groundable j c.play_bytes-played.result
           c.requires.expands.expands c.requires.expands.labels c.in_ok-feed.ensures.begins.begins
-          (played_same _ _ N P c.in_ok-feed.ensures.begins.same _ _ _ _ played.out) c.play_bytes-played.ensures.fits u).judged)
+          (played_same _ _ N P c.in_ok-feed.ensures.begins.same c.args.bytes.now (progress [] c.in_ok-feed.feed.run) played.gone c.play_bytes-played.new.feed.run
+          c.play_bytes-played.result played.out) c.play_bytes-played.ensures.fits u).judged)
           c.sum_up.ensures.sums;
     }

@@ -4,7 +4,7 @@ use Rattle.plus_number.specs.Frac.{fraction_of}
 use Rattle.plus_state.specs.View.{problem_of, labels_of}
 use Rattle.plus_report.specs.Verdicts.{verdict_text}
 use Rattle.plus_validator.proofs.Shown.{took_all}
-use Rattle.plus_validator.proofs.Judging.{verdict_fits}
+use Rattle.plus_validator.proofs.Judging.{verdict_fits, no_fault}
 use Rattle.plus_validator.specs.declared.halt.Halt.{Halt}
 use Rattle.plus_validator.specs.declared.halt.Halt.TheVariants.{Memory}
 use Rattle.plus_validator.proofs.Halting.{from_err}
@@ -44,3 +44,6 @@ pub returns-in_err-extend_from_slice-clause-memory : goal.returns-in_err-extend_
 returns-in_err-extend_from_slice-clause-memory c =
     let p = err_from_is_err_and c.from_residual-in_err-extend_from_slice.result c.from_residual-in_err-extend_from_slice.ensures.1 in
     rw (p.1, p.2) refl
+
+pub verdict_of-requires : goal.verdict_of-requires
+verdict_of-requires c = no_fault (problem_of fraction_of c.args.ground.now) c.args.played c.requires.fits

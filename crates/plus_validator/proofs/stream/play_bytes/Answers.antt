@@ -1,13 +1,16 @@
-use Rattle.std.proofs.Common.{◌+◌, [], ◌++◌, take, sym, arith, refl, subst, ap}
+use Rattle.std.proofs.Common.{◌+◌, [], ◌++◌, sym, arith, subst}
 use Rattle.std.specs.Prelude.{Err}
 use Rattle.std.proofs.lemmas.List.{take_all}
 use Rattle.plus_number.specs.Frac.{fraction_of}
 use Rattle.plus_state.specs.View.{problem_of, labels_of}
 use Rattle.plus_validator.specs.Plans.{pair_in}
-use Rattle.plus_validator.specs.Account.{Progress, progress}
-use Rattle.plus_validator.specs.Feeding.{course, IsFed, IsPlayedOut}
-use Rattle.plus_validator.proofs.Leaving.{flushed}
-use Rattle.plus_validator.proofs.StreamLemmas.{fresh_open, fresh_fed, open_now, open_on, open_then, piece_is, bytes_more, bytes_halt, bytes_long, bytes_end, feeds_same, halts_same, ends_same, ending_same}
+use Rattle.plus_validator.specs.Account.{progress}
+use Rattle.plus_validator.specs.Halts.{HaltFits, HasCause}
+use Rattle.plus_validator.specs.Handing.{left}
+use Rattle.plus_validator.specs.Feeding.{course, IsPlayedOut}
+use Rattle.plus_validator.proofs.Handing.{cause_inside}
+use Rattle.plus_validator.proofs.FeedLemmas.{err_map}
+use Rattle.plus_validator.proofs.StreamLemmas.{fresh_open, fresh_fed, open_now, open_then, piece_is, bytes_more, bytes_halt, bytes_long, bytes_end, feeds_same, halts_same, ends_same, ending_same}
 use Rattle.plus_validator.proofs.stream.play_bytes.Goals as goal
 
 pub pieces-init : goal.pieces-init
@@ -34,19 +37,16 @@ pieces-preserved c =
     let stop = c.pieces.total + c.min.result in
     let waits = c.pieces.invariant.waits in
     let gone = c.pieces.invariant.gone in
-    let let_go = c.let_go.ensures.stays in
+    let feeds = c.in_default.ensures.feeds in
     record {
       gone = record {
-        gone = gone.gone ++ c.take.new.self.run.report.bytes.items;
-        fed = subst (IsFed (pair_in c.args.feed.now.instances.numbering.now.typed.now) (labels_of c.args.ground.now) (problem_of fraction_of c.args.ground.now) (take stop c.args.bytes.now) (progress [] c.args.feed.now.run))
-            (sym (flushed gone.gone c.take.new.self (record c.take.new.self { run = c.let_go.new.self }) refl (let_go gone.gone)))
-            (bytes_more _ _ _ c.args.bytes.now _ c.pieces.total (course gone.gone c.pieces.feed) gone.fed stop _ (piece_is c.pieces.total stop c.args.bytes.now (omega arith))
-            (omega (arith, c.min.ensures, c.min-within.ensures, c.pieces.invariant.within)) (omega (arith, c.min.ensures, c.min-within.ensures, c.pieces.invariant.within)) (course gone.gone c.take.new.self)
-            (feeds_same _ _ _ _ waits.same _ _ _ (c.in_default.ensures.feeds gone.gone)));
+        gone = gone.gone ++ feeds.gone;
+        fed = bytes_more _ _ _ c.args.bytes.now _ c.pieces.total (course gone.gone c.pieces.feed) gone.fed stop _ (piece_is c.pieces.total stop c.args.bytes.now (omega arith))
+            (omega (arith, c.min.ensures, c.min-within.ensures, c.pieces.invariant.within)) (omega (arith, c.min.ensures, c.min-within.ensures, c.pieces.invariant.within)) (course (gone.gone ++ feeds.gone) c.take.new.self)
+            (feeds_same _ _ _ _ waits.same _ _ _ (feeds.goes gone.gone));
       };
       within = omega (arith, c.min.ensures, c.pieces.invariant.within);
-      waits = open_on _ _ _ c.take.new.self c.let_go.new.self (open_then _ _ _ c.pieces.feed c.take.new.self waits c.in_default.ensures.waits)
-          (ap (λ (r : Progress). r.timeline) (let_go []));
+      waits = open_then _ _ _ c.pieces.feed c.take.new.self waits c.in_default.ensures.waits;
     }
 
 pub returns-in-Err-clause-played : goal.returns-in-Err-clause-played
@@ -54,12 +54,16 @@ returns-in-Err-clause-played c =
     let stop = c.pieces.total + c.min.result in
     let waits = c.pieces.invariant.waits in
     let gone = c.pieces.invariant.gone in
+    let halts = c.in-Err.ensures.halts in
     record {
-      gone = gone.gone;
+      gone = gone.gone ++ halts.gone;
       out = bytes_halt _ _ _ c.args.bytes.now _ c.pieces.total (course gone.gone c.pieces.feed) gone.fed stop _ (piece_is c.pieces.total stop c.args.bytes.now (omega arith))
-          (omega (arith, c.min.ensures, c.min-within.ensures, c.pieces.invariant.within)) (omega (arith, c.min.ensures, c.min-within.ensures, c.pieces.invariant.within)) (progress gone.gone c.take.new.self.run) c.in-Err.halt waits.going
-          (halts_same _ _ _ _ waits.same _ _ _ _ (c.in-Err.ensures.halts gone.gone));
+          (omega (arith, c.min.ensures, c.min-within.ensures, c.pieces.invariant.within)) (omega (arith, c.min.ensures, c.min-within.ensures, c.pieces.invariant.within)) (left (gone.gone ++ halts.gone) c.take.new.self.run) c.in-Err.halt waits.going
+          (halts_same _ _ _ _ waits.same _ _ _ _ (halts.goes gone.gone));
     }
+
+pub returns-in-Err-clause-fits : goal.returns-in-Err-clause-fits
+returns-in-Err-clause-fits c = cause_inside (problem_of fraction_of c.args.ground.now) c.in-Err.halt c.in-Err.ensures.cause
 
 pub returns-then-within-bytes-clause-played : goal.returns-then-within-bytes-clause-played
 returns-then-within-bytes-clause-played c =
@@ -67,17 +71,19 @@ returns-then-within-bytes-clause-played c =
     let gone = c.pieces.invariant.gone in
     record {
       gone = gone.gone;
-      out = subst (λ h. IsPlayedOut (pair_in c.args.feed.now.instances.numbering.now.typed.now) (labels_of c.args.ground.now) (problem_of fraction_of c.args.ground.now) c.args.bytes.now (progress [] c.args.feed.now.run) (progress gone.gone c.pieces.feed.run) (Err h)) (sym c.too_long.ensures.says)
-          (bytes_long _ _ _ c.args.bytes.now _ c.pieces.total (course gone.gone c.pieces.feed) gone.fed waits.going waits.idle (omega (arith, c.min-within.ensures)) (omega (arith, c.min-within.ensures)));
+      out = subst (λ h. IsPlayedOut (pair_in c.args.feed.now.instances.numbering.now.typed.now) (labels_of c.args.ground.now) (problem_of fraction_of c.args.ground.now) c.args.bytes.now (progress [] c.args.feed.now.run) gone.gone c.pieces.feed.run (Err h)) (sym c.too_long.ensures.says)
+          (bytes_long _ _ _ c.args.bytes.now _ c.pieces.total (course gone.gone c.pieces.feed) gone.fed waits.going waits.idle (omega (arith, c.min-within.ensures)) (omega (arith, c.min-within.ensures)) gone.gone);
     }
 
 pub returns-clause-played : goal.returns-clause-played
 returns-clause-played c =
     let waits = c.pieces.invariant.waits in
     let gone = c.pieces.invariant.gone in
-    record {
-      gone = gone.gone;
-      out = bytes_end _ _ _ c.args.bytes.now _ c.pieces.total (course gone.gone c.pieces.feed) gone.fed (progress gone.gone c.end.new.self.run) c.end.result
-          (take_all c.pieces.total c.args.bytes.now (omega (arith, c.min-within.ensures))) (omega (arith, c.min-within.ensures))
-          (ends_same _ _ _ _ waits.same _ _ _ (c.end.ensures.ends gone.gone)) (ending_same _ _ _ _ waits.same _ _ _ (c.end.ensures.halts gone.gone));
-    }
+    bytes_end _ _ _ _ c.args.bytes.now _ c.pieces.total gone.gone c.pieces.feed c.end.new.self.run c.end.result _ _ gone.fed
+    (take_all c.pieces.total c.args.bytes.now (omega (arith, c.min-within.ensures))) (omega (arith, c.min-within.ensures))
+    (ends_same _ _ _ _ waits.same) (ending_same _ _ _ _ waits.same) c.end.ensures.ends c.end.ensures.halts
+
+pub returns-clause-fits : goal.returns-clause-fits
+returns-clause-fits c =
+    let P = problem_of fraction_of c.args.ground.now in
+    err_map c.end.result (HasCause P 0 0) (HaltFits P) (λ h k. cause_inside P h k) c.end.ensures.cause

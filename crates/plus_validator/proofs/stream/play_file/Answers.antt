@@ -1,28 +1,30 @@
-use Rattle.std.proofs.Common.{◌∙◌, [], take, ap, sym, arith, refl, subst}
+use Rattle.std.proofs.Common.{◌∙◌, [], ◌++◌, take, ap, sym, arith, refl, subst}
 use Rattle.std.specs.Prelude.{IfSome, Err}
 use Rattle.plus_io.specs.Picks.{taken}
 use Rattle.plus_io.proofs.Pieces.{Takes-nil, once_over, told_more, KeepsFiles-trans}
 use Rattle.plus_number.specs.Frac.{fraction_of}
 use Rattle.plus_state.specs.View.{problem_of, labels_of}
 use Rattle.plus_validator.specs.Account.{Progress, progress}
+use Rattle.plus_validator.specs.Halts.{HasCause}
+use Rattle.plus_validator.specs.Handing.{left}
 use Rattle.plus_validator.specs.Plans.{pair_in}
 use Rattle.plus_validator.specs.Feeding.{course, IsPlayedOut}
-use Rattle.plus_validator.proofs.Leaving.{took_none, out_first, out_more, out_so_far, out_reading, breaks_off_piece}
-use Rattle.plus_validator.proofs.StreamLemmas.{open_on, fresh_open, fresh_come, open_now, open_then, most_read, halts_more, halts_long, has_more, ends_read, feeds_same, halts_same, ends_same, ending_same}
-use Rattle.plus_validator.proofs.Validating.{rose_since}
+use Rattle.plus_validator.proofs.Handing.{took_both, took_none, rose_since, cause_since}
+use Rattle.plus_validator.proofs.Leaving.{out_more, out_reading}
+use Rattle.plus_validator.proofs.Endings.{plays_by, reads_by, fits_by, end_plays, writes_by, flush_breaks}
+use Rattle.plus_validator.proofs.FeedLemmas.{err_map}
+use Rattle.plus_validator.proofs.StreamLemmas.{open_on, fresh_open, fresh_come, open_now, open_then, most_read, halts_more, halts_long, has_more, feeds_same, halts_same, ends_same, ending_same}
 use Rattle.plus_validator.proofs.stream.play_file.Goals as goal
 
 pub pieces-init : goal.pieces-init
 pieces-init g c = record {
   keeps = c.in-Ok.ensures.keeps;
   told = c.in-Ok.ensures.told;
-  out = out_first _ _ _ _ _ c.args.feed.now (record c.args.feed.now { run = c.flush.new.self }) _ _ refl c.in-Ok-flush.ensures.empty c.in-Ok-flush.ensures.stays
-      c.args.happenings _ c.requires.fresh c.in-Ok.ensures.rest c.in-Ok-flush.ensures.took;
+  out = out_more _ _ _ _ _ 0 _ c.args.feed.now (record c.args.feed.now { run = c.flush.new.self }) _ _ _ [] refl c.in-Ok-flush.ensures.empty c.in-Ok-flush.ensures.goes (took_none _)
+      (fresh_come _ _ _ _ _ _ _ c.args.feed.now c.requires.fresh c.in-Ok.ensures.rest);
   within = omega arith;
   room = refl;
-  some = omega arith;
-  fits = omega arith;
-  waits = open_on _ _ _ c.args.feed.now c.flush.new.self (fresh_open _ _ _ _ c.args.feed.now c.requires.fresh) (ap (λ (r : Progress). r.timeline) (c.in-Ok-flush.ensures.stays []));
+  waits = open_on _ _ _ c.args.feed.now c.flush.new.self (fresh_open _ _ _ _ c.args.feed.now c.requires.fresh) (ap (λ (r : Progress). r.timeline) (c.in-Ok-flush.ensures.goes.goes []));
   no_fall = c.flush.ensures.no_fall;
 }
 
@@ -38,17 +40,31 @@ take-requires-clause-expands g c = rw c.pieces.invariant.waits.same c.requires.e
 pub take-requires-clause-waits : goal.take-requires-clause-waits
 take-requires-clause-waits g c = open_now _ _ _ c.pieces.feed c.pieces.invariant.waits
 
+-- ---- the end of the text
+
 pub returns-then-count-eq0-clause-plays : goal.returns-then-count-eq0-clause-plays
 returns-then-count-eq0-clause-plays g c =
     let out = c.pieces.invariant.out in
     let waits = c.pieces.invariant.waits in
-    record {
-      sent = out.sent;
-      took = out.took;
-      out = ends_read _ _ _ _ _ _ _ (course out.sent c.pieces.feed) (progress out.sent c.end.new.self.run) _ out.come (c.in-Ok-read_piece.ensures.at_end c.if-count-eq0.true) c.pieces.invariant.within
-          (ends_same _ _ _ _ waits.same _ _ _ (c.end.ensures.ends out.sent)) (ending_same _ _ _ _ waits.same _ _ _ (c.end.ensures.halts out.sent));
-      so_far = out_so_far _ _ _ _ _ _ c.requires.groundable c.requires.expands.expands c.requires.expands.labels c.requires.fresh.begins _ _ _ c.pieces.feed _ _ waits.idle waits.going out;
-    }
+    plays_by _ c.end.result _ c.ended.ensures
+    (end_plays _ _ _ _ _ _ _ _ _ out.sent c.pieces.feed c.end.new.self.run c.end.result _ _ _ out.come (c.in-Ok-read_piece.ensures.at_end c.if-count-eq0.true) c.pieces.invariant.within out.took
+    (ends_same _ _ _ _ waits.same) (ending_same _ _ _ _ waits.same) c.end.ensures.ends c.end.ensures.halts)
+
+pub returns-then-count-eq0-clause-fits : goal.returns-then-count-eq0-clause-fits
+returns-then-count-eq0-clause-fits g c = fits_by _ c.end.result _ _ _ c.ended.ensures c.end.ensures.cause
+
+pub returns-then-count-eq0-clause-read_fault : goal.returns-then-count-eq0-clause-read_fault
+returns-then-count-eq0-clause-read_fault g c = reads_by _ c.end.result _ c.ended.ensures
+
+pub returns-then-count-eq0-clause-write_fault : goal.returns-then-count-eq0-clause-write_fault
+returns-then-count-eq0-clause-write_fault g c =
+    let P = problem_of fraction_of c.args.ground.now in
+    let out = c.pieces.invariant.out in
+    let waits = c.pieces.invariant.waits in
+    writes_by _ _ _ _ _ (progress [] c.args.feed.now.run) c.requires.groundable c.requires.expands.expands c.requires.expands.labels c.requires.fresh.begins _ _ c.end.result c.end.new.self.run _ _ (g.O.Sink.faults c.args.out.now) (g.O.Sink.faults c.end.new.out) c.ended.ensures
+    (err_map c.end.result (HasCause P (g.O.Sink.faults c.pieces.out) (g.O.Sink.faults c.end.new.out)) (HasCause P (g.O.Sink.faults c.args.out.now) (g.O.Sink.faults c.end.new.out)) (λ h k. cause_since P _ _ _ h c.pieces.invariant.no_fall k) c.end.ensures.cause)
+    (end_plays _ _ _ _ _ _ _ _ _ out.sent c.pieces.feed c.end.new.self.run c.end.result _ _ _ out.come (c.in-Ok-read_piece.ensures.at_end c.if-count-eq0.true) c.pieces.invariant.within out.took
+    (ends_same _ _ _ _ waits.same) (ending_same _ _ _ _ waits.same) c.end.ensures.ends c.end.ensures.halts)
 
 pub returns-then-count-eq0-clause-reads : goal.returns-then-count-eq0-clause-reads
 returns-then-count-eq0-clause-reads g c =
@@ -69,57 +85,78 @@ pub returns-in-Err-clause-plays : goal.returns-in-Err-clause-plays
 returns-in-Err-clause-plays g c =
     let out = c.pieces.invariant.out in
     let waits = c.pieces.invariant.waits in
-    record {
-      sent = out.sent;
-      took = out.took;
+    let halts = c.in-Err.ensures.halts in
+    plays_by _ (Err c.in-Err.halt) _ c.ended-in-Err.ensures (record {
+      sent = out.sent ++ halts.gone;
+      took = took_both _ _ _ out.sent halts.gone out.took halts.took;
       out = halts_more _ _ _ _ _ _ _ _ _ (course out.sent c.pieces.feed) _ out.come c.in-Ok-read_piece.ensures.piece c.in-Ok-read_piece.ensures.fits c.min-within.result (take c.min-within.result c.read_piece.new.buffer) refl
-          (omega (arith, c.min-within.ensures)) (omega (arith, c.min-within.ensures)) (progress out.sent c.take.new.self.run) _ waits.going (halts_same _ _ _ _ waits.same _ _ _ _ (c.in-Err.ensures.halts out.sent));
-      so_far = out_so_far _ _ _ _ _ _ c.requires.groundable c.requires.expands.expands c.requires.expands.labels c.requires.fresh.begins _ _ _ c.pieces.feed _ _ waits.idle waits.going out;
-    }
+          (omega (arith, c.min-within.ensures)) (omega (arith, c.min-within.ensures)) (left (out.sent ++ halts.gone) c.take.new.self.run) c.in-Err.halt waits.going (halts_same _ _ _ _ waits.same _ _ _ _ (halts.goes out.sent));
+    })
+
+pub returns-in-Err-clause-fits : goal.returns-in-Err-clause-fits
+returns-in-Err-clause-fits g c = fits_by _ (Err c.in-Err.halt) _ _ _ c.ended-in-Err.ensures c.in-Err.ensures.cause
+
+pub returns-in-Err-clause-read_fault : goal.returns-in-Err-clause-read_fault
+returns-in-Err-clause-read_fault g c = reads_by _ (Err c.in-Err.halt) _ c.ended-in-Err.ensures
+
+pub returns-in-Err-clause-write_fault : goal.returns-in-Err-clause-write_fault
+returns-in-Err-clause-write_fault g c =
+    let out = c.pieces.invariant.out in
+    let waits = c.pieces.invariant.waits in
+    let halts = c.in-Err.ensures.halts in
+    writes_by _ _ _ _ _ (progress [] c.args.feed.now.run) c.requires.groundable c.requires.expands.expands c.requires.expands.labels c.requires.fresh.begins _ _ (Err c.in-Err.halt) c.take.new.self.run _ _ (g.O.Sink.faults c.args.out.now) (g.O.Sink.faults c.take.new.out) c.ended-in-Err.ensures
+    (cause_since _ _ _ _ c.in-Err.halt c.pieces.invariant.no_fall c.in-Err.ensures.cause)
+    (record {
+      sent = out.sent ++ halts.gone;
+      took = took_both _ _ _ out.sent halts.gone out.took halts.took;
+      out = halts_more _ _ _ _ _ _ _ _ _ (course out.sent c.pieces.feed) _ out.come c.in-Ok-read_piece.ensures.piece c.in-Ok-read_piece.ensures.fits c.min-within.result (take c.min-within.result c.read_piece.new.buffer) refl
+          (omega (arith, c.min-within.ensures)) (omega (arith, c.min-within.ensures)) (left (out.sent ++ halts.gone) c.take.new.self.run) c.in-Err.halt waits.going (halts_same _ _ _ _ waits.same _ _ _ _ (halts.goes out.sent));
+    })
 
 pub returns-then-within-count-clause-plays : goal.returns-then-within-count-clause-plays
 returns-then-within-count-clause-plays g c =
     let out = c.pieces.invariant.out in
     let waits = c.pieces.invariant.waits in
+    let feeds = c.in_default-take.ensures.feeds in
+    let sent = out.sent ++ feeds.gone in
     record {
-      sent = out.sent;
-      took = out.took;
+      sent = sent;
+      took = took_both _ _ _ out.sent feeds.gone out.took feeds.took;
       out = subst (λ h. IfSome (g.S.Shelf.bytes c.args.shelf.now c.args.plan.now) (λ text.
-          IsPlayedOut (pair_in c.args.feed.now.instances.numbering.now.typed.now) (labels_of c.args.ground.now) (problem_of fraction_of c.args.ground.now) text (progress [] c.args.feed.now.run) (progress out.sent c.take.new.self.run) (Err h))) (sym c.too_long.ensures.says)
+          IsPlayedOut (pair_in c.args.feed.now.instances.numbering.now.typed.now) (labels_of c.args.ground.now) (problem_of fraction_of c.args.ground.now) text (progress [] c.args.feed.now.run) sent c.take.new.self.run (Err h))) (sym c.too_long.ensures.says)
           (halts_long _ _ _ _ _ _ _ _ _ (course out.sent c.pieces.feed) _ out.come c.in-Ok-read_piece.ensures.piece c.in-Ok-read_piece.ensures.fits c.min-within.result (take c.min-within.result c.read_piece.new.buffer) refl
-          (omega (arith, c.min-within.ensures)) (omega (arith, c.min-within.ensures)) (course out.sent c.take.new.self) (feeds_same _ _ _ _ waits.same _ _ _ (c.in_default-take.ensures.feeds out.sent)) c.in_default-take.ensures.waits.going c.in_default-take.ensures.waits.idle
-          c.if-within-count.true (omega (arith, c.min-within.ensures)));
-      so_far = out_so_far _ _ _ _ _ _ c.requires.groundable c.requires.expands.expands c.requires.expands.labels c.requires.fresh.begins _ _ _ c.pieces.feed _ _ waits.idle waits.going out;
+          (omega (arith, c.min-within.ensures)) (omega (arith, c.min-within.ensures)) (course sent c.take.new.self) (feeds_same _ _ _ _ waits.same _ _ _ (feeds.goes out.sent)) c.in_default-take.ensures.waits.going c.in_default-take.ensures.waits.idle
+          c.if-within-count.true (omega (arith, c.min-within.ensures)) sent);
     }
 
 pub pieces-preserved : goal.pieces-preserved
 pieces-preserved g c =
     let out = c.pieces.invariant.out in
     let waits = c.pieces.invariant.waits in
+    let feeds = c.in_default-take.ensures.feeds in
+    let sent = out.sent ++ feeds.gone in
     let come = has_more _ _ _ _ _ _ _ _ _ (course out.sent c.pieces.feed) _ out.come c.in-Ok-read_piece.ensures.piece c.in-Ok-read_piece.ensures.fits c.min-within.result (take c.min-within.result c.read_piece.new.buffer) refl
-    (omega (arith, c.min-within.ensures)) (omega (arith, c.min-within.ensures)) (course out.sent c.take.new.self) (feeds_same _ _ _ _ waits.same _ _ _ (c.in_default-take.ensures.feeds out.sent)) (omega (arith, c.min-within.ensures)) in
+    (omega (arith, c.min-within.ensures)) (omega (arith, c.min-within.ensures)) (course sent c.take.new.self) (feeds_same _ _ _ _ waits.same _ _ _ (feeds.goes out.sent)) (omega (arith, c.min-within.ensures)) in
     record {
       keeps = KeepsFiles-trans _ _ _ c.pieces.invariant.keeps c.in-Ok-read_piece.ensures.keeps;
       told = told_more _ _ _ _ _ _ c.pieces.invariant.told c.in-Ok-read_piece.ensures.told;
-      out = out_more _ _ _ _ _ c.take.new.self (record c.take.new.self { run = c.flush-in-pieces.new.self }) _ _ refl c.in-Ok-flush-2.ensures.empty c.in-Ok-flush-2.ensures.stays
-          _ _ _ out.sent out.took c.in-Ok-flush-2.ensures.took come;
+      out = out_more _ _ _ _ _ _ _ c.take.new.self (record c.take.new.self { run = c.flush-in-pieces.new.self }) _ _ _ sent refl c.in-Ok-flush-2.ensures.empty c.in-Ok-flush-2.ensures.goes
+          (took_both _ _ _ out.sent feeds.gone out.took feeds.took) come;
       within = omega (arith, c.min-within.ensures);
       room = omega (arith, c.read_piece.auto.buffer, c.pieces.invariant.room);
-      some = c.next_size-size.ensures.some;
-      fits = c.next_size-size.ensures.fits;
-      waits = open_on _ _ _ c.take.new.self c.flush-in-pieces.new.self (open_then _ _ _ c.pieces.feed c.take.new.self waits c.in_default-take.ensures.waits) (ap (λ (r : Progress). r.timeline) (c.in-Ok-flush-2.ensures.stays []));
-      no_fall = omega (arith, c.pieces.invariant.no_fall, c.flush-in-pieces.ensures.no_fall);
+      waits = open_on _ _ _ c.take.new.self c.flush-in-pieces.new.self (open_then _ _ _ c.pieces.feed c.take.new.self waits c.in_default-take.ensures.waits) (ap (λ (r : Progress). r.timeline) (c.in-Ok-flush-2.ensures.goes.goes []));
+      no_fall = omega (arith, c.pieces.invariant.no_fall, c.take.ensures.no_fall, c.flush-in-pieces.ensures.no_fall);
     }
 
 -- ---- the faults
 
 pub returns-in_default-flush-clause-write_fault : goal.returns-in_default-flush-clause-write_fault
-returns-in_default-flush-clause-write_fault g c = (
-  c.in_default-flush.ensures.cause,
-  breaks_off_piece _ _ _ _ _ (progress [] c.args.feed.now.run) c.requires.groundable c.requires.expands.expands c.requires.expands.labels c.requires.fresh.begins _ _ 0 c.args.feed.now [] _ _ _
-      (fresh_open _ _ _ _ c.args.feed.now c.requires.fresh).idle (fresh_open _ _ _ _ c.args.feed.now c.requires.fresh).going
-      (fresh_come _ _ _ _ _ _ _ c.args.feed.now c.requires.fresh c.in-Ok.ensures.rest) (took_none _) c.in_default-flush.ensures.part,
-)
+returns-in_default-flush-clause-write_fault g c =
+    let opened = fresh_open _ _ _ _ c.args.feed.now c.requires.fresh in (
+      c.in_default-flush.ensures.cause,
+      flush_breaks _ _ _ _ _ (progress [] c.args.feed.now.run) c.requires.groundable c.requires.expands.expands c.requires.expands.labels c.requires.fresh.begins _ _ 0 [] c.args.feed.now c.flush.new.self _ _ _
+          (fresh_come _ _ _ _ _ _ _ c.args.feed.now c.requires.fresh c.in-Ok.ensures.rest) (omega arith) opened.going opened.idle (took_none _) c.in_default-flush.ensures.breaks,
+    )
 
 pub returns-in_default-flush-clause-reads : goal.returns-in_default-flush-clause-reads
 returns-in_default-flush-clause-reads g c =
@@ -137,11 +174,13 @@ pub returns-in_default-flush-2-clause-write_fault : goal.returns-in_default-flus
 returns-in_default-flush-2-clause-write_fault g c =
     let out = c.pieces.invariant.out in
     let waits = c.pieces.invariant.waits in
+    let feeds = c.in_default-take.ensures.feeds in
+    let sent = out.sent ++ feeds.gone in
     let come = has_more _ _ _ _ _ _ _ _ _ (course out.sent c.pieces.feed) _ out.come c.in-Ok-read_piece.ensures.piece c.in-Ok-read_piece.ensures.fits c.min-within.result (take c.min-within.result c.read_piece.new.buffer) refl
-    (omega (arith, c.min-within.ensures)) (omega (arith, c.min-within.ensures)) (course out.sent c.take.new.self) (feeds_same _ _ _ _ waits.same _ _ _ (c.in_default-take.ensures.feeds out.sent)) (omega (arith, c.min-within.ensures)) in (
-      rose_since _ _ _ c.pieces.invariant.no_fall c.in_default-flush-2.ensures.cause,
-      breaks_off_piece _ _ _ _ _ _ c.requires.groundable c.requires.expands.expands c.requires.expands.labels c.requires.fresh.begins _ _ _ c.take.new.self out.sent _ _ _
-          c.in_default-take.ensures.waits.idle c.in_default-take.ensures.waits.going come out.took c.in_default-flush-2.ensures.part,
+    (omega (arith, c.min-within.ensures)) (omega (arith, c.min-within.ensures)) (course sent c.take.new.self) (feeds_same _ _ _ _ waits.same _ _ _ (feeds.goes out.sent)) (omega (arith, c.min-within.ensures)) in (
+      rose_since _ _ _ (omega (arith, c.pieces.invariant.no_fall, c.take.ensures.no_fall)) c.in_default-flush-2.ensures.cause,
+      flush_breaks _ _ _ _ _ (progress [] c.args.feed.now.run) c.requires.groundable c.requires.expands.expands c.requires.expands.labels c.requires.fresh.begins _ _ _ sent c.take.new.self c.flush-in-pieces.new.self _ _ _
+          come (omega (arith, c.min-within.ensures)) c.in_default-take.ensures.waits.going c.in_default-take.ensures.waits.idle (took_both _ _ _ out.sent feeds.gone out.took feeds.took) c.in_default-flush-2.ensures.breaks,
     )
 
 pub returns-in_default-flush-2-clause-reads : goal.returns-in_default-flush-2-clause-reads

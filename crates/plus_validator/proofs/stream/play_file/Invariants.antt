@@ -18,8 +18,6 @@ invariant-pieces g l = record {
       (g.S.Shelf.bytes l.fn.shelf l.plan) (g.S.Shelf.rest l.shelf) l.total (progress [] l.fn.feed.run) l.feed (g.O.Sink.taken l.fn.out) (g.O.Sink.taken l.out);
   within : l.total ≤ text_limit;
   room : length l.buffer ≡ 4096;
-  some : 1 ≤ l.size;
-  fits : l.size ≤ 4096;
   waits : IsOpen (problem_of fraction_of l.ground) l.fn.feed.run.timeline.line.most l.fn.feed.instances.numbering.now l.feed;
   no_fall : g.O.Sink.faults l.fn.out ≤ g.O.Sink.faults l.out;
 }

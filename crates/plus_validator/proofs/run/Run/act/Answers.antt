@@ -11,7 +11,9 @@ use Rattle.plus_validator.proofs.Played.{acts_once}
 use Rattle.plus_validator.proofs.Grounded.{instance_fits}
 use Rattle.plus_validator.specs.Plans.{pair_in}
 use Rattle.plus_validator.proofs.Halting.{act_goes_on, act_halts}
-use Rattle.plus_validator.proofs.Stopping.{call_halts_in, act_halts_in}
+use Rattle.plus_validator.proofs.Handing.{kept_behind}
+use Rattle.plus_validator.proofs.Stopping.{call_halts_in, act_halts_in, act_wants}
+use Rattle.std.proofs.lemmas.Result.{err_from_is_err_and}
 use Rattle.plus_instances.proofs.Making.{made_here}
 use Rattle.plus_validator.proofs.run.Run.act.Goals as goal
 
@@ -47,7 +49,7 @@ returns-in-Err-act-clause-fits c =
 pub returns-in-Err-clause-stops : goal.returns-in-Err-clause-stops
 returns-in-Err-clause-stops c = λ sent.
     call_halts_in (pair_in c.args.instances.now.numbering.now.typed.now) (labels_of c.args.ground.now) (problem_of fraction_of c.args.ground.now) c.args.line
-    c.args.call.now c.in-Err.fault (progress sent c.args.self.now) c.refused_call.result c.requires.can c.in-Err.ensures.refused c.refused_call.ensures.says
+    c.args.call.now c.in-Err.fault (progress sent c.args.self.now) sent c.refused_call.result c.requires.can c.in-Err.ensures.refused c.refused_call.ensures.says (kept_behind sent c.args.self.now)
 
 pub returns-in-Err-act-clause-stops : goal.returns-in-Err-act-clause-stops
 returns-in-Err-act-clause-stops c = λ sent.
@@ -55,5 +57,10 @@ returns-in-Err-act-clause-stops c = λ sent.
     let N = labels_of c.args.ground.now in
     let P = problem_of fraction_of c.args.ground.now in
     let new : Run = record { timeline = c.act.new.self; report = c.args.self.now.report; entries = c.args.self.now.entries; firings = c.args.self.now.firings; ended = c.args.self.now.ended } in
-    act_halts_in d N P c.args.line c.args.call.now (action_of fraction_of c.at-action.result.now) (progress sent c.args.self.now) (progress sent new) c.in-Err-act.stop c.halted.result c.requires.can (made_here _ _ _ _ _ _ c.in-Ok.ensures.made c.at-action.ensures).called
-    c.halted.ensures c.in-Err-act.ensures.told refl
+    act_halts_in d N P c.args.line c.args.call.now (action_of fraction_of c.at-action.result.now) (progress sent c.args.self.now) (progress sent new) sent c.in-Err-act.stop c.halted.result c.requires.can (made_here _ _ _ _ _ _ c.in-Ok.ensures.made c.at-action.ensures).called
+    c.halted.ensures c.in-Err-act.ensures.told refl (kept_behind sent c.args.self.now)
+
+pub returns-in_err-write_act_changes-clause-stops : goal.returns-in_err-write_act_changes-clause-stops
+returns-in_err-write_act_changes-clause-stops c = λ sent.
+    let p = err_from_is_err_and c.from_residual.result c.from_residual.ensures.1 in
+    rw (p.1, p.2) (act_wants (pair_in c.args.instances.now.numbering.now.typed.now) (labels_of c.args.ground.now) (problem_of fraction_of c.args.ground.now) c.args.line c.args.call.now (progress sent c.args.self.now) _ c.requires.can (kept_behind sent c.args.self.now))

@@ -1,42 +1,89 @@
-use Rattle.std.proofs.Common.{◌≡◌, [], sym, subst}
+use Rattle.std.proofs.Common.{◌≡◌, true, false, [], sym, subst, arith, refl}
+use Rattle.std.proofs.lemmas.Result.{err_from_is_err_and}
 use Rattle.plus_number.specs.Frac.{fraction_of}
 use Rattle.plus_state.specs.View.{problem_of, labels_of}
-use Rattle.plus_validator.specs.Account.{progress}
-use Rattle.plus_validator.specs.Running.{Steps}
-use Rattle.plus_validator.proofs.Runs.{along_step, along_done}
+use Rattle.plus_validator.specs.Account.{Progress, progress}
+use Rattle.plus_validator.specs.Handing.{HandsOn, left}
+use Rattle.plus_validator.specs.Halts.{HaltFits, HasCause}
+use Rattle.plus_validator.specs.Running.{Steps, Reaches}
+use Rattle.plus_validator.proofs.Runs.{along_start, along_step, along_done}
 use Rattle.plus_validator.specs.declared.halt.Halt.{Halt}
 use Rattle.plus_validator.specs.Stopped.{HaltsOnWay}
+use Rattle.plus_validator.proofs.Handing.{hands_none, hands_map, hands_then, cause_of, rose_since}
 use Rattle.plus_validator.proofs.Halting.{from_err}
-use Rattle.plus_validator.proofs.Stopping.{along_halts}
+use Rattle.plus_validator.proofs.Stopping.{along_halts, way_breaks}
 use Rattle.plus_validator.proofs.run.Run.reach.Goals as goal
 
-pub returns-then-branch-clause-reaches : goal.returns-then-branch-clause-reaches
-returns-then-branch-clause-reaches c = λ sent.
-    let N = labels_of c.args.ground.now in
-    let P = problem_of fraction_of c.args.ground.now in
-    along_done N P (fraction_of c.args.until) (progress sent c.args.self.now) (progress sent c.steps.self) (progress sent c.step.new.self) (c.steps.invariant sent)
-    (subst (Steps N P (fraction_of c.args.until) (progress sent c.steps.self) (progress sent c.step.new.self)) c.if-branch.true (c.in_ok-step.ensures.steps sent))
+pub steps-init : goal.steps-init
+steps-init g c = record {
+  goes = hands_none _ (λ sent. along_start (labels_of c.args.ground.now) (problem_of fraction_of c.args.ground.now) (fraction_of c.args.until) (progress sent c.args.self.now) c.requires.can);
+  no_fall = omega arith;
+}
+
+pub step-requires : goal.step-requires
+step-requires g c = record { can = (c.steps.invariant.goes.goes []).can }
 
 pub steps-preserved : goal.steps-preserved
-steps-preserved c = λ sent.
-    let N = labels_of c.args.ground.now in
-    let P = problem_of fraction_of c.args.ground.now in
-    along_step N P (fraction_of c.args.until) (progress sent c.args.self.now) (progress sent c.steps.self) (progress sent c.step.new.self) (c.steps.invariant sent)
-    (subst (Steps N P (fraction_of c.args.until) (progress sent c.steps.self) (progress sent c.step.new.self)) c.if-branch.false (c.in_ok-step.ensures.steps sent))
-
-pub returns-in_err-step-clause-stops : goal.returns-in_err-step-clause-stops
-returns-in_err-step-clause-stops c = λ sent.
+steps-preserved g c =
     let N = labels_of c.args.ground.now in
     let P = problem_of fraction_of c.args.ground.now in
     let u = fraction_of c.args.until in
-    from_err c.from_residual.result (λ (h : Halt). h ≡ c.in_err-step.field-0.0) (HaltsOnWay N P u (progress sent c.args.self.now) (progress sent c.step.new.self)) c.from_residual.ensures.1
-    (λ h e. subst (HaltsOnWay N P u (progress sent c.args.self.now) (progress sent c.step.new.self)) (sym e)
-    (along_halts N P u (progress sent c.args.self.now) (progress sent c.steps.self) (progress sent c.step.new.self) c.in_err-step.field-0.0 (c.steps.invariant sent) (c.in_err-step.ensures.stops sent)))
+    record {
+      goes = hands_then c.steps.invariant.goes c.in-Ok.ensures.goes
+          (λ sent mid out a s.
+          along_step N P u (progress sent c.args.self.now) (progress mid c.steps.self) (progress out c.flush_much.new.self) a
+          (subst (λ (r : Progress). Steps N P u (progress mid c.steps.self) r false) (sym s)
+          (subst (Steps N P u (progress mid c.steps.self) (progress mid c.step.new.self)) c.if-there.false (c.in_ok-there.ensures.steps mid))));
+      no_fall = omega (arith, c.steps.invariant.no_fall, c.flush_much.ensures.no_fall);
+    }
 
-pub step-requires : goal.step-requires
-step-requires c = record { can = (c.steps.invariant []).can }
+pub returns-then-there-clause-reaches : goal.returns-then-there-clause-reaches
+returns-then-there-clause-reaches g c =
+    let N = labels_of c.args.ground.now in
+    let P = problem_of fraction_of c.args.ground.now in
+    let u = fraction_of c.args.until in
+    hands_then c.steps.invariant.goes c.in-Ok.ensures.goes
+    (λ sent mid out a s.
+    along_done N P u (progress sent c.args.self.now) (progress mid c.steps.self) (progress out c.flush_much.new.self) a
+    (subst (λ (r : Progress). Steps N P u (progress mid c.steps.self) r true) (sym s)
+    (subst (Steps N P u (progress mid c.steps.self) (progress mid c.step.new.self)) c.if-there.true (c.in_ok-there.ensures.steps mid))))
 
 pub steps-smaller : goal.steps-smaller
-steps-smaller c =
-    (subst (Steps (labels_of c.args.ground.now) (problem_of fraction_of c.args.ground.now) (fraction_of c.args.until) (progress [] c.steps.self) (progress [] c.step.new.self))
-    c.if-branch.false (c.in_ok-step.ensures.steps [])).less
+steps-smaller g c =
+    let N = labels_of c.args.ground.now in
+    let P = problem_of fraction_of c.args.ground.now in
+    let u = fraction_of c.args.until in
+    let goes = c.in-Ok.ensures.goes in
+    (subst (λ (r : Progress). Steps N P u (progress [] c.steps.self) r false) (sym (goes.goes []))
+    (subst (Steps N P u (progress [] c.steps.self) (progress [] c.step.new.self)) c.if-there.false (c.in_ok-there.ensures.steps []))).less
+
+-- ---- the halts
+
+pub returns-in_err-there-clause-stops : goal.returns-in_err-there-clause-stops
+returns-in_err-there-clause-stops g c =
+    let N = labels_of c.args.ground.now in
+    let P = problem_of fraction_of c.args.ground.now in
+    let u = fraction_of c.args.until in
+    from_err c.from_residual.result (λ (h : Halt). h ≡ c.in_err-there.field-0.0) (λ (h : Halt). HandsOn progress left (λ old new. HaltsOnWay N P u old new h) c.args.self.now c.step.new.self (g.O.Sink.taken c.args.out.now) (g.O.Sink.taken c.steps.out)) c.from_residual.ensures.1
+    (λ h e. subst (λ (h : Halt). HandsOn progress left (λ old new. HaltsOnWay N P u old new h) c.args.self.now c.step.new.self (g.O.Sink.taken c.args.out.now) (g.O.Sink.taken c.steps.out)) (sym e)
+    (hands_map c.steps.invariant.goes (λ sent out a.
+    along_halts N P u (progress sent c.args.self.now) (progress out c.steps.self) (left out c.step.new.self) c.in_err-there.field-0.0 a (c.in_err-there.ensures.stops out))))
+
+pub returns-in_err-there-clause-cause : goal.returns-in_err-there-clause-cause
+returns-in_err-there-clause-cause g c =
+    let P = problem_of fraction_of c.args.ground.now in
+    from_err c.from_residual.result (λ (h : Halt). h ≡ c.in_err-there.field-0.0) (HasCause P (g.O.Sink.faults c.args.out.now) (g.O.Sink.faults c.steps.out)) c.from_residual.ensures.1
+    (λ h e. subst (HasCause P (g.O.Sink.faults c.args.out.now) (g.O.Sink.faults c.steps.out)) (sym e) (cause_of P (g.O.Sink.faults c.args.out.now) (g.O.Sink.faults c.steps.out) c.in_err-there.field-0.0 c.in_err-there.ensures.fits))
+
+pub returns-in_default-clause-stops : goal.returns-in_default-clause-stops
+returns-in_default-clause-stops g c =
+    let N = labels_of c.args.ground.now in
+    let P = problem_of fraction_of c.args.ground.now in
+    let u = fraction_of c.args.until in
+    hands_then c.steps.invariant.goes c.in_default.ensures.breaks
+    (λ sent mid out a o.
+    along_halts N P u (progress sent c.args.self.now) (progress mid c.steps.self) (left out c.flush_much.new.self) _ a
+    (way_breaks N P u (progress mid c.steps.self) (progress mid c.step.new.self) (left out c.flush_much.new.self) c.in_ok-there.there (c.in_ok-there.ensures.steps mid) o))
+
+pub returns-in_default-clause-cause : goal.returns-in_default-clause-cause
+returns-in_default-clause-cause g c = rose_since _ _ _ c.steps.invariant.no_fall c.in_default.ensures.cause

@@ -8,7 +8,9 @@ use Rattle.plus_validator.specs.Standing.{entries_in, firings_in, next_text}
 use Rattle.plus_validator.proofs.Steps.{account_by, step_shown}
 use Rattle.plus_validator.proofs.Runs.{step_says}
 use Rattle.plus_validator.proofs.Halting.{advance_goes_on, advance_halts}
-use Rattle.plus_validator.proofs.Stopping.{advance_halts_on}
+use Rattle.plus_validator.proofs.Handing.{kept_behind}
+use Rattle.plus_validator.proofs.Stopping.{advance_halts_on, way_wants}
+use Rattle.std.proofs.lemmas.Result.{err_from_is_err_and}
 use Rattle.plus_validator.proofs.run.Run.step.Goals as goal
 
 pub write_next-requires-clause-shown : goal.write_next-requires-clause-shown
@@ -49,4 +51,14 @@ returns-in-Err-clause-stops c = λ sent.
     let N = labels_of c.args.ground.now in
     let P = problem_of fraction_of c.args.ground.now in
     let new : Run = record { timeline = c.advance.new.self; report = c.args.self.now.report; entries = c.args.self.now.entries; firings = c.args.self.now.firings; ended = c.args.self.now.ended } in
-    advance_halts_on N P (fraction_of c.args.until) (progress sent c.args.self.now) (progress sent new) c.in-Err.stop c.halted.result c.requires.can c.halted.ensures c.in-Err.ensures.told refl
+    advance_halts_on N P (fraction_of c.args.until) (progress sent c.args.self.now) (progress sent new) sent c.in-Err.stop c.halted.result c.requires.can c.halted.ensures c.in-Err.ensures.told refl (kept_behind sent c.args.self.now)
+
+pub returns-in_err-write_next-clause-stops : goal.returns-in_err-write_next-clause-stops
+returns-in_err-write_next-clause-stops c = λ sent.
+    let p = err_from_is_err_and c.from_residual.result c.from_residual.ensures.1 in
+    rw (p.1, p.2) (way_wants (labels_of c.args.ground.now) (problem_of fraction_of c.args.ground.now) (fraction_of c.args.until) (progress sent c.args.self.now) _ c.requires.can (kept_behind sent c.args.self.now))
+
+pub returns-in_err-count-clause-stops : goal.returns-in_err-count-clause-stops
+returns-in_err-count-clause-stops c = λ sent.
+    let p = err_from_is_err_and c.from_residual-in_err-count.result c.from_residual-in_err-count.ensures.1 in
+    rw (p.1, p.2) (way_wants (labels_of c.args.ground.now) (problem_of fraction_of c.args.ground.now) (fraction_of c.args.until) (progress sent c.args.self.now) _ c.requires.can (kept_behind sent c.args.self.now))
