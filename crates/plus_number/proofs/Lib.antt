@@ -1,2 +1,3 @@
+pub mod DivisorLemmas
 pub mod FracLemmas
 pub mod TicksLemmas

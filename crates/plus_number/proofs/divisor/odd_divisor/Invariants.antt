@@ -1,0 +1,9 @@
+use Rattle.std.proofs.Common.{◌≡◌, ◌+◌, ◌%◌}
+use Rattle.plus_fraction.specs.Gcd.{gcd}
+use Rattle.plus_number.proofs.divisor.odd_divisor.Given as goal
+
+abbrev pub invariant-loop-x : goal.invariant-loop-x
+invariant-loop-x l = record { first : l.x % 2 ≡ 1; second : l.y % 2 ≡ 1; same_divisor : gcd l.x l.y ≡ gcd l.fn.a l.fn.b }
+
+abbrev pub decreases-loop-x : goal.decreases-loop-x
+decreases-loop-x l = l.x + l.y
