@@ -8,23 +8,21 @@ ghost use Rattle.plus_numbering.specs.Tables.{context, starts_from, list_numbers
 use crate::extents::Extents;
 use plus_state::Label;
 use plus_tree::{Head, TypedName};
+use smallvec::SmallVec;
 use std::alloc::{AllocError, Global};
 
-// No more bytes than this have most labels.
-const USUAL_LEN: usize = 64;
-
-// Makes a text that of a label: the name, and the names of these objects.
+// The label that is spelled by the name and the names of these objects.
 #[inline(always)]
 fn spell(
+    alloc: Global,
     extents: &Extents<'_>,
     name: &[u8],
     objects: &[u32],
-    text: &mut Vec<u8>,
-) -> Result<(), AllocError>
-    ensures { OnOk result (text.new.items ≡ label_of name.now
+) -> Result<Label, AllocError>
+    ensures { IfOk result (λ l. l ≡ label_of name.now
         (object_names (context extents.now.typed.now) objects.now)) }
 {
-    text.clear();
+    let mut text = SmallVec::new(alloc);
     text.push(b'(')?;
     text.extend_from_slice(name)?;
     'objects: for object in objects {
@@ -32,7 +30,7 @@ fn spell(
         text.extend_from_slice(extents.name(*object))?;
     }
     text.push(b')')?;
-    Ok(())
+    Ok(Label::of_text(text))
 }
 
 /// The label of a ground form: the name, and the names of these objects.
@@ -45,9 +43,7 @@ pub fn label(
     ensures { IfOk result (λ l. l ≡ label_of name.now
         (object_names (context extents.now.typed.now) objects.now)) }
 {
-    let mut text = Vec::with_capacity(alloc, USUAL_LEN)?;
-    spell(extents, name, objects, &mut text)?;
-    Label::new(alloc, &text)
+    spell(alloc, extents, name, objects)
 }
 
 // Makes `objects` the list at a place among those that take one object of each parameter's type, of which
@@ -94,12 +90,10 @@ fn add_labels(
         (tuples (extents_of (context extents.now.typed.now) head.now.params))) }
 {
     let mut objects = Vec::new(alloc);
-    let mut text = Vec::new(alloc);
     'places: for place in 0..size {
         let params = head.params.as_slice();
         objects_at(extents, params, kinds, size, place, &mut objects)?;
-        spell(extents, head.name.name.bytes(), &objects, &mut text)?;
-        labels.push(Label::new(alloc, &text)?)?;
+        labels.push(spell(alloc, extents, head.name.name.bytes(), &objects)?)?;
     }
     Ok(())
 }
@@ -116,7 +110,8 @@ pub fn labels(
     requires starts { starts.now ≡ starts_from (context extents.now.typed.now) 0 heads.now }
     ensures { IfOk result (λ ls. ls.items ≡ ground_labels (context extents.now.typed.now) heads.now) }
 {
-    let mut labels = Vec::new(alloc);
+    let all = starts.last().copied().unwrap_or(0);
+    let mut labels = Vec::with_capacity(alloc, all as usize)?;
     'heads: for (i, head) in heads.iter().enumerate() {
         let size = starts[i + 1] - starts[i];
         add_labels(alloc, extents, head, &kinds[i], size, &mut labels)?;

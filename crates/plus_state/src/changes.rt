@@ -55,6 +55,7 @@ impl<Q: Exact> Changes<Q> {
     }
 
     /// Adds changes that are made after these.
+    #[inline(always)]
     pub fn append(&mut self, later: &Changes<Q>) -> Result<(), AllocError>
         ensures ok { OnOk result (self.new ≡ record {
           atoms = self.old.atoms ++ later.now.atoms;

@@ -81,6 +81,7 @@ fn note<Q: Exact>(changes: &mut Changes<Q>, state: &State<Q>, write: Due<Q>) -> 
 }
 
 // The same of a write, if there is one.
+#[inline(always)]
 fn note_due<Q: Exact>(changes: &mut Changes<Q>, state: &State<Q>, write: Option<Due<Q>>) -> bool
     requires { DuesFit (length state.now.atoms) (length state.now.fluents) (as_list (option_map (due_of Q.value) write)) }
     ensures { IsTrue result → NotesDue Q.fits (as_list (option_map (due_of Q.value) write)) state.now changes.old changes.new }

@@ -13,10 +13,10 @@ places-preserved c =
     let l : c.places.place < length ts = omega (arith, c.places-test.true, c.requires.size) in
     let o : c.objects_at.new.objects.items ≡ get_or ts c.places.place [] =
     c.in_ok-objects_at.ensures ∙ ap (λ ps. get_or (tuples (extents_of C ps)) c.places.place []) c.as_slice-params.ensures in
-    let n : c.in_ok-new.field-0 ≡ label_of h.name.name (object_names C (get_or ts c.places.place [])) =
-    c.in_ok-new.ensures ∙ c.deref-in-places.ensures.value ∙ c.in_ok-spell.ensures ∙ ap (λ x. label_of x (object_names C c.deref.result.now)) c.bytes.ensures
+    let n : c.in_ok-spell.field-0 ≡ label_of h.name.name (object_names C (get_or ts c.places.place [])) =
+    c.in_ok-spell.ensures ∙ ap (λ x. label_of x (object_names C c.deref.result.now)) c.bytes.ensures
     ∙ ap (λ os. label_of h.name.name (object_names C os)) (c.deref.ensures.value ∙ o) in
-    labels-more (λ t. label_of h.name.name (object_names C t)) c.args.labels.now.items c.places.labels.items _ ts c.places.place [] c.in_ok-new.field-0 l n c.places.invariant c.in_ok-push.ensures.items
+    labels-more (λ t. label_of h.name.name (object_names C t)) c.args.labels.now.items c.places.labels.items _ ts c.places.place [] c.in_ok-spell.field-0 l n c.places.invariant c.in_ok-push.ensures.items
 
 pub returns : goal.returns
 returns c =
