@@ -6,6 +6,7 @@ pub mod NextRoot
 pub mod Deciding
 pub mod Walking
 pub mod Rated
+pub mod Just
 pub mod Places
 pub mod Moving
 pub mod Steady

@@ -184,17 +184,33 @@ impl<Q: Exact> Rates<Q> {
         &self.given
     }
 
-    /// The fluents whose rate is not zero, by their numbers.
-    #[inline(always)]
-    pub fn moving(&self, alloc: Global) -> Result<Vec<FluentId>, AllocError>
-        ensures { IfOk result (λ fluents. fluent_numbers fluents.items ≡ moving_of self.now) }
+    /// Puts the fluents whose rate is not zero, by their numbers, in place of others, whose memory they take.
+    pub fn moving_into(&self, fluents: &mut Vec<FluentId>) -> Result<(), AllocError>
+        ensures { IfOk result (λ _. fluent_numbers fluents.new.items ≡ moving_of self.now) }
     {
-        let mut fluents = Vec::with_capacity(alloc, self.given.len())?;
+        fluents.clear();
         'each: for entry in &self.given {
             if !is_zero(entry.1) {
                 fluents.push(FluentId(entry.0))?;
             }
         }
-        Ok(fluents)
+        Ok(())
+    }
+
+    /// Whether the fluents whose rate is not zero are just these, in this order.
+    #[inline(always)]
+    pub fn moves_just(&self, fluents: &[FluentId]) -> bool
+        ensures { result ≡ true → fluent_numbers fluents.now ≡ moving_of self.now }
+    {
+        let mut place = 0;
+        'each: for entry in &self.given {
+            if !is_zero(entry.1) {
+                if place >= fluents.len() || fluents[place].0 != entry.0 {
+                    return false;
+                }
+                place += 1;
+            }
+        }
+        place == fluents.len()
     }
 }

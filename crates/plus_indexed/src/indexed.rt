@@ -7,8 +7,6 @@ ghost use Rattle.plus_state.specs.Asked.{AllFit};
 ghost use Rattle.plus_state.specs.View.{problem_of, action_of};
 ghost use Rattle.plus_state.specs.Changes.{LeadsTo, RisesIn};
 ghost use Rattle.plus_state.specs.Fits.{StateFits, ActionFits};
-ghost use Rattle.plus_reads.specs.Tables.{ReadAny};
-ghost use Rattle.plus_crossing.specs.Rated.{moving_of};
 ghost use Rattle.plus_settle.specs.Settles.{condition_nodes, ConditionStops};
 ghost use Rattle.plus_stretch.specs.Tests.{AllPass};
 ghost use Rattle.plus_timeline.specs.Asked.{round_tests};
@@ -28,8 +26,7 @@ use crate::waking::{emptied, still_woken, woken};
 use plus_cascade::{CascadeStop, DueRound};
 use plus_number::exact::Exact;
 use plus_reads::Index;
-use plus_reads::touched::readers_by;
-use plus_settle::{Running, SettleStop, holding, settle_among};
+use plus_settle::{MovingReaders, SettleStop, holding, settle_among};
 use plus_state::changes::Changes;
 use plus_state::problem::{Action, Ground};
 use plus_state::states::State;
@@ -46,13 +43,14 @@ use std::rc::Rc;
 pub struct Indexed<Q: Exact> {
     alloc: Global,
     timeline: Timeline<Q>,
-    index: Rc<Index>,
+    readers: MovingReaders,
     // the events that are to be looked at where a round may be due, and the processes where the entry is
     // closed; all of them where there is no list
     events: Option<Vec<EventId>>,
     processes: Option<Waiting>,
-    // room for numbers, which many steps use
+    // room for numbers and for processes, which many steps use
     numbers: Vec<u32>,
+    listed: Vec<ProcessId>,
 }
 
 impl<Q: Exact> Model for Indexed<Q> {
@@ -68,7 +66,7 @@ impl<Q: Exact> Model for Indexed<Q> {
     ghost view = { λ i. record {
       line = i.timeline;
       kept = record {
-        index = i.index.value;
+        index = i.readers.index;
         events = option_map (λ w. event_numbers w.items) i.events;
         processes = i.processes;
       };
@@ -116,10 +114,11 @@ impl<Q: Exact> Indexed<Q> {
         Ok(Indexed {
             alloc,
             timeline,
-            index: Rc::new(alloc, index)?,
+            readers: MovingReaders::new(alloc, Rc::new(alloc, index)?),
             events: None,
             processes: None,
             numbers: Vec::new(alloc),
+            listed: Vec::new(alloc),
         })
     }
 
@@ -250,10 +249,11 @@ impl<Q: Exact> Indexed<Q> {
         Ok(Indexed {
             alloc,
             timeline: self.timeline.copy(alloc)?,
-            index: self.index.clone()?,
+            readers: self.readers.copy(alloc)?,
             events: copied_events(alloc, &self.events)?,
             processes: copied_processes(alloc, &self.processes)?,
             numbers: Vec::new(alloc),
+            listed: Vec::new(alloc),
         })
     }
 }
@@ -331,26 +331,28 @@ impl<Q: Exact> Indexed<Q> {
     }
 
     // The processes that hold in the present state.
-    fn present(&self, ground: &Ground<Q>) -> Result<Vec<ProcessId>, SettleStop<Q>>
-        requires knows { Knows Q.fits (problem_of Q.value ground.now) self.now }
-        ensures { MatchResult result
-            (λ present. AllFit Q.fits (condition_nodes ((problem_of Q.value ground.now).processes) self.now.line.now.state)
-            × (process_numbers present.items ≡ holding_of (problem_of Q.value ground.now) self.now.line.now.state))
-            (λ stop. ConditionStops Q.value Q.fits (condition_nodes ((problem_of Q.value ground.now).processes) self.now.line.now.state) stop) }
+    fn present(&mut self, ground: &Ground<Q>) -> Result<Vec<ProcessId>, SettleStop<Q>>
+        requires knows { Knows Q.fits (problem_of Q.value ground.now) self.old }
+        ensures told { MatchResult result
+            (λ present. AllFit Q.fits (condition_nodes ((problem_of Q.value ground.now).processes) self.old.line.now.state)
+            × (process_numbers present.items ≡ holding_of (problem_of Q.value ground.now) self.old.line.now.state))
+            (λ stop. ConditionStops Q.value Q.fits (condition_nodes ((problem_of Q.value ground.now).processes) self.old.line.now.state) stop) }
+        ensures same { self.new ≡ self.old }
     {
         match &self.processes {
-            Some(waiting) => match waiting.in_order(self.alloc) {
+            Some(waiting) => match waiting.in_order(&mut self.numbers, &mut self.listed) {
                 Err(_) => Err(SettleStop::Memory),
-                Ok(listed) => present_among(self.alloc, ground, self.timeline.state(), &listed),
+                Ok(()) => present_among(self.alloc, ground, self.timeline.state(), &self.listed),
             },
             None => holding(self.alloc, ground, self.timeline.state()),
         }
     }
 
     // The running set of the present state, and the processes that hold in it.
-    fn settled(&self, ground: &Ground<Q>) -> Result<Settled<Q>, SettleStop<Q>>
-        requires knows { Knows Q.fits (problem_of Q.value ground.now) self.now }
-        ensures { SettledTold Q.value Q.fits (problem_of Q.value ground.now) self.now.line.now.state result }
+    fn settled(&mut self, ground: &Ground<Q>) -> Result<Settled<Q>, SettleStop<Q>>
+        requires knows { Knows Q.fits (problem_of Q.value ground.now) self.old }
+        ensures told { SettledTold Q.value Q.fits (problem_of Q.value ground.now) self.old.line.now.state result }
+        ensures same { self.new ≡ self.old }
     {
         match self.present(ground) {
             Err(stop) => Err(stop),
@@ -359,23 +361,12 @@ impl<Q: Exact> Indexed<Q> {
                 ground,
                 &present,
                 self.timeline.state(),
-                &self.index.processes,
+                &mut self.readers,
             ) {
                 Err(stop) => Err(stop),
                 Ok(running) => Ok(Settled { present, running }),
             },
         }
-    }
-
-    // The events and the processes that read a fluent that moves.
-    fn readers(&self) -> Result<(Vec<EventId>, Vec<ProcessId>), AllocError>
-        ensures events { IfOk result (λ l. ReadAny self.now.kept.index.events (moving_of self.now.line.rates) (event_numbers l.0.items)) }
-        ensures processes { IfOk result (λ l. ReadAny self.now.kept.index.processes (moving_of self.now.line.rates) (process_numbers l.1.items)) }
-    {
-        let moving = self.timeline.rates().moving(self.alloc)?;
-        let events = readers_by(self.alloc, &self.index.events, &moving)?;
-        let processes = readers_by(self.alloc, &self.index.processes, &moving)?;
-        Ok((events, processes))
     }
 
     // Goes on along the running set, to the next entry.
@@ -390,9 +381,14 @@ impl<Q: Exact> Indexed<Q> {
         ensures line { OnErr result (self.new.line ≡ self.old.line) }
         ensures kept { self.new.kept ≡ self.old.kept }
     {
-        match self.readers() {
+        match self.readers.refresh(self.timeline.rates()) {
             Err(_) => Err(Stop::Memory),
-            Ok((events, processes)) => self.timeline.pass_among(ground, until, &events, &processes),
+            Ok(()) => self.timeline.pass_among(
+                ground,
+                until,
+                self.readers.events(),
+                self.readers.processes(),
+            ),
         }
     }
 
@@ -404,7 +400,7 @@ impl<Q: Exact> Indexed<Q> {
     {
         let room = emptied(self.alloc, self.events.take());
         woken(
-            &self.index.events,
+            &self.readers.index().events,
             self.timeline.changes(),
             self.timeline.events(),
             &mut self.numbers,
@@ -422,7 +418,7 @@ impl<Q: Exact> Indexed<Q> {
     {
         match self.events.take() {
             Some(first) => still_woken(
-                &self.index.events,
+                &self.readers.index().events,
                 self.timeline.changes(),
                 first,
                 &mut self.numbers,
@@ -484,7 +480,11 @@ impl<Q: Exact> Indexed<Q> {
     {
         self.events = events;
         let waiting = self.processes.take();
-        self.processes = still_waiting(waiting, &self.index.processes, self.timeline.changes());
+        self.processes = still_waiting(
+            waiting,
+            &self.readers.index().processes,
+            self.timeline.changes(),
+        );
     }
 
     // No event waits.

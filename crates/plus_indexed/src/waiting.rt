@@ -7,7 +7,7 @@ ghost use Rattle.plus_indexed.specs.Woken.{AddsReaders};
 
 use plus_number::exact::Exact;
 use plus_reads::Readers;
-use plus_reads::touched::members_of;
+use plus_reads::touched::members_into;
 use plus_state::changes::Changes;
 use plus_state::term::ProcessId;
 use std::alloc::{AllocError, Global};
@@ -124,15 +124,20 @@ impl Waiting {
         Ok(waiting)
     }
 
-    /// They in ground order, each once.
-    pub fn in_order(&self, alloc: Global) -> Result<Vec<ProcessId>, AllocError>
-        ensures rising { IfOk result (λ l. IsRising 0 (process_numbers l.items)) }
-        ensures same { IfOk result (λ l. (k : ℕ) → is_in (process_numbers l.items) k ≡ true ↔ is_in self.now k ≡ true) }
+    /// They in ground order, each once: in place of others, whose memory they take. So do their numbers.
+    pub fn in_order(
+        &self,
+        numbers: &mut Vec<u32>,
+        listed: &mut Vec<ProcessId>,
+    ) -> Result<(), AllocError>
+        ensures rising { IfOk result (λ _. IsRising 0 (process_numbers listed.new.items)) }
+        ensures same { IfOk result (λ _. (k : ℕ) → is_in (process_numbers listed.new.items) k ≡ true ↔ is_in self.now k ≡ true) }
     {
-        let mut numbers = Vec::from_slice(alloc, &self.numbers)?;
-        sort_once(&mut numbers)?;
-        let processes = members_of(alloc, &numbers)?;
-        Ok(processes)
+        numbers.clear();
+        numbers.extend_from_slice(&self.numbers)?;
+        sort_once(numbers)?;
+        members_into(numbers, listed)?;
+        Ok(())
     }
 
     /// The same.

@@ -46,35 +46,35 @@ pub fn touched<Q: Exact>(
     Ok(())
 }
 
-// The numbers of the readers of these fluents.
-#[inline(always)]
+// Puts the numbers of the readers of these fluents in place of others, whose memory they take.
 fn numbers_by(
-    alloc: Global,
     readers: &Readers,
     fluents: &[FluentId],
-) -> Result<Vec<u32>, AllocError>
-    ensures { IfOk result (λ numbers. ReadAny readers.now (map (λ f. f.0) fluents.now) numbers.items) }
+    numbers: &mut Vec<u32>,
+) -> Result<(), AllocError>
+    ensures { IfOk result (λ _. ReadAny readers.now (map (λ f. f.0) fluents.now) numbers.new.items) }
 {
-    let mut numbers = Vec::new(alloc);
+    numbers.clear();
     'fluents: for fluent in fluents {
-        readers.fluents.append_readers(fluent.0, &mut numbers)?;
+        readers.fluents.append_readers(fluent.0, numbers)?;
     }
-    sort_once(&mut numbers)?;
-    Ok(numbers)
+    sort_once(numbers)?;
+    Ok(())
 }
 
-/// The readers of these fluents, in ground order and without repeats.
-#[inline(always)]
-pub fn readers_by<I: Conditional>(
-    alloc: Global,
+/// Puts the readers of these fluents, in ground order and without repeats, in place of others, whose
+/// memory they take. So do their numbers.
+pub fn readers_into<I: Conditional>(
     readers: &Readers,
     fluents: &[FluentId],
-) -> Result<Vec<I>, AllocError>
-    ensures { IfOk result (λ members. ReadAny readers.now (map (λ f. f.0) fluents.now) (map I.number members.items)) }
+    numbers: &mut Vec<u32>,
+    members: &mut Vec<I>,
+) -> Result<(), AllocError>
+    ensures { IfOk result (λ _. ReadAny readers.now (map (λ f. f.0) fluents.now) (map I.number members.new.items)) }
 {
-    let numbers = numbers_by(alloc, readers, fluents)?;
-    let members = members_of(alloc, &numbers)?;
-    Ok(members)
+    numbers_by(readers, fluents, numbers)?;
+    members_into(numbers, members)?;
+    Ok(())
 }
 
 /// Puts the numbers of these events in place of others, whose memory they take.

@@ -5,37 +5,22 @@ ghost use Rattle.plus_state.specs.View.{problem_of};
 ghost use Rattle.plus_state.specs.Fits.{StateFits};
 ghost use Rattle.plus_state.specs.Asked.{AllFit};
 ghost use Rattle.plus_state.specs.Walk.{process_conditions};
-ghost use Rattle.plus_reads.specs.Tables.{AreBelow, Covers, ReadAny};
-ghost use Rattle.plus_crossing.specs.Rated.{moving_of};
+ghost use Rattle.plus_reads.specs.Tables.{AreBelow, Covers};
 ghost use Rattle.plus_settle.specs.Members.{process_numbers, AreMembers};
 ghost use Rattle.plus_settle.specs.Settles.{condition_nodes, SettleAnswers};
 ghost use Rattle.plus_settle.specs.Uncoupled.{Uncoupled};
 
 use crate::among::first_other_among;
 use crate::choices::settle_stop;
+use crate::moving::MovingReaders;
 use crate::settling::{Running, own_rates, settle_from, uncoupled};
 use crate::stops::SettleStop;
 use plus_crossing::rates::Rates;
 use plus_number::exact::Exact;
-use plus_reads::Readers;
-use plus_reads::touched::readers_by;
 use plus_state::problem::Ground;
 use plus_state::states::State;
 use plus_state::term::ProcessId;
 use std::alloc::{AllocError, Global};
-
-// The processes that read a fluent that moves.
-fn readers_of_moving<Q: Exact>(
-    alloc: Global,
-    readers: &Readers,
-    rates: &Rates<Q>,
-) -> Result<Vec<ProcessId>, AllocError>
-    ensures { IfOk result (λ listed. ReadAny readers.now (moving_of rates.now) (process_numbers listed.items)) }
-{
-    let moving = rates.moving(alloc)?;
-    let listed = readers_by(alloc, readers, &moving)?;
-    Ok(listed)
-}
 
 // The set of a copy of these members, which go on at these rates, where none of them reads a moving fluent.
 fn uncoupled_copy<Q: Exact>(
@@ -62,21 +47,22 @@ pub fn settle_among<Q: Exact>(
     ground: &Ground<Q>,
     present: &[ProcessId],
     state: &State<Q>,
-    readers: &Readers,
+    readers: &mut MovingReaders,
 ) -> Result<Running<Q>, SettleStop<Q>>
     requires state { StateFits (length (ground.now.atoms.items)) (length (ground.now.fluents.items)) state.now }
     requires pass { AllFit Q.fits (condition_nodes ((problem_of Q.value ground.now).processes) state.now) }
     requires present { process_numbers present.now ≡ holding_of (problem_of Q.value ground.now) state.now }
-    requires readers { Covers (process_conditions (problem_of Q.value ground.now)) readers.now }
-    requires below { AreBelow (length (process_conditions (problem_of Q.value ground.now))) readers.now }
+    requires readers { Covers (process_conditions (problem_of Q.value ground.now)) readers.old.index.processes }
+    requires below { AreBelow (length (process_conditions (problem_of Q.value ground.now))) readers.old.index.processes }
     ensures told { SettleAnswers Q.value Q.fits (problem_of Q.value ground.now) state.now result }
     ensures members { IfOk result (λ r. AreMembers (length (ground.now.processes.items)) (process_numbers r.members.items)) }
     ensures size { IfOk result (λ r. length r.rates ≡ length (ground.now.fluents.items)) }
+    ensures index { readers.new.index ≡ readers.old.index }
 {
     let first = own_rates(alloc, ground, present, state)?;
-    match readers_of_moving(alloc, readers, &first) {
+    match readers.refresh(&first) {
         Err(_) => Err(SettleStop::Memory),
-        Ok(listed) => match first_other_among(ground, present, state, &first, &listed) {
+        Ok(()) => match first_other_among(ground, present, state, &first, readers.processes()) {
             Err(stop) => Err(settle_stop(stop)),
             Ok(Some(_)) => settle_from(alloc, ground, present, state, &first),
             Ok(None) => uncoupled_copy(alloc, ground, present, first),

@@ -179,8 +179,12 @@ fn those_that_move(rt: HostRuntime) -> Result<(), Fail> {
     rates.set(FluentId(0), fraction(7, 1))?;
     rates.set(FluentId(3), fraction(3, 2))?;
     rates.set(FluentId(1), zero())?;
-    let moving = rates.moving(alloc)?;
+    let mut moving = Vec::new(alloc);
+    rates.moving_into(&mut moving)?;
     assert_eq!(rt; moving.as_slice(), [FluentId(0), FluentId(3)].as_slice());
+    assert!(rt; rates.moves_just(&moving));
+    assert!(rt; !rates.moves_just(&moving[1..]));
+    assert!(rt; !rates.moves_just(&moving[..1]));
 
     let changes = moved_changes(alloc, &state, &rates, fraction(2, 1))
         .ok()

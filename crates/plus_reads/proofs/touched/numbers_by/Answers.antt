@@ -4,7 +4,7 @@ use Rattle.plus_reads.proofs.Waking.{Gathers, gathers_none, gathers_at, gathers_
 use Rattle.plus_reads.proofs.touched.numbers_by.Goals as goal
 
 pub fluents-init : goal.fluents-init
-fluents-init c = subst (Gathers c.args.readers.now.fluents [] []) (sym c.new-numbers.ensures.items) (gathers_none _ _)
+fluents-init c = subst (Gathers c.args.readers.now.fluents [] []) (sym c.clear.ensures.items) (gathers_none _ _)
 
 pub fluents-preserved : goal.fluents-preserved
 fluents-preserved c =

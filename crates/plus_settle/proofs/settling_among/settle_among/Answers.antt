@@ -1,13 +1,11 @@
-use Rattle.std.proofs.Common.{◌≡◌, ◌∙◌, ℕ, List, length, refl, sym, subst}
+use Rattle.std.proofs.Common.{length, refl}
 use Rattle.std.proofs.lemmas.List.{length-map}
 use Rattle.std.proofs.lemmas.Result.{err_from_is_err_and}
-use Rattle.plus_state.specs.Numbers.{AreMembers}
 use Rattle.plus_state.specs.View.{process_of, problem_of}
 use Rattle.plus_crossing.specs.Rated.{moving_of}
-use Rattle.plus_reads.specs.Tables.{ReadAny}
 use Rattle.plus_settle.specs.Members.{process_numbers}
 use Rattle.plus_settle.proofs.ChoicesLemmas.{holding_members}
-use Rattle.plus_settle.proofs.MembersLemmas.{are_members}
+use Rattle.plus_settle.proofs.MovingLemmas.{processes_now}
 use Rattle.plus_settle.proofs.SettlesLemmas.{first_stop}
 use Rattle.plus_settle.proofs.ShortLemmas.{others_confirmed, short_stop, short_way, short_members}
 use Rattle.plus_settle.proofs.settling_among.settle_among.Goals as goal
@@ -29,8 +27,9 @@ first_other_among-requires-clause-members g c =
 pub first_other_among-requires-clause-others : goal.first_other_among-requires-clause-others
 first_other_among-requires-clause-others g c =
     let P = problem_of g.Q.Exact.value c.args.ground.now in
-    let r = subst (λ (xs : List _). ReadAny c.args.readers.now (moving_of c.in_ok-first.first) (process_numbers xs)) (sym c.deref.ensures.value) c.in-Ok.ensures in
-    others_confirmed g.Q.Exact.fits P c.args.state.now c.args.readers.now (process_numbers c.args.present.now) c.in_ok-first.first (process_numbers c.deref.result.now) g.met.Q.Exact.zero_fits c.requires.pass c.requires.present c.requires.readers r
+    let now = c.refresh.new.self in
+    let r = processes_now now.index c.args.readers.now.index now.moving (moving_of c.in_ok-first.first) (process_numbers c.processes.result.now) c.refresh.ensures.index c.in-Ok.ensures.moving c.processes.ensures in
+    others_confirmed g.Q.Exact.fits P c.args.state.now c.args.readers.now.index.processes (process_numbers c.args.present.now) c.in_ok-first.first (process_numbers c.processes.result.now) g.met.Q.Exact.zero_fits c.requires.pass c.requires.present c.requires.readers r
 
 pub uncoupled_copy-requires-clause-members : goal.uncoupled_copy-requires-clause-members
 uncoupled_copy-requires-clause-members g c =

@@ -10,7 +10,7 @@ returns-in-Ok-clause-knows g c =
     let fits = g.Q.Exact.fits in
     let P = problem_of g.Q.Exact.value c.args.ground.now in
     let told = c.in-Ok.ensures.told in
-    let old : IndexedView = record { line = c.self.inside.timeline; kept = record { index = c.self.inside.index.value; events = numbers c.self.inside.events; processes = c.self.inside.processes } } in
+    let old : IndexedView = record { line = c.self.inside.timeline; kept = record { index = c.self.inside.readers.index; events = numbers c.self.inside.events; processes = c.self.inside.processes } } in
     let mid : IndexedView = record { line = c.act.new.self; kept = old.kept } in
     let k : Knows fits P old = subst (λ (v : IndexedView). v.line.ended ≡ false → Knows fits P v) (sym c.self.view_is) c.requires.knows told.going in
     subst (Knows fits P) (sym c.wake_by_step.ensures.kept)

@@ -9,4 +9,4 @@ use Rattle.plus_indexed.proofs.indexed.Indexed.after_step.Goals as goal
 pub returns-in-Some-clause-woken : goal.returns-in-Some-clause-woken
 returns-in-Some-clause-woken g c =
     subst (λ (v : IndexedView). IfSome c.ok.result (λ w. StillWoken v (event_numbers w.items))) c.self.view_is
-    (still_by c.self.inside.timeline c.self.inside.index.value c.deref.result.now c.self.inside.events c.self.inside.processes c.in-Some.first c.in-Some.first.items c.changes.result.now c.still_woken.result c.ok.result (sym c.take.ensures.value ∙ c.in-Some.is) refl c.deref.ensures c.changes.ensures c.still_woken.ensures c.ok.ensures.value)
+    (still_by c.self.inside.timeline c.self.inside.readers.index c.index.result.now c.self.inside.events c.self.inside.processes c.in-Some.first c.in-Some.first.items c.changes.result.now c.still_woken.result c.ok.result (sym c.take.ensures.value ∙ c.in-Some.is) refl c.index.ensures c.changes.ensures c.still_woken.ensures c.ok.ensures.value)

@@ -10,19 +10,19 @@ pub due_among-requires-clause-members : goal.due_among-requires-clause-members
 due_among-requires-clause-members g c =
     let P = problem_of g.Q.Exact.value c.args.ground.now in
     let k = subst (Knows g.Q.Exact.fits P) (sym c.self.view_is) c.requires.knows in
-    let w = wait_at g.Q.Exact.fits P c.self.inside.timeline c.self.inside.index.value c.self.inside.events c.self.inside.processes c.in-Some.events c.deref.result.now k c.in-Some.is c.deref.ensures.value in
+    let w = wait_at g.Q.Exact.fits P c.self.inside.timeline c.self.inside.readers.index c.self.inside.events c.self.inside.processes c.in-Some.events c.deref.result.now k c.in-Some.is c.deref.ensures.value in
     subst (λ (n : ℕ). AreMembers n (event_numbers c.deref.result.now)) (all_conditions g.Q.Exact.value c.args.ground.now) w.members
 
 pub due_among-requires-clause-pass : goal.due_among-requires-clause-pass
 due_among-requires-clause-pass g c =
     let P = problem_of g.Q.Exact.value c.args.ground.now in
     let k = subst (Knows g.Q.Exact.fits P) (sym c.self.view_is) c.requires.knows in
-    let w = wait_at g.Q.Exact.fits P c.self.inside.timeline c.self.inside.index.value c.self.inside.events c.self.inside.processes c.in-Some.events c.deref.result.now k c.in-Some.is c.deref.ensures.value in
+    let w = wait_at g.Q.Exact.fits P c.self.inside.timeline c.self.inside.readers.index c.self.inside.events c.self.inside.processes c.in-Some.events c.deref.result.now k c.in-Some.is c.deref.ensures.value in
     w.quiet.pass
 
 pub due_among-requires-clause-silent : goal.due_among-requires-clause-silent
 due_among-requires-clause-silent g c =
     let P = problem_of g.Q.Exact.value c.args.ground.now in
     let k = subst (Knows g.Q.Exact.fits P) (sym c.self.view_is) c.requires.knows in
-    let w = wait_at g.Q.Exact.fits P c.self.inside.timeline c.self.inside.index.value c.self.inside.events c.self.inside.processes c.in-Some.events c.deref.result.now k c.in-Some.is c.deref.ensures.value in
+    let w = wait_at g.Q.Exact.fits P c.self.inside.timeline c.self.inside.readers.index c.self.inside.events c.self.inside.processes c.in-Some.events c.deref.result.now k c.in-Some.is c.deref.ensures.value in
     w.quiet.silent

@@ -14,13 +14,14 @@ use Rattle.plus_indexed.specs.Indexed.{IndexedView}
 use Rattle.plus_indexed.specs.Knows.{Knows}
 use Rattle.plus_indexed.proofs.Present.{in_order_members, in_order_pass, in_order_silent}
 use Rattle.plus_indexed.proofs.indexed.Indexed.present.Goals as goal
+use Rattle.plus_indexed.proofs.indexed.Indexed.present.Goals.{in-Err, in-Ok}
 
 pub present_among-requires-clause-members : goal.present_among-requires-clause-members
 present_among-requires-clause-members g c =
     let P = problem_of g.Q.Exact.value c.args.ground.now in
     let k = subst (Knows g.Q.Exact.fits P) (sym c.self.view_is) c.requires.knows in
     subst (λ (xs : List ProcessId). AreMembers (length (process_conditions P)) (process_numbers xs)) (sym c.deref.ensures.value)
-    (in_order_members g.Q.Exact.fits P c.self.inside.timeline.now.state c.in-Some.waiting (process_numbers c.in-Ok.listed.items) (k.processes c.in-Some.waiting c.in-Some.is) c.in-Ok.ensures.same c.in-Ok.ensures.rising)
+    (in_order_members g.Q.Exact.fits P c.self.inside.timeline.now.state c.in-Some.waiting (process_numbers c.in_order.new.listed.items) (k.processes c.in-Some.waiting c.in-Some.is) c.in-Ok.ensures.same c.in-Ok.ensures.rising)
 
 pub present_among-requires-clause-pass : goal.present_among-requires-clause-pass
 present_among-requires-clause-pass g c =
@@ -28,7 +29,7 @@ present_among-requires-clause-pass g c =
     let k = subst (Knows g.Q.Exact.fits P) (sym c.self.view_is) c.requires.knows in
     subst (λ (s : State). OthersPass g.Q.Exact.fits (process_conditions P) s (process_numbers c.deref.result.now)) (sym c.state.ensures.state)
     (subst (λ (xs : List ProcessId). OthersPass g.Q.Exact.fits (process_conditions P) c.self.inside.timeline.now.state (process_numbers xs)) (sym c.deref.ensures.value)
-    (in_order_pass g.Q.Exact.fits P c.self.inside.timeline.now.state c.in-Some.waiting (process_numbers c.in-Ok.listed.items) (k.processes c.in-Some.waiting c.in-Some.is) c.in-Ok.ensures.same))
+    (in_order_pass g.Q.Exact.fits P c.self.inside.timeline.now.state c.in-Some.waiting (process_numbers c.in_order.new.listed.items) (k.processes c.in-Some.waiting c.in-Some.is) c.in-Ok.ensures.same))
 
 pub present_among-requires-clause-silent : goal.present_among-requires-clause-silent
 present_among-requires-clause-silent g c =
@@ -36,12 +37,16 @@ present_among-requires-clause-silent g c =
     let k = subst (Knows g.Q.Exact.fits P) (sym c.self.view_is) c.requires.knows in
     subst (λ (s : State). OthersFalse (process_conditions P) s (process_numbers c.deref.result.now)) (sym c.state.ensures.state)
     (subst (λ (xs : List ProcessId). OthersFalse (process_conditions P) c.self.inside.timeline.now.state (process_numbers xs)) (sym c.deref.ensures.value)
-    (in_order_silent g.Q.Exact.fits P c.self.inside.timeline.now.state c.in-Some.waiting (process_numbers c.in-Ok.listed.items) (k.processes c.in-Some.waiting c.in-Some.is) c.in-Ok.ensures.same))
+    (in_order_silent g.Q.Exact.fits P c.self.inside.timeline.now.state c.in-Some.waiting (process_numbers c.in_order.new.listed.items) (k.processes c.in-Some.waiting c.in-Some.is) c.in-Ok.ensures.same))
 
-pub returns-in-Ok : goal.returns-in-Ok
-returns-in-Ok g c =
+pub returns-after-in_order-clause-told : goal.returns-after-in_order-clause-told
+returns-after-in_order-clause-told g c =
     let P = problem_of g.Q.Exact.value c.args.ground.now in
-    subst (λ (s : State). MatchResult c.present_among.result
-    (λ (present : Vec ProcessId Global). AllFit g.Q.Exact.fits (condition_nodes P.processes s) × (process_numbers present.items ≡ holding P s))
-    (λ (stop : SettleStop g.row.Q.Denot). ConditionStops g.Q.Exact.value g.Q.Exact.fits (condition_nodes P.processes s) stop))
-    (c.state.ensures.state ∙ ap (λ (v : IndexedView). v.line.now.state) c.self.view_is) c.present_among.ensures
+    elim c.match-in_order.branch [
+      | in-Err w ↦ rw w.result-is tt
+      | in-Ok w ↦
+          rw w.result-is (subst (λ (s : State). MatchResult w.present_among.result
+          (λ (present : Vec ProcessId Global). AllFit g.Q.Exact.fits (condition_nodes P.processes s) × (process_numbers present.items ≡ holding P s))
+          (λ (stop : SettleStop g.row.Q.Denot). ConditionStops g.Q.Exact.value g.Q.Exact.fits (condition_nodes P.processes s) stop))
+          (w.state.ensures.state ∙ ap (λ (v : IndexedView). v.line.now.state) c.self.view_is) w.present_among.ensures)
+    ]

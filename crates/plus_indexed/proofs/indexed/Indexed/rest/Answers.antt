@@ -1,8 +1,9 @@
-use Rattle.std.proofs.Common.{ap, sym, subst}
+use Rattle.std.proofs.Common.{ap, sym, subst, ◌∙◌}
 use Rattle.std.specs.Prelude.{Err}
 use Rattle.plus_state.specs.View.{problem_of}
 use Rattle.plus_timeline.specs.declared.stop.Stop.{Stop}
 use Rattle.plus_timeline.specs.Advance.{AdvanceTold}
+use Rattle.plus_timeline.specs.Closing.{CanClose}
 use Rattle.plus_indexed.specs.Indexed.{IndexedView}
 use Rattle.plus_indexed.proofs.Present.{those_hold, kept_present}
 use Rattle.plus_indexed.proofs.Resting.{IsStill, where_true, where_false, is_there, is_unsettled, is_closed}
@@ -14,9 +15,10 @@ returns-in-Err-settled-clause-told g c =
     let u = g.Q.Exact.value c.args.until in
     let L = c.args.self.now.line in
     let m : IsStill g.Q.Exact.fits P u L = record { going = c.requires.going; moment = c.requires.moment; still = c.requires.still; passed = c.requires.passed; ahead = c.requires.ahead } in
-    let told = is_unsettled g.Q.Exact.value g.Q.Exact.fits P u c.self.inside.timeline L (ap (λ (v : IndexedView). v.line) c.self.view_is) m c.in-Err-settled.stop
-    (where_true _ _ _ c.in-Ok-true.field-0-test c.in-Ok-true.ensures.told) c.in-Err-settled.ensures in
-    subst (λ (s : Stop g.row.Q.Denot). AdvanceTold g.Q.Exact.value g.Q.Exact.fits P u L c.self.inside.timeline (Err s)) (sym c.settle_stop.ensures) told
+    let line = ap (λ (v : IndexedView). v.line) c.settled.ensures.same in
+    let may = subst (CanClose P u) (ap (λ (v : IndexedView). v.line) c.self.view_is ∙ sym line) (where_true _ _ _ c.in-Ok-true.field-0-test c.in-Ok-true.ensures.told) in
+    let told = is_unsettled g.Q.Exact.value g.Q.Exact.fits P u c.settled.new.self.line L line m c.in-Err-settled.stop may c.in-Err-settled.ensures.told in
+    subst (λ (s : Stop g.row.Q.Denot). AdvanceTold g.Q.Exact.value g.Q.Exact.fits P u L c.settled.new.self.line (Err s)) (sym c.settle_stop.ensures) told
 
 pub returns-in-Ok-clause-told : goal.returns-in-Ok-clause-told
 returns-in-Ok-clause-told g c =
@@ -24,15 +26,16 @@ returns-in-Ok-clause-told g c =
     let u = g.Q.Exact.value c.args.until in
     let L = c.args.self.now.line in
     let m : IsStill g.Q.Exact.fits P u L = record { going = c.requires.going; moment = c.requires.moment; still = c.requires.still; passed = c.requires.passed; ahead = c.requires.ahead } in
-    is_closed g.Q.Exact.value g.Q.Exact.fits P u c.self.inside.timeline L (ap (λ (v : IndexedView). v.line) c.self.view_is) m c.run.new.self c.in-Ok.settled.running
-    (where_true _ _ _ c.in-Ok-true.field-0-test c.in-Ok-true.ensures.told) c.in-Ok.ensures.0 c.run.ensures
+    let line = ap (λ (v : IndexedView). v.line) (c.self-in-Ok-true.view_is ∙ c.settled.ensures.same) in
+    let may = subst (CanClose P u) (ap (λ (v : IndexedView). v.line) c.self.view_is ∙ sym line) (where_true _ _ _ c.in-Ok-true.field-0-test c.in-Ok-true.ensures.told) in
+    is_closed g.Q.Exact.value g.Q.Exact.fits P u c.self-in-Ok-true.inside.timeline L line m c.run.new.self c.in-Ok.settled.running may c.in-Ok.ensures.told.0 c.run.ensures
 
 pub returns-in-Ok-clause-processes : goal.returns-in-Ok-clause-processes
 returns-in-Ok-clause-processes g c =
     let P = problem_of g.Q.Exact.value c.args.ground.now in
     let s = c.args.self.now.line.now.state in
     kept_present g.Q.Exact.fits P s c.anew.result c.ok.result c.deref.result.now c.in-Ok.settled.present.items c.ok.ensures.value c.anew.ensures c.deref.ensures.value
-    (those_hold g.Q.Exact.fits P s _ c.in-Ok.ensures.1 c.in-Ok.ensures.2)
+    (those_hold g.Q.Exact.fits P s _ c.in-Ok.ensures.told.1 c.in-Ok.ensures.told.2)
 
 pub returns-in-Ok-false-clause-told : goal.returns-in-Ok-false-clause-told
 returns-in-Ok-false-clause-told g c =

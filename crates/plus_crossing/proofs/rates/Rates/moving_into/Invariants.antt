@@ -1,7 +1,7 @@
 use Rattle.std.proofs.Common.{◌≡◌, ◌++◌, drop}
 use Rattle.plus_crossing.specs.Rated.{fluent_numbers, moving_of}
 use Rattle.plus_crossing.proofs.Rated.{moving_keys}
-use Rattle.plus_crossing.proofs.rates.Rates.moving.Given as goal
+use Rattle.plus_crossing.proofs.rates.Rates.moving_into.Given as goal
 
 abbrev pub invariant-each : goal.invariant-each
 invariant-each g l =

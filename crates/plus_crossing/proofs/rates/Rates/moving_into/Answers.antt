@@ -2,12 +2,12 @@ use Rattle.std.proofs.Common.{◌∙◌, ◌++◌, ap₂, sym}
 use Rattle.plus_crossing.specs.Rated.{fluent_numbers}
 use Rattle.plus_crossing.proofs.Rated.{in_more, moving_keys, moving_is, noted_still, noted_moving}
 use Rattle.plus_crossing.proofs.Places.{sorted_keys, next_entry}
-use Rattle.plus_crossing.proofs.rates.Rates.moving.Goals as goal
-use Rattle.plus_crossing.proofs.rates.Rates.moving.Goals.{then-not-is_zero+in_ok-push, else-not-is_zero}
+use Rattle.plus_crossing.proofs.rates.Rates.moving_into.Goals as goal
+use Rattle.plus_crossing.proofs.rates.Rates.moving_into.Goals.{then-not-is_zero+in_ok-push, else-not-is_zero}
 
 pub each-init : goal.each-init
 each-init g c =
-    ap₂ (λ fs es. fluent_numbers fs ++ moving_keys g.Q.Exact.value es) c.in_ok-fluents.ensures.items c.deref-entry-items.ensures.value
+    ap₂ (λ fs es. fluent_numbers fs ++ moving_keys g.Q.Exact.value es) c.clear.ensures.items c.deref-entry-items.ensures.value
     ∙ moving_is g.Q.Exact.value _ _ _ c.self.view_is (sorted_keys _ c.self.invariant.2) (in_more _ _ _ c.self.invariant.1 c.self.invariant.0)
 
 pub each-preserved : goal.each-preserved

@@ -1,0 +1,38 @@
+use Rattle.std.proofs.Common.{◌≡◌, ◌∙◌, length, ap, sym, arith}
+use Rattle.std.proofs.lemmas.Bool.Decides.{nat_tests}
+use Rattle.std.proofs.lemmas.List.{take_all, drop_all}
+use Rattle.plus_crossing.specs.Rated.{fluent_numbers}
+use Rattle.plus_crossing.proofs.Rated.{in_more, moving_keys, moving_is, noted_still, noted_end}
+use Rattle.plus_crossing.proofs.Just.{noted_just}
+use Rattle.plus_crossing.proofs.Places.{sorted_keys, next_entry}
+use Rattle.plus_crossing.proofs.rates.Rates.moves_just.Goals as goal
+use Rattle.plus_crossing.proofs.rates.Rates.moves_just.Goals.{then-not-is_zero+else-place-fluents+else-fluents-place, else-not-is_zero}
+
+pub each-init : goal.each-init
+each-init g c = record {
+  inside = omega arith;
+  just = ap (λ es. moving_keys g.Q.Exact.value es) c.deref-entry-items.ensures.value
+      ∙ moving_is g.Q.Exact.value _ _ _ c.self.view_is (sorted_keys _ c.self.invariant.2) (in_more _ _ _ c.self.invariant.1 c.self.invariant.0);
+}
+
+pub each-preserved : goal.each-preserved
+each-preserved g c =
+    let e = next_entry c.deref-entry-items.result.now c.each.entry-index c.entry-item.result c.each-test.true c.entry-item.is in
+    elim c.if-not-is_zero.branch [
+      | then-not-is_zero+else-place-fluents+else-fluents-place w ↦
+          rw w.place-is (record {
+            inside = omega arith;
+            just = noted_just g.Q.Exact.value c.args.fluents.now c.each.place (record { 0 = 0 }) _ _ c.entry-item.result _ (sym c.is_zero.ensures ∙ w.if-not-is_zero.true) e w.if-place-fluents.false w.if-fluents-place.false c.each.invariant.just;
+          })
+      | else-not-is_zero w ↦
+          rw w.place-is (record {
+            inside = c.each.invariant.inside;
+            just = noted_still g.Q.Exact.value _ _ _ _ _ (sym c.is_zero.ensures ∙ w.if-not-is_zero.false) e c.each.invariant.just;
+          })
+    ]
+
+pub returns : goal.returns
+returns g c = λ h.
+    let all : c.each.place ≡ length c.args.fluents.now = grind (arith, nat_tests, h) in
+    ap fluent_numbers (sym (take_all c.each.place c.args.fluents.now (omega arith)))
+    ∙ noted_end g.Q.Exact.value _ _ _ (drop_all c.each.entry-index c.deref-entry-items.result.now c.each-test.false) c.each.invariant.just
