@@ -2,6 +2,7 @@
 use Rattle.std.proofs.Common.{◌≡◌, ◌⊎◌, inl, inr, ℕ, zero, suc, ◌+◌, ◌<◌, ◌≤◌, List, [], ◌∷◌, ◌++◌, length, take, drop, arith, refl, ap, sym, subst, ◌∙◌}
 use Rattle.std.proofs.lemmas.List.{length-append, take-append-le}
 use Rattle.std.specs.Prelude.{true, false, pos, Bool, Option, Some, None, Result, Ok, Err, OnOk, IfSome, slice_get, nat_lt, option_to_list, if◌then◌else◌}
+use Rattle.std.specs.List.{AllByRecursion}
 use Rattle.plus_fraction.specs.Fraction.{Fraction, whole}
 use Rattle.plus_model.specs.Terms.{Action, State, Problem}
 use Rattle.plus_model.specs.Trajectory.{first_view}
@@ -15,7 +16,7 @@ use Rattle.plus_timeline.specs.Advance.{Advances}
 use Rattle.plus_timeline.specs.Forked.{forked, CanRefork}
 use Rattle.plus_planner.specs.declared.places.Taken.{Taken}
 use Rattle.plus_planner.specs.declared.places.Tried.{Tried}
-use Rattle.plus_planner.specs.Kin.{IsKin, IsLightened, IsRooted, Each, AreKin, AddsOne, Spares, KeepsKin}
+use Rattle.plus_planner.specs.Kin.{IsKin, IsLightened, IsRooted, AreKin, AddsOne, Spares, KeepsKin}
 use Rattle.plus_planner.specs.Grid.{Task}
 use Rattle.plus_planner.specs.Tried.{Returns}
 use Rattle.plus_planner.specs.Worlds.{Stands, Holds}
@@ -138,31 +139,31 @@ rooted_kin P most old new b l = elim l [
 -- ---- lists of them
 
 module _ {A : Type 0} (Is : A → Type 0) where
-  pub each_append : (xs ys : List A) → Each Is xs → Each Is ys → Each Is (xs ++ ys)
+  pub each_append : (xs ys : List A) → AllByRecursion Is xs → AllByRecursion Is ys → AllByRecursion Is (xs ++ ys)
   each_append [] ys h g = g
   each_append (x ∷ xs) ys h g = (h.0, each_append xs ys h.1 g)
 
-  pub each_left : (xs ys : List A) → Each Is (xs ++ ys) → Each Is xs
+  pub each_left : (xs ys : List A) → AllByRecursion Is (xs ++ ys) → AllByRecursion Is xs
   each_left [] ys h = tt
   each_left (x ∷ xs) ys h = (h.0, each_left xs ys h.1)
 
-  pub each_right : (xs ys : List A) → Each Is (xs ++ ys) → Each Is ys
+  pub each_right : (xs ys : List A) → AllByRecursion Is (xs ++ ys) → AllByRecursion Is ys
   each_right [] ys h = h
   each_right (x ∷ xs) ys h = each_right xs ys h.1
 
-  pub each_take : (n : ℕ) (xs : List A) → Each Is xs → Each Is (take n xs)
+  pub each_take : (n : ℕ) (xs : List A) → AllByRecursion Is xs → AllByRecursion Is (take n xs)
   each_take zero [] h = tt
   each_take zero (x ∷ xs) h = tt
   each_take (suc n) [] h = tt
   each_take (suc n) (x ∷ xs) h = (h.0, each_take n xs h.1)
 
-  pub each_drop : (n : ℕ) (xs : List A) → Each Is xs → Each Is (drop n xs)
+  pub each_drop : (n : ℕ) (xs : List A) → AllByRecursion Is xs → AllByRecursion Is (drop n xs)
   each_drop zero [] h = tt
   each_drop zero (x ∷ xs) h = h
   each_drop (suc n) [] h = tt
   each_drop (suc n) (x ∷ xs) h = each_drop n xs h.1
 
-  pub each_at : (xs : List A) (i : ℕ) (x : A) → slice_get xs i ≡ Some x → Each Is xs → Is x
+  pub each_at : (xs : List A) (i : ℕ) (x : A) → slice_get xs i ≡ Some x → AllByRecursion Is xs → Is x
   each_at [] i x e h = absurd (cc e)
   each_at (y ∷ xs) zero x e h = let f : y ≡ x = cc e in subst Is f h.0
   each_at (y ∷ xs) (suc i) x e h = each_at xs i x e h.1
@@ -172,11 +173,11 @@ chosen P true s t h g = h
 chosen P false s t h g = g
 
 module _ {Q : Type 0} (P : Problem) where
-  pub kin_now : (start : TimelineView) (taken : List (Taken Q)) → IsKin P start → Each (λ (x : Taken Q). IsKin P x.timeline) taken → IsKin P (now_in start taken)
+  pub kin_now : (start : TimelineView) (taken : List (Taken Q)) → IsKin P start → AllByRecursion (λ (x : Taken Q). IsKin P x.timeline) taken → IsKin P (now_in start taken)
   kin_now start [] s h = s
   kin_now start (x ∷ xs) s h = kin_now x.timeline xs h.0 h.1
 
-  pub kin_base : (n : ℕ) (start : TimelineView) (taken : List (Taken Q)) → IsKin P start → Each (λ (x : Taken Q). IsKin P x.timeline) taken → IsKin P (base_in n start taken)
+  pub kin_base : (n : ℕ) (start : TimelineView) (taken : List (Taken Q)) → IsKin P start → AllByRecursion (λ (x : Taken Q). IsKin P x.timeline) taken → IsKin P (base_in n start taken)
   kin_base n start [] s h = s
   kin_base n start (x ∷ xs) s h = kin_base n (if nat_lt x.decision n then x.timeline else start) xs (chosen P (nat_lt x.decision n) x.timeline start h.0 s) h.1
 
@@ -185,24 +186,24 @@ module _ {Q : Type 0} (P : Problem) where
 pub kin_again : {Q : Type 0} (P : Problem) (start start' : TimelineView) (taken taken' : List (Taken Q)) (tried tried' : List (Tried Q)) (spares spares' : List TimelineView) (i : ℕ) → start' ≡ start → spares' ≡ spares → Returns i taken tried taken' tried' → AreKin P start taken tried spares → AreKin P start' taken' tried' spares'
 kin_again {Q} P start start' taken taken' tried tried' spares spares' i e f r h = record {
   start_is = subst (IsKin P) (sym e) h.start_is;
-  taken_are = subst (Each (λ (x : Taken Q). IsKin P x.timeline)) (sym r.taken_is)
+  taken_are = subst (AllByRecursion (λ (x : Taken Q). IsKin P x.timeline)) (sym r.taken_is)
       (each_append (λ (x : Taken Q). IsKin P x.timeline) taken (r.tried.taken ∷ []) h.taken_are
       (each_at (λ (x : Tried Q). IsKin P x.taken.timeline) tried i r.tried r.stands h.tried_are, tt));
-  tried_are = subst (Each (λ (x : Tried Q). IsKin P x.taken.timeline)) (sym r.others)
+  tried_are = subst (AllByRecursion (λ (x : Tried Q). IsKin P x.taken.timeline)) (sym r.others)
       (each_append (λ (x : Tried Q). IsKin P x.taken.timeline) (take i tried) (drop (i + 1) tried)
       (each_take (λ (x : Tried Q). IsKin P x.taken.timeline) i tried h.tried_are)
       (each_drop (λ (x : Tried Q). IsKin P x.taken.timeline) (i + 1) tried h.tried_are));
-  spares_are = subst (Each (IsKin P)) (sym f) h.spares_are;
+  spares_are = subst (AllByRecursion (IsKin P)) (sym f) h.spares_are;
 }
 
 pub kin_back : {Q : Type 0} (P : Problem) (start start' : TimelineView) (taken popped taken' : List (Taken Q)) (x : Taken Q) (tried tried' : List (Tried Q)) (spares spares' : List TimelineView) → taken ≡ popped ++ x ∷ [] → start' ≡ start → taken' ≡ popped → KeepsKin x tried spares tried' spares' → AreKin P start taken tried spares → AreKin P start' taken' tried' spares'
 kin_back {Q} P start start' taken popped taken' x tried tried' spares spares' p e f k h =
-    let all = subst (Each (λ (y : Taken Q). IsKin P y.timeline)) p h.taken_are in
+    let all = subst (AllByRecursion (λ (y : Taken Q). IsKin P y.timeline)) p h.taken_are in
     let one = (each_right (λ (y : Taken Q). IsKin P y.timeline) popped (x ∷ []) all).0 in
     let both = k P one h.tried_are h.spares_are in
     record {
       start_is = subst (IsKin P) (sym e) h.start_is;
-      taken_are = subst (Each (λ (y : Taken Q). IsKin P y.timeline)) (sym f) (each_left (λ (y : Taken Q). IsKin P y.timeline) popped (x ∷ []) all);
+      taken_are = subst (AllByRecursion (λ (y : Taken Q). IsKin P y.timeline)) (sym f) (each_left (λ (y : Taken Q). IsKin P y.timeline) popped (x ∷ []) all);
       tried_are = both.0;
       spares_are = both.1;
     }
@@ -218,7 +219,7 @@ kin_adds {Q} P t start start' taken taken' tried tried' spares spares' i e f a h
     record {
       start_is = subst (IsKin P) (sym e) h.start_is;
       taken_are = both.0;
-      tried_are = subst (Each (λ (x : Tried Q). IsKin P x.taken.timeline)) (sym f) h.tried_are;
+      tried_are = subst (AllByRecursion (λ (x : Tried Q). IsKin P x.taken.timeline)) (sym f) h.tried_are;
       spares_are = both.1;
     }
 
@@ -228,7 +229,7 @@ kin_spares P t start taken tried spares spares' i e h = record {
   start_is = h.start_is;
   taken_are = h.taken_are;
   tried_are = h.tried_are;
-  spares_are = subst (Each (IsKin P)) (sym e) (each_append (IsKin P) spares (t ∷ []) h.spares_are (i, tt));
+  spares_are = subst (AllByRecursion (IsKin P)) (sym e) (each_append (IsKin P) spares (t ∷ []) h.spares_are (i, tt));
 }
 
 -- the last spare one is taken, if there is one
@@ -237,15 +238,15 @@ kin_pop P start taken tried spares left o e h = record {
   start_is = h.start_is;
   taken_are = h.taken_are;
   tried_are = h.tried_are;
-  spares_are = each_left (IsKin P) left (option_to_list o) (subst (Each (IsKin P)) e h.spares_are);
+  spares_are = each_left (IsKin P) left (option_to_list o) (subst (AllByRecursion (IsKin P)) e h.spares_are);
 }
 
-popped_some : (P : Problem) (o : Option TimelineView) → Each (IsKin P) (option_to_list o) → (t : TimelineView) → IsKin P t → IfSome o (λ s. CanRefork s t)
+popped_some : (P : Problem) (o : Option TimelineView) → AllByRecursion (IsKin P) (option_to_list o) → (t : TimelineView) → IsKin P t → IfSome o (λ s. CanRefork s t)
 popped_some P None h t k = tt
 popped_some P (Some s) h t k = kin_refork P s t h.0 k
 
-pub kin_popped : (P : Problem) (spares left : List TimelineView) (o : Option TimelineView) (t : TimelineView) → spares ≡ left ++ option_to_list o → Each (IsKin P) spares → IsKin P t → IfSome o (λ s. CanRefork s t)
-kin_popped P spares left o t e h k = popped_some P o (each_right (IsKin P) left (option_to_list o) (subst (Each (IsKin P)) e h)) t k
+pub kin_popped : (P : Problem) (spares left : List TimelineView) (o : Option TimelineView) (t : TimelineView) → spares ≡ left ++ option_to_list o → AllByRecursion (IsKin P) spares → IsKin P t → IfSome o (λ s. CanRefork s t)
+kin_popped P spares left o t e h k = popped_some P o (each_right (IsKin P) left (option_to_list o) (subst (AllByRecursion (IsKin P)) e h)) t k
 
 pub kin_ok : {A E K : Type 0} (r : Result A E) → K → OnOk r K
 kin_ok (Err e) k = tt
@@ -259,36 +260,36 @@ less_left count xs ys x h e = (let n : length xs ≡ length ys + 1 = ap length e
 pub forget_next : {A : Type 0} (count : ℕ) (all xs ys : List A) (x : A) → count < length xs → xs ≡ ys ++ x ∷ [] → take count xs ≡ take count all → take count ys ≡ take count all
 forget_next count all xs ys x h e k = sym (take-append-le count ys (x ∷ []) (less_left count xs ys x h e)) ∙ ap (take count) (sym e) ∙ k
 
-pub forget_kin : {Q : Type 0} (P : Problem) (xs ys : List (Tried Q)) (x : Tried Q) (spares spares' : List TimelineView) → xs ≡ ys ++ x ∷ [] → spares' ≡ spares ++ x.taken.timeline ∷ [] → Each (λ (t : Tried Q). IsKin P t.taken.timeline) xs × Each (IsKin P) spares → Each (λ (t : Tried Q). IsKin P t.taken.timeline) ys × Each (IsKin P) spares'
+pub forget_kin : {Q : Type 0} (P : Problem) (xs ys : List (Tried Q)) (x : Tried Q) (spares spares' : List TimelineView) → xs ≡ ys ++ x ∷ [] → spares' ≡ spares ++ x.taken.timeline ∷ [] → AllByRecursion (λ (t : Tried Q). IsKin P t.taken.timeline) xs × AllByRecursion (IsKin P) spares → AllByRecursion (λ (t : Tried Q). IsKin P t.taken.timeline) ys × AllByRecursion (IsKin P) spares'
 forget_kin {Q} P xs ys x spares spares' e f h =
-    let all = subst (Each (λ (t : Tried Q). IsKin P t.taken.timeline)) e h.0 in (
+    let all = subst (AllByRecursion (λ (t : Tried Q). IsKin P t.taken.timeline)) e h.0 in (
       each_left (λ (t : Tried Q). IsKin P t.taken.timeline) ys (x ∷ []) all,
-      subst (Each (IsKin P)) (sym f) (each_append (IsKin P) spares (x.taken.timeline ∷ []) h.1
+      subst (AllByRecursion (IsKin P)) (sym f) (each_append (IsKin P) spares (x.taken.timeline ∷ []) h.1
           ((each_right (λ (t : Tried Q). IsKin P t.taken.timeline) ys (x ∷ []) all).0, tt)),
     )
 
 -- what is left was tried before, or is what was taken back
 pub keep_taken : {Q : Type 0} (n count : ℕ) (x : Taken Q) (tried mid tried' : List (Tried Q)) (spares spares' : List TimelineView) → mid ≡ take count tried → Spares tried spares spares' → tried' ≡ mid ++ record { before = n; taken = x } ∷ [] → KeepsKin x tried spares tried' spares'
 keep_taken {Q} n count x tried mid tried' spares spares' e s f P i h k =
-    let left = subst (Each (λ (t : Tried Q). IsKin P t.taken.timeline)) (sym e) (each_take (λ (t : Tried Q). IsKin P t.taken.timeline) count tried h) in (
-      subst (Each (λ (t : Tried Q). IsKin P t.taken.timeline)) (sym f)
+    let left = subst (AllByRecursion (λ (t : Tried Q). IsKin P t.taken.timeline)) (sym e) (each_take (λ (t : Tried Q). IsKin P t.taken.timeline) count tried h) in (
+      subst (AllByRecursion (λ (t : Tried Q). IsKin P t.taken.timeline)) (sym f)
           (each_append (λ (t : Tried Q). IsKin P t.taken.timeline) mid (record { before = n; taken = x } ∷ []) left (i, tt)),
       s P h k,
     )
 
 pub keep_spared : {Q : Type 0} (count : ℕ) (x : Taken Q) (tried mid : List (Tried Q)) (spares left spares' : List TimelineView) → mid ≡ take count tried → Spares tried spares left → spares' ≡ left ++ x.timeline ∷ [] → KeepsKin x tried spares mid spares'
 keep_spared {Q} count x tried mid spares left spares' e s f P i h k = (
-  subst (Each (λ (t : Tried Q). IsKin P t.taken.timeline)) (sym e) (each_take (λ (t : Tried Q). IsKin P t.taken.timeline) count tried h),
-  subst (Each (IsKin P)) (sym f) (each_append (IsKin P) left (x.timeline ∷ []) (s P h k) (i, tt)),
+  subst (AllByRecursion (λ (t : Tried Q). IsKin P t.taken.timeline)) (sym e) (each_take (λ (t : Tried Q). IsKin P t.taken.timeline) count tried h),
+  subst (AllByRecursion (IsKin P)) (sym f) (each_append (IsKin P) left (x.timeline ∷ []) (s P h k) (i, tt)),
 )
 
 -- ---- a timeline is taken, or spared
 
 pub adds_taken : {Q : Type 0} (t : TimelineView) (d : ℕ) (taken taken' : List (Taken Q)) (spares : List TimelineView) → taken' ≡ taken ++ record { decision = d; timeline = t } ∷ [] → AddsOne t taken spares taken' spares
 adds_taken {Q} t d taken taken' spares e P i h k = (
-  subst (Each (λ (x : Taken Q). IsKin P x.timeline)) (sym e) (each_append (λ (x : Taken Q). IsKin P x.timeline) taken (record { decision = d; timeline = t } ∷ []) h (i, tt)),
+  subst (AllByRecursion (λ (x : Taken Q). IsKin P x.timeline)) (sym e) (each_append (λ (x : Taken Q). IsKin P x.timeline) taken (record { decision = d; timeline = t } ∷ []) h (i, tt)),
   k,
 )
 
 pub adds_spared : {Q : Type 0} (t : TimelineView) (taken : List (Taken Q)) (spares spares' : List TimelineView) → spares' ≡ spares ++ t ∷ [] → AddsOne t taken spares taken spares'
-adds_spared {Q} t taken spares spares' e P i h k = (h, subst (Each (IsKin P)) (sym e) (each_append (IsKin P) spares (t ∷ []) k (i, tt)))
+adds_spared {Q} t taken spares spares' e P i h k = (h, subst (AllByRecursion (IsKin P)) (sym e) (each_append (IsKin P) spares (t ∷ []) k (i, tt)))

@@ -6,7 +6,7 @@ use Rattle.plus_timeline.specs.Timeline.{TimelineView}
 abbrev pub forked : TimelineView → TimelineView
 forked v = record v { before = v.now.state; arrival = v.now.state; events = []; running = []; rates = [] }
 
--- a timeline may become that: its states are for as many atoms and fluents, and have the same root, if any
+-- a timeline may become that: it is for as many atoms, fluents and events, and where both have a root it is the same
 pub record CanRefork (old from : TimelineView) : Type 0 where
   pub atoms : old.atoms ≡ from.atoms
   pub fluents : old.fluents ≡ from.fluents

@@ -1,7 +1,8 @@
 use Rattle.std.proofs.Common.{◌≡◌, take, vec_len}
+use Rattle.std.specs.List.{AllByRecursion}
 use Rattle.plus_model.specs.Terms.{Problem}
 use Rattle.plus_planner.specs.declared.places.Tried.{Tried}
-use Rattle.plus_planner.specs.Kin.{Each, IsKin}
+use Rattle.plus_planner.specs.Kin.{IsKin}
 use Rattle.plus_planner.proofs.places.Place.forget.Given as goal
 
 -- no more is forgotten than is to be, and what was forgotten is spared
@@ -10,8 +11,8 @@ invariant-tried g l = record {
   start : l.self.start ≡ l.initial.self.start;
   same : l.self.taken ≡ l.initial.self.taken;
   left : take l.count l.self.tried.items ≡ take l.count l.initial.self.tried.items;
-  kin : (P : Problem) → Each (λ (x : Tried g.row.Q.Denot). IsKin P x.taken.timeline) l.initial.self.tried.items → Each (IsKin P) l.initial.self.spares.items
-      → Each (λ (x : Tried g.row.Q.Denot). IsKin P x.taken.timeline) l.self.tried.items × Each (IsKin P) l.self.spares.items;
+  kin : (P : Problem) → AllByRecursion (λ (x : Tried g.row.Q.Denot). IsKin P x.taken.timeline) l.initial.self.tried.items → AllByRecursion (IsKin P) l.initial.self.spares.items
+      → AllByRecursion (λ (x : Tried g.row.Q.Denot). IsKin P x.taken.timeline) l.self.tried.items × AllByRecursion (IsKin P) l.self.spares.items;
 }
 
 abbrev pub decreases-tried : goal.decreases-tried
