@@ -1,6 +1,5 @@
 -- Searching a table of names is searching the list of their bytes.
-use Rattle.std.proofs.Common.{◌≡◌, ℕ, zero, suc, ◌+◌, ◌<◌, ◌≤◌, Bool, true, false, List, [], ◌∷◌, ap, sym, refl, ◌∙◌, map, length, cond, position, ◌||◌, drop, drop-cons, get_or, arith, Bor, ◌&&◌, not, None, Some, nat_lt, add-one}
-use Rattle.smallvec.specs.SmallVec.{SmallVec}
+use Rattle.std.proofs.Common.{◌≡◌, ℕ, zero, suc, ◌+◌, ◌<◌, ◌≤◌, Bool, true, false, List, [], ◌∷◌, ap, sym, refl, ◌∙◌, map, length, cond, position, ◌||◌, drop, drop-cons, get_or, arith, ◌&&◌, not, None, Some, nat_lt, add-one}
 use Rattle.std.specs.Str.{bytes_eq}
 use Rattle.std.specs.Cmp.Lexicographic.{pointwise}
 use Rattle.plus_types.specs.Faults.{same_names}
@@ -30,23 +29,20 @@ any-passed p [] (suc i) h = refl
 any-passed p (x ∷ xs) zero h = absurd (omega arith)
 any-passed p (x ∷ xs) (suc i) h = any-passed p xs i (omega arith)
 
--- two keys are the same where their names are
-pub same-shown :
-    (xs ys : List (Bor (List ℕ)))
-    → pointwise (λ x y. bytes_eq x.now y.now) xs ys ≡ same_names (map (λ n. n.now) xs) (map (λ n. n.now) ys)
-same-shown [] [] = refl
-same-shown [] (y ∷ ys) = refl
-same-shown (x ∷ xs) [] = refl
-same-shown (x ∷ xs) (y ∷ ys) = ap (λ b. bytes_eq x.now y.now && b) (same-shown xs ys)
+-- two fluents are the same where their names are
+pub same-pointwise : (xs ys : List (List ℕ)) → pointwise bytes_eq xs ys ≡ same_names xs ys
+same-pointwise [] [] = refl
+same-pointwise [] (y ∷ ys) = refl
+same-pointwise (x ∷ xs) [] = refl
+same-pointwise (x ∷ xs) (y ∷ ys) = ap (λ b. bytes_eq x y && b) (same-pointwise xs ys)
 
-pub any-same-shown :
-    (k : List (Bor (List ℕ))) (keys : List (SmallVec (Bor (List ℕ))))
-    → list_any (λ y. pointwise (λ x z. bytes_eq x.now z.now) k y.items) keys
-    ≡ list_any (same_names (map (λ n. n.now) k)) (map (λ key. map (λ n. n.now) key.items) keys)
-any-same-shown k [] = refl
-any-same-shown k (y ∷ ys) =
-    ap (λ b. b || list_any (λ z. pointwise (λ x w. bytes_eq x.now w.now) k z.items) ys) (same-shown k y.items)
-    ∙ ap (λ b. same_names (map (λ n. n.now) k) (map (λ n. n.now) y.items) || b) (any-same-shown k ys)
+pub any-same :
+    (k : List (List ℕ)) (keys : List (List (List ℕ)))
+    → list_any (pointwise bytes_eq k) keys ≡ list_any (same_names k) keys
+any-same k [] = refl
+any-same k (y ∷ ys) =
+    ap (λ b. b || list_any (pointwise bytes_eq k) ys) (same-pointwise k y)
+    ∙ ap (λ b. same_names k y || b) (any-same k ys)
 
 -- none of the members so far passes, and neither does this one
 pub none-yet :

@@ -1,7 +1,10 @@
 //! Walks the initial state.
 
 ghost use Rattle.std.specs.Prelude.{◌≡◌, [], ◌∷◌, ◌++◌, not, map, IfOk, OnOk, if◌then◌else◌};
-ghost use Rattle.std.specs.List.{list_any};
+ghost use Rattle.std.specs.List.{list_any, fold};
+ghost use Rattle.std.specs.Str.{bytes_eq};
+ghost use Rattle.std.specs.Cmp.{partial_equiv_from_equiv};
+ghost use Rattle.std.specs.Cmp.Lexicographic.{pointwise, lists_per, lists_equiv, nat_list_eq_equiv, pointwise_decides, bytes_decides};
 ghost use Rattle.plus_types.specs.Faults.{Walks, ground_name, same_names, term_name, initial_faults, valued_after, init_faults};
 ghost use Rattle.plus_types.specs.Known.{context};
 
@@ -11,29 +14,9 @@ use crate::known::Known;
 use crate::uses::used;
 use indexmap::IndexSet;
 use plus_tree::{Init, Term, Use};
-use smallvec::SmallVec;
 use std::alloc::{AllocError, Global};
+use std::hash::{Hash, Hasher};
 use std::marker::Model;
-
-/// The names of a ground fluent: its own, and those of its objects.
-type Key<'a> = SmallVec<&'a [u8], 4>;
-
-/// The ground fluents that have a first value. Contracts see each as the list of its names.
-#[derive(Drop)]
-struct Valued<'a> {
-    table: IndexSet<Key<'a>>,
-}
-
-impl<'a> Model for Valued<'a> {
-    ghost use Rattle.std.specs.Prelude.{List, ℕ, map};
-    ghost use Rattle.std.specs.Coded.{coded_list, coded_ℕ};
-
-    ghost Value = { List (List (List ℕ)) };
-
-    ghost coded = { coded_list (coded_list (coded_list coded_ℕ)) };
-
-    ghost view = { λ v. map (λ key. map (λ name. name.now) key.items) v.table.keys };
-}
 
 // The bytes of the name of a term.
 fn term_name(term: &Term) -> &[u8]
@@ -44,16 +27,89 @@ fn term_name(term: &Term) -> &[u8]
     }
 }
 
-// The names of a ground fluent.
-fn key<'a>(alloc: Global, fluent: &'a Use) -> Result<Key<'a>, AllocError>
-    ensures { IfOk result (λ key. map (λ name. name.now) key.items ≡ ground_name fluent.now) }
+// Whether two terms have the same name.
+fn named_alike(term: &Term, other: &Term) -> bool
+    ensures { result ≡ bytes_eq (term_name term.now) (term_name other.now) }
 {
-    let mut names = SmallVec::new(alloc);
-    names.push(fluent.head.name.bytes())?;
-    'terms: for arg in fluent.args.as_slice() {
-        names.push(term_name(arg))?;
+    term_name(term) == term_name(other)
+}
+
+// Whether the names of these terms are those of the others.
+fn same_terms(terms: &[Term], others: &[Term]) -> bool
+    ensures { result ≡ pointwise bytes_eq (map term_name terms.now) (map term_name others.now) }
+{
+    match terms {
+        [] => others.is_empty(),
+        [term, terms @ ..] => match others {
+            [] => false,
+            [other, others @ ..] => named_alike(term, other) && same_terms(terms, others),
+        },
     }
-    Ok(names)
+}
+
+// Writes the names of these terms.
+fn write_names<H: Hasher>(terms: &[Term], state: &mut H)
+    ensures { state.new ≡ fold H.write state.old (map term_name terms.now) }
+{
+    'terms: for term in terms {
+        state.write(term_name(term));
+    }
+}
+
+// A ground fluent. Two are the same where their names are.
+#[derive(Drop)]
+struct Fluent<'a>(&'a Use);
+
+impl<'a> Model for Fluent<'a> {
+    ghost use Rattle.std.specs.Prelude.{List, ℕ};
+    ghost use Rattle.plus_types.specs.Faults.{ground_name};
+
+    ghost Value = { List (List ℕ) };
+
+    ghost view = { λ f. ground_name f.0.now };
+}
+
+impl<'a> PartialEq for Fluent<'a> {
+    ghost eq = { pointwise bytes_eq };
+
+    ghost laws = { lists_per (partial_equiv_from_equiv nat_list_eq_equiv) };
+
+    fn eq(&self, other: &Fluent<'a>) -> bool {
+        self.0.head.name.bytes() == other.0.head.name.bytes()
+            && same_terms(self.0.args.as_slice(), other.0.args.as_slice())
+    }
+}
+
+impl<'a> Eq for Fluent<'a> {
+    ghost laws = { lists_equiv nat_list_eq_equiv };
+}
+
+impl<'a> Hash for Fluent<'a> {
+    ghost hash_input = { λ f. f };
+
+    ghost respects_eq = { λ x y. (pointwise_decides bytes_decides x y).0 };
+
+    fn hash<H: Hasher>(&self, state: &mut H) {
+        state.write(self.0.head.name.bytes());
+        write_names(self.0.args.as_slice(), state);
+    }
+}
+
+/// The ground fluents that have a first value. Contracts see each as the list of its names.
+#[derive(Drop)]
+struct Valued<'a> {
+    table: IndexSet<Fluent<'a>>,
+}
+
+impl<'a> Model for Valued<'a> {
+    ghost use Rattle.std.specs.Prelude.{List, ℕ, map};
+    ghost use Rattle.std.specs.Coded.{coded_list, coded_ℕ};
+
+    ghost Value = { List (List (List ℕ)) };
+
+    ghost coded = { coded_list (coded_list (coded_list coded_ℕ)) };
+
+    ghost view = { λ v. v.table.keys };
 }
 
 impl<'a> Valued<'a> {
@@ -66,19 +122,17 @@ impl<'a> Valued<'a> {
     }
 
     // Adds a ground fluent at the end, and answers whether it was new.
-    fn add(&mut self, alloc: Global, fluent: &'a Use) -> Result<bool, AllocError>
+    fn add(&mut self, fluent: &'a Use) -> Result<bool, AllocError>
         ensures fresh { IfOk result (λ fresh. fresh ≡ not (list_any (same_names (ground_name fluent.now)) self.old)) }
         ensures added { IfOk result (λ fresh. self.new ≡ (if fresh then self.old ++ ground_name fluent.now ∷ [] else self.old)) }
     {
-        let key = key(alloc, fluent)?;
-        let (_, fresh) = self.table.insert_full(key)?;
+        let (_, fresh) = self.table.insert_full(Fluent(fluent))?;
         Ok(fresh)
     }
 }
 
 #[tactic(auto, using(crate::proofs::WalkLemmas::walking))]
 fn initial<'a>(
-    alloc: Global,
     known: &Known<'_>,
     none: &Kinds,
     valued: &mut Valued<'a>,
@@ -95,7 +149,7 @@ fn initial<'a>(
         | Init::AtNot(_, atom, _) => used(known, none, &known.predicates, atom),
         Init::Value(fluent, _, span) => {
             used(known, none, &known.functions, fluent)?;
-            if valued.add(alloc, fluent)? {
+            if valued.add(fluent)? {
                 Ok(())
             } else {
                 Err(TypeFault::At {
@@ -116,7 +170,7 @@ pub fn init(alloc: Global, known: &Known<'_>, members: &[Init]) -> Result<(), Ty
     let none = Kinds::new(alloc);
     let mut valued = Valued::new(alloc);
     'members: for member in members {
-        initial(alloc, known, &none, &mut valued, member)?;
+        initial(known, &none, &mut valued, member)?;
     }
     Ok(())
 }

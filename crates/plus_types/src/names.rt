@@ -11,6 +11,14 @@ use std::marker::Model;
 // A name is sought one by one among so many, and by its hash among more.
 const FEW: usize = 4;
 
+// Whether two names are the same. Most differ in their lengths already.
+#[inline(always)]
+fn is_name(name: &[u8], other: &[u8]) -> bool
+    ensures { result ≡ bytes_eq name.now other.now }
+{
+    name.len() == other.len() && name == other
+}
+
 /// Names without repeats, in the order in which they were added.
 #[derive(Drop)]
 pub struct Names {
@@ -55,7 +63,7 @@ impl Names {
             return self.table.get_index_of(name);
         }
         'keys: for place in 0..keys.len() {
-            if name == keys[place].as_slice() {
+            if is_name(name, keys[place].as_slice()) {
                 return Some(place);
             }
         }

@@ -9,13 +9,13 @@ returns-then-keys-gt-FEW-clause-place c = rw (← c.self.view_is) (c.get_index_o
 pub keys-preserved : goal.keys-preserved
 keys-preserved c =
     let t = λ (k : Vec ℕ Global). bytes_eq c.args.name.now k.items in
-    let miss = ap (bytes_eq c.args.name.now) (sym c.as_slice.ensures.value) ∙ sym c.eq.ensures ∙ c.if-eq.false in
+    let miss = ap (bytes_eq c.args.name.now) (sym c.as_slice.ensures.value) ∙ sym c.is_name.ensures ∙ c.if-is_name.false in
     none-yet t c.as_slice-keys.result.now c.keys.place c.index-keys-place.result c.keys-test.true c.index-keys-place.is miss c.keys.invariant
 
-pub returns-then-eq-clause-place : goal.returns-then-eq-clause-place
-returns-then-eq-clause-place c =
+pub returns-then-is_name-clause-place : goal.returns-then-is_name-clause-place
+returns-then-is_name-clause-place c =
     let t = λ (k : Vec ℕ Global). bytes_eq c.args.name.now k.items in
-    let hit = ap (bytes_eq c.args.name.now) (sym c.as_slice.ensures.value) ∙ sym c.eq.ensures ∙ c.if-eq.true in
+    let hit = ap (bytes_eq c.args.name.now) (sym c.as_slice.ensures.value) ∙ sym c.is_name.ensures ∙ c.if-is_name.true in
     let found = first-found t c.as_slice-keys.result.now c.keys.place c.index-keys-place.result c.keys-test.true c.index-keys-place.is hit c.keys.invariant in
     rw (← c.self.view_is, ← c.as_slice-keys.ensures.keys) (found ∙ position-map (bytes_eq c.args.name.now) (λ (key : Vec ℕ Global). key.items) c.as_slice-keys.result.now)
 
