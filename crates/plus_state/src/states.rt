@@ -38,7 +38,7 @@ impl<Q: Exact> State<Q> {
         ensures { IfOk result (λ s. s ≡ record { atoms = replicate atoms false; fluents = replicate fluents None }) }
     {
         let truths = Bits::new(alloc, atoms)?;
-        let mut values = Vec::new(alloc);
+        let mut values = Vec::with_capacity(alloc, fluents as usize)?;
         for _i in 0..fluents {
             values.push(None)?;
         }

@@ -131,7 +131,26 @@ pub fn holding_among<Q: Exact, I: Conditional>(
         × (map I.number found.items ≡ held_among (I.conditions (problem_of Q.value ground.now)) (map I.number looked_at.now) state.now))
         (λ stop. WalkStops Q.value Q.fits (all_asked (I.conditions (problem_of Q.value ground.now)) state.now) stop) }
 {
-    let mut found = Vec::new(alloc);
+    holding_in(ground, state, looked_at, Vec::new(alloc))
+}
+
+/// The same, in the memory of a list that is needed no more.
+#[inline(always)]
+pub fn holding_in<Q: Exact, I: Conditional>(
+    ground: &Ground<Q>,
+    state: &State<Q>,
+    looked_at: &[I],
+    mut found: Vec<I>,
+) -> Result<Vec<I>, WalkStop<Q>>
+    requires state { StateFits (length (ground.now.atoms.items)) (length (ground.now.fluents.items)) state.now }
+    requires members { AreMembers (length (I.conditions (problem_of Q.value ground.now))) (map I.number looked_at.now) }
+    requires others { OthersPass Q.fits (I.conditions (problem_of Q.value ground.now)) state.now (map I.number looked_at.now) }
+    ensures { MatchResult result
+        (λ held. AllFit Q.fits (all_asked (I.conditions (problem_of Q.value ground.now)) state.now)
+        × (map I.number held.items ≡ held_among (I.conditions (problem_of Q.value ground.now)) (map I.number looked_at.now) state.now))
+        (λ stop. WalkStops Q.value Q.fits (all_asked (I.conditions (problem_of Q.value ground.now)) state.now) stop) }
+{
+    found.clear();
     'each: for member in looked_at {
         match holds(member.condition(ground), state) {
             Err(overflow) => return Err(WalkStop::Number(overflow)),

@@ -2,10 +2,10 @@ use Rattle.std.proofs.Common.{map, ap}
 use Rattle.plus_state.specs.View.{problem_of}
 use Rattle.plus_state.proofs.TestsLemmas.{next_member, no_member}
 use Rattle.plus_state.proofs.LookingLemmas.{condition_fits, looking_start, looking_inside, looking_err, looking_next, looking_stop, looking_end}
-use Rattle.plus_state.proofs.walk.holding_among.Goals as goal
+use Rattle.plus_state.proofs.walk.holding_in.Goals as goal
 
 pub each-init : goal.each-init
-each-init g c = looking_start _ _ _ _ _ (ap (map g.I.Conditional.number) c.new-found.ensures.items) c.requires.members
+each-init g c = looking_start _ _ _ _ _ (ap (map g.I.Conditional.number) c.clear.ensures.items) c.requires.members
 
 pub condition-requires : goal.condition-requires
 condition-requires g c =

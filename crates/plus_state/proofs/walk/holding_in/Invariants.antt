@@ -1,7 +1,7 @@
 use Rattle.std.proofs.Common.{map, drop}
 use Rattle.plus_state.specs.View.{problem_of}
 use Rattle.plus_state.proofs.LookingLemmas.{Looking}
-use Rattle.plus_state.proofs.walk.holding_among.Given as goal
+use Rattle.plus_state.proofs.walk.holding_in.Given as goal
 
 abbrev pub invariant-each : goal.invariant-each
 invariant-each g l =
