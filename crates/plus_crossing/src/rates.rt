@@ -1,5 +1,5 @@
 //! Net rates: how much each fluent gains in a unit of time.
-ghost use Rattle.std.specs.Prelude.{◌≡◌, ◌<◌, ◌≤◌, ℕ, replicate, length, slice_set, true, pos, IfOk, OnOk, OnErr};
+ghost use Rattle.std.specs.Prelude.{◌≡◌, ◌<◌, ◌≤◌, ◌↔◌, ℕ, replicate, length, slice_set, true, pos, IfOk, OnOk, OnErr};
 ghost use Rattle.plus_fraction.specs.Fraction.{whole};
 ghost use Rattle.plus_model.specs.Piece.{rate_of};
 ghost use Rattle.plus_state.specs.Changes.{AreIn, Rises};
@@ -111,6 +111,19 @@ impl<Q: Exact> Rates<Q> {
         }
     }
 
+    /// All rates are 0, for so many fluents, in the memory of these, which are needed no more.
+    #[inline(always)]
+    pub fn renewed(mut self, fluents: usize) -> Rates<Q>
+        ensures { result ≡ replicate fluents (whole (pos 0)) }
+    {
+        self.given.clear();
+        Rates {
+            fluents,
+            below: 0,
+            given: self.given,
+        }
+    }
+
     /// Equal rates.
     pub fn copy(&self, alloc: Global) -> Result<Rates<Q>, AllocError>
         ensures { IfOk result (λ r. r ≡ self.now) }
@@ -200,7 +213,7 @@ impl<Q: Exact> Rates<Q> {
     /// Whether the fluents whose rate is not zero are just these, in this order.
     #[inline(always)]
     pub fn moves_just(&self, fluents: &[FluentId]) -> bool
-        ensures { result ≡ true → fluent_numbers fluents.now ≡ moving_of self.now }
+        ensures { result ≡ true ↔ (fluent_numbers fluents.now ≡ moving_of self.now) }
     {
         let mut place = 0;
         'each: for entry in &self.given {
