@@ -31,6 +31,11 @@ pub fn domain_text(alloc: Global) -> Result<Vec<u8>, AllocError>
     Ok(text)
 }
 
+// About how many bytes a text has that tells so many of each tank.
+fn room(count: u32, bytes: usize) -> usize {
+    (count as usize).saturating_mul(bytes).saturating_add(256)
+}
+
 // The names of the tanks, as objects.
 fn put_objects(text: &mut Vec<u8>, count: u32) -> Result<(), AllocError>
     ensures { OnOk result (text.new.items ≡ text.old.items ++ flat_map object_text (tanks count)) }
@@ -65,7 +70,7 @@ fn put_inits(text: &mut Vec<u8>, count: u32) -> Result<(), AllocError>
 pub fn problem_text(alloc: Global, count: u32) -> Result<Vec<u8>, AllocError>
     ensures { IfOk result (λ text. text.items ≡ problem_text count) }
 {
-    let mut text = Vec::new(alloc);
+    let mut text = Vec::with_capacity(alloc, room(count, 80))?;
     put_numbered(
         &mut text,
         b"(define (problem farm",
@@ -104,7 +109,7 @@ fn put_lines(text: &mut Vec<u8>, count: u32) -> Result<(), AllocError>
 pub fn plan_text(alloc: Global, count: u32) -> Result<Vec<u8>, AllocError>
     ensures { IfOk result (λ text. text.items ≡ plan_text count) }
 {
-    let mut text = Vec::new(alloc);
+    let mut text = Vec::with_capacity(alloc, room(count, 32))?;
     put_lines(&mut text, count)?;
     put_numbered(&mut text, b"", count as u64 + 5, b": @end\n")?;
     Ok(text)
