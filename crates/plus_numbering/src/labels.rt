@@ -1,8 +1,8 @@
 //! The labels of ground atoms and fluents.
 
-ghost use Rattle.std.specs.Prelude.{◌≡◌, ◌<◌, ◌++◌, [], map, length, slice_index_or, IfOk, OnOk};
+ghost use Rattle.std.specs.Prelude.{◌≡◌, ◌<◌, ◌∷◌, ◌++◌, [], map, length, slice_index_or, IfOk, OnOk};
 ghost use Rattle.plus_expansion.specs.Objects.{extents_of, tuples, object_names};
-ghost use Rattle.plus_expansion.specs.Numbers.{label_of, ground_labels};
+ghost use Rattle.plus_expansion.specs.Numbers.{spaced, label_of, ground_labels};
 ghost use Rattle.plus_numbering.specs.Tables.{context, starts_from, list_numbers};
 
 use crate::extents::Extents;
@@ -11,20 +11,27 @@ use plus_tree::{Head, TypedName};
 use smallvec::SmallVec;
 use std::alloc::{AllocError, Global};
 
-// The label that is spelled by the name and the names of these objects.
+// How the labels of this name begin.
 #[inline(always)]
-fn spell(
-    alloc: Global,
-    extents: &Extents<'_>,
-    name: &[u8],
-    objects: &[u32],
-) -> Result<Label, AllocError>
-    ensures { IfOk result (λ l. l ≡ label_of name.now
-        (object_names (context extents.now.typed.now) objects.now)) }
+fn opening(alloc: Global, name: &[u8]) -> Result<SmallVec<u8, 24>, AllocError>
+    ensures { IfOk result (λ text. text.items ≡ 40 ∷ name.now) }
 {
     let mut text = SmallVec::new(alloc);
     text.push(b'(')?;
     text.extend_from_slice(name)?;
+    Ok(text)
+}
+
+// The label that begins so, with the names of these objects.
+#[inline(always)]
+fn spell(
+    extents: &Extents<'_>,
+    mut text: SmallVec<u8, 24>,
+    objects: &[u32],
+) -> Result<Label, AllocError>
+    ensures { IfOk result (λ l. l ≡ text.items
+        ++ (spaced (object_names (context extents.now.typed.now) objects.now) ++ 41 ∷ [])) }
+{
     'objects: for object in objects {
         text.push(b' ')?;
         text.extend_from_slice(extents.name(*object))?;
@@ -43,7 +50,7 @@ pub fn label(
     ensures { IfOk result (λ l. l ≡ label_of name.now
         (object_names (context extents.now.typed.now) objects.now)) }
 {
-    spell(alloc, extents, name, objects)
+    spell(extents, opening(alloc, name)?, objects)
 }
 
 // Makes `objects` the list at a place among those that take one object of each parameter's type, of which
@@ -90,10 +97,12 @@ fn add_labels(
         (tuples (extents_of (context extents.now.typed.now) head.now.params))) }
 {
     let mut objects = Vec::new(alloc);
+    let begun = opening(alloc, head.name.name.bytes())?;
     'places: for place in 0..size {
         let params = head.params.as_slice();
         objects_at(extents, params, kinds, size, place, &mut objects)?;
-        labels.push(spell(alloc, extents, head.name.name.bytes(), &objects)?)?;
+        let text = SmallVec::from_slice(alloc, begun.as_slice())?;
+        labels.push(spell(extents, text, &objects)?)?;
     }
     Ok(())
 }

@@ -1,7 +1,7 @@
-use Rattle.std.proofs.Common.{◌≡◌, ◌∙◌, ◌<◌, ◌≤◌, [], ap, length, get_or, arith}
+use Rattle.std.proofs.Common.{◌≡◌, ◌∙◌, ◌<◌, ◌≤◌, [], ◌∷◌, ◌++◌, ap, length, get_or, arith}
 use Rattle.plus_types.specs.Faults.{problem_context}
 use Rattle.plus_expansion.specs.Objects.{extents_of, tuples, object_names}
-use Rattle.plus_expansion.specs.Numbers.{label_of}
+use Rattle.plus_expansion.specs.Numbers.{spaced, label_of}
 use Rattle.plus_numbering.proofs.LabelLemmas.{labels-more, labels-all}
 use Rattle.plus_numbering.proofs.labels.add_labels.Goals as goal
 
@@ -14,7 +14,9 @@ places-preserved c =
     let o : c.objects_at.new.objects.items ≡ get_or ts c.places.place [] =
     c.in_ok-objects_at.ensures ∙ ap (λ ps. get_or (tuples (extents_of C ps)) c.places.place []) c.as_slice-params.ensures in
     let n : c.in_ok-spell.field-0 ≡ label_of h.name.name (object_names C (get_or ts c.places.place [])) =
-    c.in_ok-spell.ensures ∙ ap (λ x. label_of x (object_names C c.deref.result.now)) c.bytes.ensures
+    c.in_ok-spell.ensures
+    ∙ ap (λ t. t ++ (spaced (object_names C c.deref.result.now) ++ 41 ∷ [])) (c.in_ok-text.ensures.ok ∙ c.as_slice.ensures ∙ c.in_ok-begun.ensures)
+    ∙ ap (λ x. label_of x (object_names C c.deref.result.now)) c.bytes.ensures
     ∙ ap (λ os. label_of h.name.name (object_names C os)) (c.deref.ensures.value ∙ o) in
     labels-more (λ t. label_of h.name.name (object_names C t)) c.args.labels.now.items c.places.labels.items _ ts c.places.place [] c.in_ok-spell.field-0 l n c.places.invariant c.in_ok-push.ensures.items
 
