@@ -1,5 +1,5 @@
 //! The readers of what moves, kept from moment to moment.
-ghost use Rattle.std.specs.Prelude.{◌≡◌, [], IfOk, OnErr};
+ghost use Rattle.std.specs.Prelude.{◌≡◌, [], IfOk};
 ghost use Rattle.plus_state.specs.Numbers.{event_numbers, process_numbers};
 ghost use Rattle.plus_reads.specs.Tables.{ReadAny};
 ghost use Rattle.plus_crossing.specs.Rated.{fluent_numbers, moving_of};

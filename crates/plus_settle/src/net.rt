@@ -116,17 +116,18 @@ fn are_few<Q: Exact>(ground: &Ground<Q>, members: &[ProcessId]) -> bool {
 }
 
 // All rates are 0, and the fluents that have a rate under these processes have their places, where they
-// are more than a few.
+// are more than a few: in the memory of rates that are needed no more.
 #[inline(always)]
 fn with_places<Q: Exact>(
     alloc: Global,
     ground: &Ground<Q>,
     members: &[ProcessId],
     fluents: usize,
+    room: Rates<Q>,
 ) -> Result<Rates<Q>, AllocError>
     ensures { IfOk result (λ rates. rates ≡ replicate fluents (whole (pos 0))) }
 {
-    let mut rates = Rates::zero(alloc, fluents);
+    let mut rates = room.renewed(fluents);
     if are_few(ground, members) {
         return Ok(rates);
     }
@@ -143,19 +144,21 @@ fn with_places<Q: Exact>(
 /// The net rate of each fluent under these processes, which stand in ground order: the sum of their
 /// rates on it, all read in this state. The refusal is the first step that stops: members in order, of
 /// each its rates in order, of each the amount, then a missing value, then the sum; or want of memory.
+/// They stand in the memory of the rates `room`, which are needed no more.
 #[inline(always)]
 pub fn net_rates<Q: Exact>(
     alloc: Global,
     ground: &Ground<Q>,
     members: &[ProcessId],
     state: &State<Q>,
+    room: Rates<Q>,
 ) -> Result<Rates<Q>, RateStop<Q>>
     requires state { StateFits (length (ground.now.atoms.items)) (length (ground.now.fluents.items)) state.now }
     requires members { AreMembers (length (ground.now.processes.items)) (process_numbers members.now) }
     ensures size { IfOk result (λ rs. length rs ≡ length (state.now.fluents)) }
     ensures told { NetRates Q.value Q.fits (problem_of Q.value ground.now) state.now (process_numbers members.now) result }
 {
-    let mut rates = with_places(alloc, ground, members, state.fluents() as usize)?;
+    let mut rates = with_places(alloc, ground, members, state.fluents() as usize, room)?;
     'each: for member in members {
         let own = &ground.processes[member.0 as usize].rates;
         match add_all(&mut rates, own, state) {

@@ -51,20 +51,21 @@ fn rate_stop<Q: Exact>(stop: RateStop<Q>) -> SettleStop<Q>
     }
 }
 
-// The net rates under these processes.
+// The net rates under these processes, in the memory of rates that are needed no more.
 #[inline(always)]
 pub fn own_rates<Q: Exact>(
     alloc: Global,
     ground: &Ground<Q>,
     members: &[ProcessId],
     state: &State<Q>,
+    room: Rates<Q>,
 ) -> Result<Rates<Q>, SettleStop<Q>>
     requires state { StateFits (length (ground.now.atoms.items)) (length (ground.now.fluents.items)) state.now }
     requires members { AreMembers (length (ground.now.processes.items)) (process_numbers members.now) }
     ensures size { IfOk result (λ rs. length rs ≡ length (state.now.fluents)) }
     ensures told { OwnRates Q.value Q.fits (problem_of Q.value ground.now) state.now (process_numbers members.now) result }
 {
-    match net_rates(alloc, ground, members, state) {
+    match net_rates(alloc, ground, members, state, room) {
         Ok(rates) => Ok(rates),
         Err(stop) => Err(rate_stop(stop)),
     }
@@ -114,7 +115,7 @@ pub fn settle_from<Q: Exact>(
     ensures size { IfOk result (λ r. length r.rates ≡ length (ground.now.fluents.items)) }
 {
     let members = chosen(alloc, ground, state, first)?;
-    let rates = own_rates(alloc, ground, &members, state)?;
+    let rates = own_rates(alloc, ground, &members, state, Rates::zero(alloc, 0))?;
     confirmed(ground, &members, state, &rates)?;
     Ok(Running { members, rates })
 }
@@ -153,7 +154,7 @@ pub fn settle<Q: Exact>(
     ensures size { IfOk result (λ r. length r.rates ≡ length (ground.now.fluents.items)) }
 {
     let present = holding(alloc, ground, state)?;
-    let first = own_rates(alloc, ground, &present, state)?;
+    let first = own_rates(alloc, ground, &present, state, Rates::zero(alloc, 0))?;
     match first_other(ground, &present, state, &first) {
         Err(stop) => Err(settle_stop(stop)),
         Ok(Some(_)) => settle_from(alloc, ground, &present, state, &first),

@@ -8,7 +8,6 @@ ghost use Rattle.plus_state.specs.Walk.{process_conditions};
 ghost use Rattle.plus_reads.specs.Tables.{AreBelow, Covers};
 ghost use Rattle.plus_settle.specs.Members.{process_numbers, AreMembers};
 ghost use Rattle.plus_settle.specs.Settles.{condition_nodes, SettleAnswers};
-ghost use Rattle.plus_settle.specs.Uncoupled.{Uncoupled};
 
 use crate::among::first_other_among;
 use crate::choices::settle_stop;
@@ -22,36 +21,21 @@ use plus_state::states::State;
 use plus_state::term::ProcessId;
 use std::alloc::{AllocError, Global};
 
-// The set of a copy of these members, which go on at these rates, where none of them reads a moving fluent.
-fn uncoupled_copy<Q: Exact>(
-    alloc: Global,
-    ground: &Ground<Q>,
-    members: &[ProcessId],
-    rates: Rates<Q>,
-) -> Result<Running<Q>, SettleStop<Q>>
-    requires members { AreMembers (length (ground.now.processes.items)) (process_numbers members.now) }
-    requires rates { length rates ≡ length (ground.now.fluents.items) }
-    ensures { Uncoupled (problem_of Q.value ground.now) (process_numbers members.now) rates result }
-{
-    match Vec::from_slice(alloc, members) {
-        Err(_) => Err(SettleStop::Memory),
-        Ok(members) => uncoupled(ground, members, rates),
-    }
-}
-
 /// The running set of a state and its net rates, as `settle`, where these are the processes that hold
 /// in it and what their conditions ask is known to pass. Only the processes are looked at that read a
-/// fluent that moves: where those that hold go on at their own rates, they are the running set.
+/// fluent that moves: where those that hold go on at their own rates, they are the running set. The rates
+/// stand in the memory of `room`, which are needed no more.
 pub fn settle_among<Q: Exact>(
     alloc: Global,
     ground: &Ground<Q>,
-    present: &[ProcessId],
+    present: Vec<ProcessId>,
     state: &State<Q>,
     readers: &mut MovingReaders,
+    room: Rates<Q>,
 ) -> Result<Running<Q>, SettleStop<Q>>
     requires state { StateFits (length (ground.now.atoms.items)) (length (ground.now.fluents.items)) state.now }
     requires pass { AllFit Q.fits (condition_nodes ((problem_of Q.value ground.now).processes) state.now) }
-    requires present { process_numbers present.now ≡ holding_of (problem_of Q.value ground.now) state.now }
+    requires present { process_numbers present.items ≡ holding_of (problem_of Q.value ground.now) state.now }
     requires readers { Covers (process_conditions (problem_of Q.value ground.now)) readers.old.index.processes }
     requires below { AreBelow (length (process_conditions (problem_of Q.value ground.now))) readers.old.index.processes }
     ensures told { SettleAnswers Q.value Q.fits (problem_of Q.value ground.now) state.now result }
@@ -59,13 +43,13 @@ pub fn settle_among<Q: Exact>(
     ensures size { IfOk result (λ r. length r.rates ≡ length (ground.now.fluents.items)) }
     ensures index { readers.new.index ≡ readers.old.index }
 {
-    let first = own_rates(alloc, ground, present, state)?;
+    let first = own_rates(alloc, ground, &present, state, room)?;
     match readers.refresh(&first) {
         Err(_) => Err(SettleStop::Memory),
-        Ok(()) => match first_other_among(ground, present, state, &first, readers.processes()) {
+        Ok(()) => match first_other_among(ground, &present, state, &first, readers.processes()) {
             Err(stop) => Err(settle_stop(stop)),
-            Ok(Some(_)) => settle_from(alloc, ground, present, state, &first),
-            Ok(None) => uncoupled_copy(alloc, ground, present, first),
+            Ok(Some(_)) => settle_from(alloc, ground, &present, state, &first),
+            Ok(None) => uncoupled(ground, present, first),
         },
     }
 }
