@@ -12,7 +12,7 @@ ghost use Rattle.plus_stretch.specs.Among.{OthersHaveNoRoot};
 ghost use Rattle.plus_stretch.specs.Marked.{marks_of, MarksTold, AllMarked};
 
 use crate::halt::Halt;
-use crate::mark::Mark;
+use crate::mark::{Mark, Room};
 use plus_crossing::listing::{RootsStop, roots_into};
 use plus_crossing::node::CondStop;
 use plus_crossing::rates::Rates;
@@ -21,7 +21,7 @@ use plus_state::outcome::{Limit, Owner};
 use plus_state::problem::Ground;
 use plus_state::states::State;
 use plus_state::term::{Cond, EventId, ProcessId};
-use std::alloc::{AllocError, Global};
+use std::alloc::AllocError;
 
 // The stop of a condition of this owner.
 fn root_halt<Q: Exact>(stop: RootsStop<Q>, owner: Owner) -> Halt<Q>
@@ -109,16 +109,17 @@ fn process_marks<Q: Exact>(
 
 /// The moments above 0 at which the sides of a live comparison meet, when the fluents move at these
 /// rates, with their owners: those of all events and then of all processes, in ground order and in the
-/// order of the text, by a look at the listed ones alone, where no other one has a root. The refusal is
-/// the first test that fails, or want of memory.
+/// order of the text, by a look at the listed ones alone, where no other one has a root. They are the
+/// marks in the room then, which is memory only: whatever stands in it before is left out. The refusal
+/// is the first test that fails, or want of memory.
 pub fn roots<Q: Exact>(
-    alloc: Global,
     ground: &Ground<Q>,
     state: &State<Q>,
     rates: &Rates<Q>,
     events: &[EventId],
     processes: &[ProcessId],
-) -> Result<Vec<Mark<Q>>, Halt<Q>>
+    room: &mut Room<Q>,
+) -> Result<(), Halt<Q>>
     requires state { StateFits (length (ground.now.atoms.items)) (length (ground.now.fluents.items)) state.now }
     requires rates { length rates.now ≡ length (state.now.fluents) }
     requires events { AreMembers (length (ground.now.events.items)) (event_numbers events.now) }
@@ -126,11 +127,24 @@ pub fn roots<Q: Exact>(
     requires other_events { OthersHaveNoRoot Q.fits (event_conditions (problem_of Q.value ground.now)) state.now rates.now (event_numbers events.now) }
     requires other_processes { OthersHaveNoRoot Q.fits (process_conditions (problem_of Q.value ground.now)) state.now rates.now (process_numbers processes.now) }
     ensures { Told Q.value Q.fits (root_tests (problem_of Q.value ground.now) state.now rates.now)
-        (λ marks. AllMarked (problem_of Q.value ground.now) state.now rates.now (marks_of Q.value marks.items)) Never result }
+        (λ _. AllMarked (problem_of Q.value ground.now) state.now rates.now (marks_of Q.value room.new.marks.items)) Never result }
 {
-    let mut roots = Vec::new(alloc);
-    let mut marks = Vec::new(alloc);
-    event_marks(ground, state, rates, events, &mut roots, &mut marks)?;
-    process_marks(ground, state, rates, processes, &mut roots, &mut marks)?;
-    Ok(marks)
+    room.marks.clear();
+    event_marks(
+        ground,
+        state,
+        rates,
+        events,
+        &mut room.roots,
+        &mut room.marks,
+    )?;
+    process_marks(
+        ground,
+        state,
+        rates,
+        processes,
+        &mut room.roots,
+        &mut room.marks,
+    )?;
+    Ok(())
 }

@@ -26,7 +26,7 @@ use crate::everyone::everyone;
 use crate::halt::Halt;
 use crate::listing::roots;
 use crate::looked::{Looked, everywhere, looked_at};
-use crate::mark::Mark;
+use crate::mark::{Mark, Room};
 use crate::soon::none_soon;
 use crate::sorted::{rising, up_to};
 use plus_crossing::node::exact;
@@ -188,7 +188,7 @@ fn time_left<Q: Exact>(time: Q, until: Q) -> Result<Q, Halt<Q>>
 /// processes just after up to the first that differs, and the events just after up to the first that
 /// holds; at last the fluents that move up to the time asked for. Want of memory may come at any time.
 /// The state ahead is one more copy of the state, which is moved on the way and is the state on arrival
-/// then.
+/// then. The room is memory only: the answer is the same, whatever stands in it.
 pub fn reach_among<Q: Exact>(
     alloc: Global,
     ground: &Ground<Q>,
@@ -199,6 +199,7 @@ pub fn reach_among<Q: Exact>(
     until: Q,
     events: &[EventId],
     processes: &[ProcessId],
+    room: &mut Room<Q>,
 ) -> Result<Arrival<Q>, Halt<Q>>
     requires state { StateFits (length (ground.now.atoms.items)) (length (ground.now.fluents.items)) state.now }
     requires members { AreMembers (length (ground.now.processes.items)) (process_numbers running.now.members.items) }
@@ -218,8 +219,8 @@ pub fn reach_among<Q: Exact>(
 {
     none_soon(ground, state, &running.rates, time, events)?;
     let length = time_left(time, until)?;
-    let mut marks = roots(alloc, ground, state, &running.rates, events, processes)?;
-    match rising(alloc, &mut marks, length) {
+    roots(ground, state, &running.rates, events, processes, room)?;
+    match rising(alloc, &mut room.marks, length) {
         Err(_) => Err(Halt::Memory),
         Ok(different) => match everywhere(alloc, ground, &running.rates, events, processes) {
             Err(_) => Err(Halt::Memory),
@@ -235,7 +236,7 @@ pub fn reach_among<Q: Exact>(
                     length,
                 },
                 &different,
-                &marks,
+                &room.marks,
                 &looked,
             ),
         },
@@ -267,7 +268,16 @@ pub fn reach<Q: Exact>(
     match everyone(alloc, ground) {
         Err(_) => Err(Halt::Memory),
         Ok((events, processes)) => reach_among(
-            alloc, ground, state, ahead, running, time, until, &events, &processes,
+            alloc,
+            ground,
+            state,
+            ahead,
+            running,
+            time,
+            until,
+            &events,
+            &processes,
+            &mut Room::new(alloc),
         ),
     }
 }

@@ -19,5 +19,5 @@ returns-in_err-process_marks g c =
 pub returns : goal.returns
 returns g c = (
   roots_pass (problem_of g.Q.Exact.value c.args.ground.now) _ _ _ c.in_ok-event_marks.ensures.0 c.in_ok-process_marks.ensures.0,
-  all_marked (problem_of g.Q.Exact.value c.args.ground.now) _ _ _ _ _ (ap (marks_of g.Q.Exact.value) c.new-marks.ensures.items) c.in_ok-event_marks.ensures.1 c.in_ok-process_marks.ensures.1,
+  all_marked (problem_of g.Q.Exact.value c.args.ground.now) _ _ _ _ _ (ap (marks_of g.Q.Exact.value) c.clear.ensures.items) c.in_ok-event_marks.ensures.1 c.in_ok-process_marks.ensures.1,
 )

@@ -27,22 +27,22 @@ returns-in_err-length-clause-told g c =
     let n = c.in_ok-none_soon.ensures in
     rw (p.1, p.2) (halt_time (problem_of g.Q.Exact.value c.args.ground.now) _ _ _ _ _ c.requires.rates g.Q.Exact.value _ n.1 n.0 _ c.in_err-length.ensures)
 
-pub returns-in_err-marks-clause-told : goal.returns-in_err-marks-clause-told
-returns-in_err-marks-clause-told g c =
-    let p = err_from_is_err_and c.from_residual-in_err-marks.result c.from_residual-in_err-marks.ensures.1 in
+pub returns-in_err-roots-clause-told : goal.returns-in_err-roots-clause-told
+returns-in_err-roots-clause-told g c =
+    let p = err_from_is_err_and c.from_residual-in_err-roots.result c.from_residual-in_err-roots.ensures.1 in
     let n = c.in_ok-none_soon.ensures in
-    rw (p.1, p.2) (halt_roots (problem_of g.Q.Exact.value c.args.ground.now) _ _ _ _ _ c.requires.rates g.Q.Exact.value _ n.1 n.0 c.in_ok-length.ensures.0 _ c.in_err-marks.ensures)
+    rw (p.1, p.2) (halt_roots (problem_of g.Q.Exact.value c.args.ground.now) _ _ _ _ _ c.requires.rates g.Q.Exact.value _ n.1 n.0 c.in_ok-length.ensures.0 _ c.in_err-roots.ensures)
 
 pub walk-requires-clause-none : goal.walk-requires-clause-none
 walk-requires-clause-none g c = c.in_ok-none_soon.ensures.1.none
 
 pub walk-requires-clause-roots : goal.walk-requires-clause-roots
 walk-requires-clause-roots g c =
-    all_left (problem_of g.Q.Exact.value c.args.ground.now) _ _ _ _ _ (rw c.deref.ensures.value c.in-Ok.ensures.different) c.in_ok-marks.ensures.1.roots
+    all_left (problem_of g.Q.Exact.value c.args.ground.now) _ _ _ _ _ (rw c.deref.ensures.value c.in-Ok.ensures.different) c.in_ok-roots.ensures.1.roots
 
 pub walk-requires-clause-marked : goal.walk-requires-clause-marked
 walk-requires-clause-marked g c =
-    rw c.deref-in-Ok-everywhere.ensures.value (still_marked (problem_of g.Q.Exact.value c.args.ground.now) _ _ _ _ c.in_ok-marks.ensures.1.are c.rising.ensures.kept c.rising.ensures.no_other)
+    rw c.deref-in-Ok-everywhere.ensures.value (still_marked (problem_of g.Q.Exact.value c.args.ground.now) _ _ _ _ c.in_ok-roots.ensures.1.are c.rising.ensures.kept c.rising.ensures.no_other)
 
 pub walk-requires-clause-ascending : goal.walk-requires-clause-ascending
 walk-requires-clause-ascending g c = rw c.deref-in-Ok-everywhere.ensures.value c.rising.ensures.ascending
@@ -65,7 +65,7 @@ walk-requires-clause-along g c = along_start _ _ _ c.requires.ahead
 pub returns-clause-told : goal.returns-clause-told
 returns-clause-told g c =
     let n = c.in_ok-none_soon.ensures in
-    walk_tells (problem_of g.Q.Exact.value c.args.ground.now) _ _ _ _ _ c.requires.rates g.Q.Exact.value _ n.1 n.0 c.in_ok-length.ensures.0 c.in_ok-marks.ensures.0 _ _ _ _ c.in_ok-length.ensures.1 (rw c.deref.ensures.value c.in-Ok.ensures.different) c.in_ok-marks.ensures.1.roots c.walk.ensures.told
+    walk_tells (problem_of g.Q.Exact.value c.args.ground.now) _ _ _ _ _ c.requires.rates g.Q.Exact.value _ n.1 n.0 c.in_ok-length.ensures.0 c.in_ok-roots.ensures.0 _ _ _ _ c.in_ok-length.ensures.1 (rw c.deref.ensures.value c.in-Ok.ensures.different) c.in_ok-roots.ensures.1.roots c.walk.ensures.told
 
 pub returns-in_err-none_soon-clause-along : goal.returns-in_err-none_soon-clause-along
 returns-in_err-none_soon-clause-along g c = along_start _ _ _ c.requires.ahead
@@ -73,8 +73,8 @@ returns-in_err-none_soon-clause-along g c = along_start _ _ _ c.requires.ahead
 pub returns-in_err-length-clause-along : goal.returns-in_err-length-clause-along
 returns-in_err-length-clause-along g c = along_start _ _ _ c.requires.ahead
 
-pub returns-in_err-marks-clause-along : goal.returns-in_err-marks-clause-along
-returns-in_err-marks-clause-along g c = along_start _ _ _ c.requires.ahead
+pub returns-in_err-roots-clause-along : goal.returns-in_err-roots-clause-along
+returns-in_err-roots-clause-along g c = along_start _ _ _ c.requires.ahead
 
 pub returns-in-Err-clause-along : goal.returns-in-Err-clause-along
 returns-in-Err-clause-along g c = along_start _ _ _ c.requires.ahead
