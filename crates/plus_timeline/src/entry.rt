@@ -23,6 +23,7 @@ use plus_state::term::{EventId, ProcessId};
 use plus_state::trail::Trail;
 use plus_stretch::arrival::Arrival;
 use plus_stretch::halt::Halt;
+use plus_stretch::mark::Room;
 use plus_stretch::search;
 use std::alloc::{AllocError, Global};
 use std::marker::Model;
@@ -54,6 +55,8 @@ pub struct EntryStates<Q: Exact> {
     spare: Changes<Q>,
     // what leads back to the root, if there is one
     undo: Option<Undo<Q>>,
+    // memory for a search along a running set
+    room: Room<Q>,
 }
 
 impl<Q: Exact> Model for EntryStates<Q> {
@@ -218,6 +221,7 @@ impl<Q: Exact> EntryStates<Q> {
             ahead: None,
             spare: literals,
             undo: None,
+            room: Room::new(alloc),
         })
     }
 
@@ -303,6 +307,7 @@ impl<Q: Exact> EntryStates<Q> {
                 until,
                 events,
                 processes,
+                &mut self.room,
             ) {
                 Err(halt) => Err(halt),
                 Ok(arrival) => Ok(Reached { arrival, ahead }),
@@ -411,6 +416,7 @@ impl<Q: Exact> EntryStates<Q> {
             ahead: None,
             spare: Changes::none(alloc),
             undo: copied_undo(alloc, &self.undo)?,
+            room: Room::new(alloc),
         })
     }
 
@@ -496,6 +502,7 @@ impl<Q: Exact> EntryStates<Q> {
             ahead: None,
             spare: Changes::none(alloc),
             undo: copied_undo(alloc, &self.undo)?,
+            room: Room::new(alloc),
         })
     }
 }
