@@ -45,6 +45,7 @@ use plus_stretch::{Arrival, Halt};
 use std::alloc::{AllocError, Global};
 use std::cmp::Ordering;
 use std::marker::Model;
+use std::mem;
 
 /// A history that is played one part at a time. It keeps no parts, but what the next one depends on,
 /// and what the last one was.
@@ -584,8 +585,9 @@ impl<Q: Exact> Timeline<Q> {
         }
     }
 
-    /// A step of `advance` where the entry is to be closed: this set runs from now on.
-    pub fn run(&mut self, running: Running<Q>)
+    /// A step of `advance` where the entry is to be closed: this set runs from now on. Answers the set that
+    /// ran before, for its memory.
+    pub fn run(&mut self, running: Running<Q>) -> Running<Q>
         requires { self.old.entries < self.old.most }
         ensures { self.new ≡ record (self.old) {
           now = view_after (self.old.now) (Runs (process_numbers running.members.items));
@@ -595,9 +597,9 @@ impl<Q: Exact> Timeline<Q> {
           acted = false;
         } }
     {
-        self.running = running;
         self.answer = Some(Next::Run);
         self.acted = false;
+        mem::replace(&mut self.running, running)
     }
 
     /// A step of `advance`: goes on along the running set, to the next entry.
