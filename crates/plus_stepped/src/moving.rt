@@ -12,6 +12,7 @@ ghost use Rattle.plus_stepped.specs.Moving.{MovesTo, CannotMove, ConditionStops}
 
 use crate::stop::StepStop;
 use plus_crossing::moved;
+use plus_crossing::rates::Rates;
 use plus_number::exact::Exact;
 use plus_settle::{SettleStop, net_rates};
 use plus_state::problem::Ground;
@@ -53,6 +54,6 @@ pub fn moved_on<Q: Exact>(
     ensures fit { IfOk result (λ next. StateFits (length (ground.now.atoms.items)) (length (ground.now.fluents.items)) next) }
 {
     let members = holding(alloc, ground, state)?;
-    let rates = net_rates(alloc, ground, &members, state)?;
+    let rates = net_rates(alloc, ground, &members, state, Rates::zero(alloc, 0))?;
     Ok(moved(alloc, state, &rates, interval)?)
 }
