@@ -3,4 +3,3 @@ pub mod Indexed
 pub mod IndexedCode
 pub mod Waking
 pub mod Knows
-pub mod Settling

@@ -7,7 +7,7 @@ ghost use Rattle.plus_state.specs.Asked.{AllFit};
 ghost use Rattle.plus_state.specs.View.{problem_of, action_of};
 ghost use Rattle.plus_state.specs.Changes.{LeadsTo, RisesIn};
 ghost use Rattle.plus_state.specs.Fits.{StateFits, ActionFits};
-ghost use Rattle.plus_settle.specs.Settles.{condition_nodes, ConditionStops};
+ghost use Rattle.plus_settle.specs.Settles.{condition_nodes, ConditionStops, SettleAnswers};
 ghost use Rattle.plus_stretch.specs.Tests.{AllPass};
 ghost use Rattle.plus_timeline.specs.Asked.{round_tests};
 ghost use Rattle.plus_timeline.specs.Timeline.{begun, event_numbers, process_numbers};
@@ -17,16 +17,16 @@ ghost use Rattle.plus_timeline.specs.Act.{ActTold};
 ghost use Rattle.plus_timeline.specs.Finish.{IsPaused, FinishTold, TakesNoMemory};
 ghost use Rattle.plus_timeline.specs.Advance.{IsAhead, AdvanceTold};
 ghost use Rattle.plus_indexed.specs.Knows.{MayHold, Knows};
-ghost use Rattle.plus_indexed.specs.Settling.{SettledTold};
 ghost use Rattle.plus_indexed.specs.Waking.{WokenBy, StillWoken, EventsAfter, ProcessesWoken, ProcessesAfter};
 
-use crate::settled::{Settled, present_among};
+use crate::settled::present_among;
 use crate::waiting::{Waiting, still_waiting};
 use crate::waking::{emptied, still_woken, woken};
 use plus_cascade::{CascadeStop, DueRound};
+use plus_crossing::rates::Rates;
 use plus_number::exact::Exact;
 use plus_reads::Index;
-use plus_settle::{MovingReaders, SettleStop, holding, settle_among};
+use plus_settle::{MovingReaders, Running, SettleStop, holding, settle_among};
 use plus_state::changes::Changes;
 use plus_state::problem::{Action, Ground};
 use plus_state::states::State;
@@ -35,6 +35,7 @@ use plus_timeline::stop::{cascade_stop, settle_stop};
 use plus_timeline::{Next, Stop, Timeline};
 use std::alloc::{AllocError, Global};
 use std::marker::Model;
+use std::mem;
 use std::rc::Rc;
 
 /// A timeline with an index of its problem, which its copies share, and with what is known of the
@@ -51,6 +52,8 @@ pub struct Indexed<Q: Exact> {
     // room for numbers and for processes, which many steps use
     numbers: Vec<u32>,
     listed: Vec<ProcessId>,
+    // the running set before the last one, whose memory the next one takes
+    room: Running<Q>,
 }
 
 impl<Q: Exact> Model for Indexed<Q> {
@@ -82,6 +85,14 @@ fn copied_events(
     match events {
         Some(events) => Ok(Some(Vec::from_slice(alloc, events)?)),
         None => Ok(None),
+    }
+}
+
+// A running set that has no memory.
+fn no_room<Q: Exact>(alloc: Global) -> Running<Q> {
+    Running {
+        members: Vec::new(alloc),
+        rates: Rates::zero(alloc, 0),
     }
 }
 
@@ -119,6 +130,7 @@ impl<Q: Exact> Indexed<Q> {
             processes: None,
             numbers: Vec::new(alloc),
             listed: Vec::new(alloc),
+            room: no_room(alloc),
         })
     }
 
@@ -254,6 +266,7 @@ impl<Q: Exact> Indexed<Q> {
             processes: copied_processes(alloc, &self.processes)?,
             numbers: Vec::new(alloc),
             listed: Vec::new(alloc),
+            room: no_room(alloc),
         })
     }
 }
@@ -319,19 +332,20 @@ impl<Q: Exact> Indexed<Q> {
             }
             Ok(true) => match self.settled(ground) {
                 Err(stop) => Err(settle_stop(stop)),
-                Ok(settled) => {
-                    let Settled { present, running } = settled;
-                    let before = self.processes.take();
-                    self.processes = Waiting::anew(self.alloc, before, &present).ok();
-                    self.timeline.run(running);
+                Ok(running) => {
+                    self.room = self.timeline.run(running);
                     Ok(Next::Run)
                 }
             },
         }
     }
 
-    // The processes that hold in the present state.
-    fn present(&mut self, ground: &Ground<Q>) -> Result<Vec<ProcessId>, SettleStop<Q>>
+    // The processes that hold in the present state, in the memory of a list that is needed no more.
+    fn present(
+        &mut self,
+        ground: &Ground<Q>,
+        room: Vec<ProcessId>,
+    ) -> Result<Vec<ProcessId>, SettleStop<Q>>
         requires knows { Knows Q.fits (problem_of Q.value ground.now) self.old }
         ensures told { MatchResult result
             (λ present. AllFit Q.fits (condition_nodes ((problem_of Q.value ground.now).processes) self.old.line.now.state)
@@ -342,30 +356,36 @@ impl<Q: Exact> Indexed<Q> {
         match &self.processes {
             Some(waiting) => match waiting.in_order(&mut self.numbers, &mut self.listed) {
                 Err(_) => Err(SettleStop::Memory),
-                Ok(()) => present_among(self.alloc, ground, self.timeline.state(), &self.listed),
+                Ok(()) => present_among(ground, self.timeline.state(), &self.listed, room),
             },
             None => holding(self.alloc, ground, self.timeline.state()),
         }
     }
 
-    // The running set of the present state, and the processes that hold in it.
-    fn settled(&mut self, ground: &Ground<Q>) -> Result<Settled<Q>, SettleStop<Q>>
+    // The running set of the present state. The processes that hold in it wait from now on.
+    fn settled(&mut self, ground: &Ground<Q>) -> Result<Running<Q>, SettleStop<Q>>
         requires knows { Knows Q.fits (problem_of Q.value ground.now) self.old }
-        ensures told { SettledTold Q.value Q.fits (problem_of Q.value ground.now) self.old.line.now.state result }
-        ensures same { self.new ≡ self.old }
+        ensures told { SettleAnswers Q.value Q.fits (problem_of Q.value ground.now) self.old.line.now.state result }
+        ensures line { self.new.line ≡ self.old.line }
+        ensures kept { self.new.kept ≡ record (self.old.kept) { processes = self.new.kept.processes } }
+        ensures processes { (w : List ℕ) → self.new.kept.processes ≡ Some w →
+            MayHold Q.fits (problem_of Q.value ground.now) self.old.line.now.state w }
     {
-        match self.present(ground) {
+        let Running { members, rates } = mem::replace(&mut self.room, no_room(self.alloc));
+        match self.present(ground, members) {
             Err(stop) => Err(stop),
-            Ok(present) => match settle_among(
-                self.alloc,
-                ground,
-                &present,
-                self.timeline.state(),
-                &mut self.readers,
-            ) {
-                Err(stop) => Err(stop),
-                Ok(running) => Ok(Settled { present, running }),
-            },
+            Ok(present) => {
+                let before = self.processes.take();
+                self.processes = Waiting::anew(self.alloc, before, &present).ok();
+                settle_among(
+                    self.alloc,
+                    ground,
+                    present,
+                    self.timeline.state(),
+                    &mut self.readers,
+                    rates,
+                )
+            }
         }
     }
 

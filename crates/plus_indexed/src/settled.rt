@@ -1,4 +1,4 @@
-//! The running set of a state, where it is known which processes may hold in it.
+//! The processes that hold in a state, where it is known which may hold in it.
 ghost use Rattle.std.specs.Prelude.{◌≡◌, length, MatchResult};
 ghost use Rattle.plus_model.specs.Running.{holding as holding_of};
 ghost use Rattle.plus_state.specs.View.{problem_of};
@@ -9,19 +9,11 @@ ghost use Rattle.plus_state.specs.Walk.{process_conditions, OthersFalse, OthersP
 ghost use Rattle.plus_settle.specs.Settles.{condition_nodes, ConditionStops, of_walk};
 
 use plus_number::exact::Exact;
-use plus_settle::{Running, SettleStop};
+use plus_settle::SettleStop;
 use plus_state::problem::Ground;
 use plus_state::states::State;
 use plus_state::term::ProcessId;
-use plus_state::walk::{WalkStop, holding_among};
-use std::alloc::Global;
-
-/// A running set, and the processes that hold in the state from which it runs.
-#[derive(Drop)]
-pub struct Settled<Q: Exact> {
-    pub present: Vec<ProcessId>,
-    pub running: Running<Q>,
-}
+use plus_state::walk::{WalkStop, holding_in};
 
 // The stop of a walk as that of the whole.
 fn walk_stop<Q: Exact>(stop: WalkStop<Q>) -> SettleStop<Q>
@@ -34,12 +26,13 @@ fn walk_stop<Q: Exact>(stop: WalkStop<Q>) -> SettleStop<Q>
 }
 
 /// The processes whose condition holds, as `plus_settle::holding`, by a look at some of them. Of all
-/// others it is known that they do not hold and that what they ask passes.
+/// others it is known that they do not hold and that what they ask passes. They stand in the memory of the
+/// list `room`, which is needed no more.
 pub fn present_among<Q: Exact>(
-    alloc: Global,
     ground: &Ground<Q>,
     state: &State<Q>,
     looked_at: &[ProcessId],
+    room: Vec<ProcessId>,
 ) -> Result<Vec<ProcessId>, SettleStop<Q>>
     requires state { StateFits (length (ground.now.atoms.items)) (length (ground.now.fluents.items)) state.now }
     requires members { AreMembers (length (process_conditions (problem_of Q.value ground.now))) (process_numbers looked_at.now) }
@@ -50,7 +43,7 @@ pub fn present_among<Q: Exact>(
         × (process_numbers present.items ≡ holding_of (problem_of Q.value ground.now) state.now))
         (λ stop. ConditionStops Q.value Q.fits (condition_nodes ((problem_of Q.value ground.now).processes) state.now) stop) }
 {
-    match holding_among(alloc, ground, state, looked_at) {
+    match holding_in(ground, state, looked_at, room) {
         Ok(present) => Ok(present),
         Err(stop) => Err(walk_stop(stop)),
     }

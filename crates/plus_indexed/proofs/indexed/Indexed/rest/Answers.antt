@@ -5,7 +5,6 @@ use Rattle.plus_timeline.specs.declared.stop.Stop.{Stop}
 use Rattle.plus_timeline.specs.Advance.{AdvanceTold}
 use Rattle.plus_timeline.specs.Closing.{CanClose}
 use Rattle.plus_indexed.specs.Indexed.{IndexedView}
-use Rattle.plus_indexed.proofs.Present.{those_hold, kept_present}
 use Rattle.plus_indexed.proofs.Resting.{IsStill, where_true, where_false, is_there, is_unsettled, is_closed}
 use Rattle.plus_indexed.proofs.indexed.Indexed.rest.Goals as goal
 
@@ -15,9 +14,8 @@ returns-in-Err-settled-clause-told g c =
     let u = g.Q.Exact.value c.args.until in
     let L = c.args.self.now.line in
     let m : IsStill g.Q.Exact.fits P u L = record { going = c.requires.going; moment = c.requires.moment; still = c.requires.still; passed = c.requires.passed; ahead = c.requires.ahead } in
-    let line = ap (λ (v : IndexedView). v.line) c.settled.ensures.same in
-    let may = subst (CanClose P u) (ap (λ (v : IndexedView). v.line) c.self.view_is ∙ sym line) (where_true _ _ _ c.in-Ok-true.field-0-test c.in-Ok-true.ensures.told) in
-    let told = is_unsettled g.Q.Exact.value g.Q.Exact.fits P u c.settled.new.self.line L line m c.in-Err-settled.stop may c.in-Err-settled.ensures.told in
+    let may = subst (CanClose P u) (ap (λ (v : IndexedView). v.line) c.self.view_is ∙ sym c.settled.ensures.line) (where_true _ _ _ c.in-Ok-true.field-0-test c.in-Ok-true.ensures.told) in
+    let told = is_unsettled g.Q.Exact.value g.Q.Exact.fits P u c.settled.new.self.line L c.settled.ensures.line m c.in-Err-settled.stop may c.in-Err-settled.ensures.told in
     subst (λ (s : Stop g.row.Q.Denot). AdvanceTold g.Q.Exact.value g.Q.Exact.fits P u L c.settled.new.self.line (Err s)) (sym c.settle_stop.ensures) told
 
 pub returns-in-Ok-clause-told : goal.returns-in-Ok-clause-told
@@ -26,16 +24,12 @@ returns-in-Ok-clause-told g c =
     let u = g.Q.Exact.value c.args.until in
     let L = c.args.self.now.line in
     let m : IsStill g.Q.Exact.fits P u L = record { going = c.requires.going; moment = c.requires.moment; still = c.requires.still; passed = c.requires.passed; ahead = c.requires.ahead } in
-    let line = ap (λ (v : IndexedView). v.line) (c.self-in-Ok-true.view_is ∙ c.settled.ensures.same) in
+    let line = ap (λ (v : IndexedView). v.line) c.self-in-Ok-true.view_is ∙ c.settled.ensures.line in
     let may = subst (CanClose P u) (ap (λ (v : IndexedView). v.line) c.self.view_is ∙ sym line) (where_true _ _ _ c.in-Ok-true.field-0-test c.in-Ok-true.ensures.told) in
-    is_closed g.Q.Exact.value g.Q.Exact.fits P u c.self-in-Ok-true.inside.timeline L line m c.run.new.self c.in-Ok.settled.running may c.in-Ok.ensures.told.0 c.run.ensures
+    is_closed g.Q.Exact.value g.Q.Exact.fits P u c.self-in-Ok-true.inside.timeline L line m c.run.new.self c.in-Ok.running may c.in-Ok.ensures.told c.run.ensures
 
 pub returns-in-Ok-clause-processes : goal.returns-in-Ok-clause-processes
-returns-in-Ok-clause-processes g c =
-    let P = problem_of g.Q.Exact.value c.args.ground.now in
-    let s = c.args.self.now.line.now.state in
-    kept_present g.Q.Exact.fits P s c.anew.result c.ok.result c.deref.result.now c.in-Ok.settled.present.items c.ok.ensures.value c.anew.ensures c.deref.ensures.value
-    (those_hold g.Q.Exact.fits P s _ c.in-Ok.ensures.told.1 c.in-Ok.ensures.told.2)
+returns-in-Ok-clause-processes g c = λ w e. c.settled.ensures.processes w (ap (λ (v : IndexedView). v.kept.processes) (sym c.self-in-Ok-true.view_is) ∙ e)
 
 pub returns-in-Ok-false-clause-told : goal.returns-in-Ok-false-clause-told
 returns-in-Ok-false-clause-told g c =
