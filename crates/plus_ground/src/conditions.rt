@@ -149,7 +149,9 @@ pub fn condition<Q: FromParts>(
             Ok(joined(all, forms))
         }
         CondNode::ForAll(vars, body) | CondNode::Exists(vars, body) => {
-            'choices: for inner in &environments(alloc, numbering, vars.as_slice(), env)? {
+            let choices = environments(alloc, numbering, vars.as_slice(), env)?;
+            forms.reserve(choices.len())?;
+            'choices: for inner in &choices {
                 forms.push(condition(alloc, numbering, inner, positive, body)?)?;
             }
             Ok(joined(all, forms))

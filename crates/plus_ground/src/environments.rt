@@ -157,6 +157,14 @@ fn have_objects(numbering: &Numbering, vars: &[TypedName]) -> bool
     true
 }
 
+// How many environments there are for the first variable alone.
+fn fewest(numbering: &Numbering, vars: &[TypedName]) -> usize {
+    match vars {
+        [] => 1,
+        [first, ..] => numbering.members(first.kind.name.bytes()).len(),
+    }
+}
+
 /// The environments in which each variable of a list, inside those of `env`, stands for an object of
 /// its type: one for each choice, the first variable changing slowest.
 pub fn environments<'a>(
@@ -168,10 +176,10 @@ pub fn environments<'a>(
     ensures { IfOk result (λ es. es.items
         ≡ environments (context numbering.now) vars.now env.now) }
 {
-    let mut inner = Vec::new(alloc);
     if !have_objects(numbering, vars) {
-        return Ok(inner);
+        return Ok(Vec::new(alloc));
     }
+    let mut inner = Vec::with_capacity(alloc, fewest(numbering, vars))?;
     extend(alloc, numbering, vars, env.copy(alloc)?, &mut inner)?;
     Ok(inner)
 }

@@ -121,6 +121,7 @@ fn events_of<Q: FromParts>(
 {
     let none = Environment::new(alloc);
     let choices = environments(alloc, numbering, schema.params.as_slice(), &none)?;
+    into.reserve(choices.len())?;
     'choices: for env in &choices {
         into.push(event(alloc, numbering, schema, env)?)?;
     }
@@ -141,6 +142,7 @@ fn processes_of<Q: FromParts>(
 {
     let none = Environment::new(alloc);
     let choices = environments(alloc, numbering, schema.params.as_slice(), &none)?;
+    into.reserve(choices.len())?;
     'choices: for env in &choices {
         into.push(process(alloc, numbering, schema, env)?)?;
     }
