@@ -149,9 +149,7 @@ pub fn condition<Q: FromParts>(
             Ok(joined(all, forms))
         }
         CondNode::ForAll(vars, body) | CondNode::Exists(vars, body) => {
-            let choices = environments(alloc, numbering, vars.as_slice(), env)?;
-            forms.reserve(choices.len())?;
-            'choices: for inner in &choices {
+            'choices: for inner in &environments(alloc, numbering, vars.as_slice(), env)? {
                 forms.push(condition(alloc, numbering, inner, positive, body)?)?;
             }
             Ok(joined(all, forms))
