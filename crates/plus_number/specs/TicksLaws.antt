@@ -1,14 +1,15 @@
 -- The laws of `Ticks` as a type of exact fractions.
-use Rattle.std.specs.Prelude.{◌≡◌, ◌≤◌, ℤ, pos, unsigned_abs, refl}
-use Rattle.std.proofs.Common.{arith, sym, subst, ◌∙◌}
+use Rattle.std.specs.Prelude.{◌≡◌, ◌*◌, ◌<◌, ◌≤◌, ℤ, pos, unsigned_abs, refl}
+use Rattle.std.proofs.Common.{arith, sym, subst, ◌∙◌, mul-pos}
 use mathlib.Core.HLevel.{is_prop→PathP}
 use native.Mathlib.Bridge.{le_prop}
 use Rattle.plus_number.specs.declared.ticks.Ticks.{Ticks}
-use Rattle.plus_fraction.specs.Fraction.{Fraction, over, whole}
+use Rattle.plus_fraction.specs.Fraction.{Fraction, over, whole, ◌+ℚ◌, ◌*ℚ◌}
 use Rattle.plus_fraction.proofs.FractionBase.{Is, same}
 use Rattle.plus_fraction.proofs.FractionLaws.{Is-over}
 use Rattle.plus_fraction.proofs.FractionRing.{Is-whole}
 use Rattle.plus_fraction.proofs.FractionLinear.{num-by}
+use Rattle.plus_number.specs.Size.{size}
 use Rattle.plus_number.specs.Ticks.{fraction_of, IsTicks}
 
 -- k millionths
@@ -34,3 +35,10 @@ zero_fits = (pos 0, omega arith, same (Is-ticks (pos 0)) (Is-whole (pos 0)) refl
 
 pub one_fits : IsTicks (whole (pos 1))
 one_fits = (pos 1000000, omega arith, same (Is-ticks (pos 1000000)) (Is-whole (pos 1)) refl)
+
+-- no product of three sizes is 0
+size-positive : (v : Fraction) → 0 < size v
+size-positive v = omega (arith, v.positive)
+
+pub moves_fit : (v r d : Fraction) → size v * size r * size d ≤ 0 → IsTicks (r *ℚ d) × IsTicks (v +ℚ r *ℚ d)
+moves_fit v r d h = absurd (omega (arith, h, mul-pos (mul-pos (size-positive v) (size-positive r)) (size-positive d)))

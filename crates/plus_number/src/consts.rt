@@ -1,6 +1,7 @@
-//! The values 0 and 1 of every exact type.
+//! The values 0 and 1 of every exact type, and the sizes of values.
 ghost use Rattle.std.specs.Prelude.{◌≡◌, ◌↔◌, IsTrue, pos};
 ghost use Rattle.plus_fraction.specs.Fraction.{Fraction, whole};
+ghost use Rattle.plus_number.specs.Size.{size};
 
 use crate::exact::Exact;
 
@@ -30,4 +31,13 @@ pub fn is_zero<Q: Exact>(x: Q) -> bool
 {
     let parts = x.parts();
     parts.0 == 0
+}
+
+/// The size of a value: the sum of its parts, without a sign.
+#[inline(always)]
+pub fn size<Q: Exact>(x: Q) -> u64
+    ensures { result ≡ size (Q.value x) }
+{
+    let (top, bottom) = x.parts();
+    top.unsigned_abs() + bottom.unsigned_abs()
 }

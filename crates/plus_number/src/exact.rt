@@ -1,7 +1,8 @@
 //! The types of exact fractions.
-ghost use Rattle.std.specs.Prelude.{◌≡◌, pos, ◌<ℤ◌, unsigned_abs};
+ghost use Rattle.std.specs.Prelude.{◌≡◌, ◌≤◌, ◌*◌, ℕ, pos, ◌<ℤ◌, unsigned_abs};
 ghost use Rattle.plus_fraction.specs.Fraction.{Fraction, over, whole, ◌+ℚ◌, ◌-ℚ◌, ◌*ℚ◌, ◌/ℚ◌, compared};
 ghost use Rattle.plus_number.specs.Exact.{Answers};
+ghost use Rattle.plus_number.specs.Size.{size};
 
 use std::cmp::Ordering;
 use thiserror::Error;
@@ -18,6 +19,8 @@ pub trait Exact: Copy {
     ghost value: { Self → Fraction };
     // the fraction is a value of the type
     ghost fits: { Fraction → Type 0 };
+    // how far the product of three sizes may go where `moves_fit` is to hold
+    ghost room: { ℕ };
 
     /// n/d, reduced.
     fn ratio(n: i64, d: i64) -> Result<Self, Outside>
@@ -50,6 +53,11 @@ pub trait Exact: Copy {
         ensures top { result.0 ≡ (value self).top }
         ensures bottom { result.1 ≡ pos ((value self).bottom) };
 
+    /// How far the product of the sizes of a value, a rate and a delay may go, so that the value after that
+    /// delay is sure to be a value of the type; 0 where no such bound is known.
+    fn room() -> u64
+        ensures { result ≡ room };
+
     // each value fits
     ghost value_fits: { (x : Self) → fits (value x) };
     // each fraction that fits is a value
@@ -61,4 +69,7 @@ pub trait Exact: Copy {
     ghost zero_fits: { fits (whole (pos 0)) };
 
     ghost one_fits: { fits (whole (pos 1)) };
+
+    // small values that move at small rates for a short delay stay values
+    ghost moves_fit: { (v r d : Fraction) → size v * size r * size d ≤ room → fits (r *ℚ d) × fits (v +ℚ r *ℚ d) };
 }

@@ -190,11 +190,13 @@ impl Frac64 {
 
 impl Exact for Frac64 {
     ghost use Rattle.plus_number.specs.Frac.{fraction_of, IsFrac64};
-    ghost use Rattle.plus_number.specs.FracLaws.{fits_of, value_of_fit, injective_of, zero_fits, one_fits};
+    ghost use Rattle.plus_number.specs.FracLaws.{fits_of, value_of_fit, injective_of, zero_fits, one_fits, moves_fit};
 
     ghost value = { fraction_of };
 
     ghost fits = { IsFrac64 };
+
+    ghost room = { 9223372036854775807 };
 
     fn ratio(n: i64, d: i64) -> Result<Frac64, Outside> {
         let top = n as i128;
@@ -239,6 +241,11 @@ impl Exact for Frac64 {
         (self.n, self.d as i64)
     }
 
+    #[inline(always)]
+    fn room() -> u64 {
+        LIMIT
+    }
+
     ghost value_fits = { fits_of };
 
     ghost value_with = { value_of_fit };
@@ -248,4 +255,6 @@ impl Exact for Frac64 {
     ghost zero_fits = { zero_fits };
 
     ghost one_fits = { one_fits };
+
+    ghost moves_fit = { moves_fit };
 }

@@ -100,11 +100,13 @@ impl Ticks {
 
 impl Exact for Ticks {
     ghost use Rattle.plus_number.specs.Ticks.{fraction_of, IsTicks};
-    ghost use Rattle.plus_number.specs.TicksLaws.{fits_of, value_of_fit, injective_of, zero_fits, one_fits};
+    ghost use Rattle.plus_number.specs.TicksLaws.{fits_of, value_of_fit, injective_of, zero_fits, one_fits, moves_fit};
 
     ghost value = { fraction_of };
 
     ghost fits = { IsTicks };
+
+    ghost room = { 0 };
 
     fn ratio(n: i64, d: i64) -> Result<Ticks, Outside> {
         Ticks::quotient(n as i128 * 1000000, d)
@@ -143,6 +145,11 @@ impl Exact for Ticks {
         )
     }
 
+    // products of millionths are finer
+    fn room() -> u64 {
+        0
+    }
+
     ghost value_fits = { fits_of };
 
     ghost value_with = { value_of_fit };
@@ -152,4 +159,6 @@ impl Exact for Ticks {
     ghost zero_fits = { zero_fits };
 
     ghost one_fits = { one_fits };
+
+    ghost moves_fit = { moves_fit };
 }

@@ -1,5 +1,5 @@
 use Rattle.std.proofs.Common.{rules, arith, SFits, w64, to_z-of_z, ◌∙◌, ◌≤◌, unsigned_abs, subst, sym, ℤ}
-use Rattle.plus_number.proofs.FracLemmas.{over-small}
+use Rattle.plus_number.specs.Parts.{over-small}
 use Rattle.plus_number.proofs.widening.widen.Goals as goal
 
 pub unreachable-requires : goal.unreachable-requires
