@@ -1,7 +1,8 @@
 //! States: the truth of each ground atom and the value of each ground fluent.
-ghost use Rattle.std.specs.Prelude.{◌≡◌, ◌<◌, ◌^◌, Bool, false, Option, None, length, map, option_map, replicate, slice_set, IfOk};
+ghost use Rattle.std.specs.Prelude.{◌≡◌, ◌<◌, ◌^◌, Bool, false, Option, Some, None, length, map, option_map, replicate, slice_set, IfOk};
 ghost use Rattle.plus_state.specs.Changes.{patched_list, patched, AreIn, Within};
 ghost use Rattle.plus_state.specs.ChangesView.{atom_changes, fluent_changes};
+ghost use Rattle.plus_state.specs.Motions.{laid};
 ghost use Rattle.plus_fraction.specs.Fraction.{Fraction};
 ghost use Rattle.plus_model.specs.Terms.{State as Meant};
 ghost use Rattle.plus_model.specs.Value.{fluent_of, atom_of};
@@ -9,6 +10,7 @@ ghost use Rattle.plus_model.specs.Codes.{coded_state};
 
 use crate::bits::Bits;
 use crate::changes::{AtomChange, Changes, FluentChange};
+use crate::motion::Motion;
 use crate::term::{AtomId, FluentId};
 use plus_number::exact::Exact;
 use std::alloc::{AllocError, Global};
@@ -19,7 +21,10 @@ use std::marker::Model;
 #[derive(Drop)]
 pub struct State<Q: Exact> {
     truths: Bits,
+    // The values of the fluents, where no motion stands in their place.
     values: Vec<Option<Q>>,
+    // As many as there is room for, by the numbers of the fluents.
+    motions: Vec<Option<Motion<Q>>>,
 }
 
 impl<Q: Exact> Model for State<Q> {
@@ -27,7 +32,7 @@ impl<Q: Exact> Model for State<Q> {
 
     ghost coded = { coded_state };
 
-    ghost view = { λ s. record { atoms = s.truths; fluents = map (option_map Q.value) s.values.items } };
+    ghost view = { λ s. record { atoms = s.truths; fluents = laid (map (option_map Q.value) s.values.items) s.motions.items } };
 
     ghost invariant = { λ s. length s.values.items < 2 ^ 32 };
 }
@@ -42,7 +47,11 @@ impl<Q: Exact> State<Q> {
         for _i in 0..fluents {
             values.push(None)?;
         }
-        Ok(State { truths, values })
+        Ok(State {
+            truths,
+            values,
+            motions: Vec::new(alloc),
+        })
     }
 
     /// Makes an atom true or false, and changes nothing else.
@@ -59,6 +68,32 @@ impl<Q: Exact> State<Q> {
         ensures { self.new ≡ record (self.old) { fluents = slice_set (self.old.fluents) fluent.0 (option_map Q.value value) } }
     {
         self.values[fluent.0 as usize] = value;
+        if (fluent.0 as usize) < self.motions.len() {
+            self.motions[fluent.0 as usize] = None;
+        }
+    }
+
+    /// Makes room for the motions of fluents (`set_motion`). Without room they are worked at once.
+    pub fn make_room_for_motions(&mut self) -> Result<(), AllocError>
+        ensures { self.new ≡ self.old }
+    {
+        while self.motions.len() < self.values.len() {
+            self.motions.push(None)?;
+        }
+        Ok(())
+    }
+
+    /// Gives a fluent the value that this motion comes to, and changes nothing else. It takes no memory.
+    #[inline(always)]
+    pub fn set_motion(&mut self, fluent: FluentId, motion: Motion<Q>)
+        requires { fluent.0 < length (self.old.fluents) }
+        ensures { self.new ≡ record (self.old) { fluents = slice_set (self.old.fluents) fluent.0 (Some motion) } }
+    {
+        if (fluent.0 as usize) < self.motions.len() {
+            self.motions[fluent.0 as usize] = Some(motion);
+        } else {
+            self.values[fluent.0 as usize] = Some(motion.value());
+        }
     }
 
     fn patch_atoms(&mut self, changes: &[AtomChange])
@@ -101,7 +136,11 @@ impl<Q: Exact> State<Q> {
         requires { fluent.0 < length (self.now.fluents) }
         ensures { option_map Q.value result ≡ fluent_of self.now fluent.0 }
     {
-        self.values[fluent.0 as usize]
+        match self.motions.get(fluent.0 as usize) {
+            Some(Some(motion)) => Some(motion.value()),
+            Some(None) => self.values[fluent.0 as usize],
+            None => self.values[fluent.0 as usize],
+        }
     }
 
     /// The number of atoms.
@@ -125,6 +164,17 @@ impl<Q: Exact> State<Q> {
         let truths = self.truths.copy(alloc)?;
         let mut values = Vec::new(alloc);
         values.extend_from_slice(&self.values)?;
-        Ok(State { truths, values })
+        let mut motions = Vec::with_capacity(alloc, self.motions.len())?;
+        for motion in &self.motions {
+            match motion {
+                Some(motion) => motions.push(Some(motion.copy()))?,
+                None => motions.push(None)?,
+            }
+        }
+        Ok(State {
+            truths,
+            values,
+            motions,
+        })
     }
 }
