@@ -13,3 +13,4 @@ pub mod Steady
 pub mod Straight
 pub mod RootLists
 pub mod Noting
+pub mod Drifting

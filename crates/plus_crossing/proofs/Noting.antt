@@ -198,14 +198,27 @@ module _ {Q : Type 0} (v : Q → Fraction) where
     pub fit : AllFit fits (nodes_by left vs x) → AllFit fits (moved_nodes vs rs x)
     pub unfit : (m : Node) → FirstUnfit fits (nodes_by left vs x) m → FirstUnfit fits (moved_nodes vs rs x) m
 
-  pub noting_start : (fits : Fraction → Type 0) (found : List (ℕ × Option Fraction)) (es left : List (ℕ × Q)) (vs : List (Option Fraction)) (rs : List Fraction) (x : Fraction) → found ≡ [] → all_rates v es 0 (length rs) ≡ rs → IsStrictlySortedBy nat_cmp (keys_of es) → AreIn (length rs) es → left ≡ es → length rs ≡ length vs → Noting fits found left vs rs x
-  noting_start fits found es left vs rs x e r s i d l =
+  -- what they change and ask is what all rates do
+  pub record Given (es : List (ℕ × Q)) (vs : List (Option Fraction)) (rs : List Fraction) (x : Fraction) : Type 0 where
+    pub changes : changes_by es vs x ≡ moving_changes 0 vs rs x
+    pub nodes : nodes_by es vs x ≡ moved_nodes vs rs x
+
+  pub all_given : (es : List (ℕ × Q)) (vs : List (Option Fraction)) (rs : List Fraction) (x : Fraction) → all_rates v es 0 (length rs) ≡ rs → IsStrictlySortedBy nat_cmp (keys_of es) → AreIn (length rs) es → length rs ≡ length vs → Given es vs rs x
+  all_given es vs rs x r s i l =
       let z : 0 + length vs ≡ length vs = omega arith in
       let a = among (length vs) 0 vs rs x z l in
       let g = rates_given v es (length rs) rs r s i in
       let k : moving_keys v es ≡ moving_of rs = moving_is v es (length rs) rs r s i in
-      let c : changes_by left vs x ≡ moving_changes 0 vs rs x = ap (λ (js : List (ℕ × Q)). changes_by js vs x) d ∙ given_changes es vs rs x g ∙ ap (λ (js : List ℕ). changes_among js vs rs x) k ∙ a.changes in
-      let n : nodes_by left vs x ≡ moved_nodes vs rs x = ap (λ (js : List (ℕ × Q)). nodes_by js vs x) d ∙ given_nodes es vs rs x g ∙ ap (λ (js : List ℕ). nodes_among js vs rs x) k ∙ a.nodes in
+      record {
+        changes = given_changes es vs rs x g ∙ ap (λ (js : List ℕ). changes_among js vs rs x) k ∙ a.changes;
+        nodes = given_nodes es vs rs x g ∙ ap (λ (js : List ℕ). nodes_among js vs rs x) k ∙ a.nodes;
+      }
+
+  pub noting_start : (fits : Fraction → Type 0) (found : List (ℕ × Option Fraction)) (es left : List (ℕ × Q)) (vs : List (Option Fraction)) (rs : List Fraction) (x : Fraction) → found ≡ [] → all_rates v es 0 (length rs) ≡ rs → IsStrictlySortedBy nat_cmp (keys_of es) → AreIn (length rs) es → left ≡ es → length rs ≡ length vs → Noting fits found left vs rs x
+  noting_start fits found es left vs rs x e r s i d l =
+      let a = all_given es vs rs x r s i l in
+      let c : changes_by left vs x ≡ moving_changes 0 vs rs x = ap (λ (js : List (ℕ × Q)). changes_by js vs x) d ∙ a.changes in
+      let n : nodes_by left vs x ≡ moved_nodes vs rs x = ap (λ (js : List (ℕ × Q)). nodes_by js vs x) d ∙ a.nodes in
       record {
         inside = subst (AreIn (length vs)) (sym d) (subst (λ (m : ℕ). AreIn m es) l i);
         so_far = ap (λ (f : List (ℕ × Option Fraction)). f ++ changes_by left vs x) e ∙ c;

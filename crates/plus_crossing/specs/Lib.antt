@@ -6,4 +6,5 @@ pub mod Next
 pub mod Listed
 pub mod Rated
 pub mod Moves
+pub mod Motions
 pub mod Laws
