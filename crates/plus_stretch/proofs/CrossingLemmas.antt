@@ -1,14 +1,15 @@
 -- What is asked at one crossing, in parts.
 use Rattle.std.proofs.Common.{◌≡◌, ℕ, List, [], ◌∷◌, ◌++◌, map, refl, ap, sym, subst, ◌∙◌, length, append_assoc}
-use Rattle.std.specs.Prelude.{Option}
+use Rattle.std.specs.Prelude.{Option, Some, None, IfSome, IsSomeAnd}
 use Rattle.plus_fraction.specs.Fraction.{Fraction, ◌+ℚ◌}
 use Rattle.plus_model.specs.Terms.{State, Problem}
 use Rattle.plus_model.specs.Running.{moved}
 use Rattle.plus_state.specs.declared.term.Sign.TheVariants.{Plus}
-use Rattle.plus_state.specs.Asked.{node}
+use Rattle.plus_state.specs.Asked.{node, AllFit}
 use Rattle.plus_state.specs.Fits.{StateFits}
 use Rattle.plus_state.proofs.Testing.{pass_append}
 use Rattle.plus_crossing.specs.Moves.{moved_nodes}
+use Rattle.plus_crossing.specs.Motions.{Extends, MayDrift}
 use Rattle.plus_stretch.specs.declared.halt.Halt.{Halt}
 use Rattle.plus_stretch.specs.declared.arrival.End.{End}
 use Rattle.plus_stretch.specs.declared.arrival.End.TheVariants.{EventHolds, SetEnds, Until}
@@ -95,3 +96,15 @@ fits_ahead atoms fluents s rs t h k =
 
 pub rates_ahead : (s : State) (rs : List Fraction) (t : State) → length rs ≡ length s.fluents → IsAlong s rs t → length rs ≡ length t.fluents
 rates_ahead s rs t h k = h ∙ sym (fits_along s rs t k).fluents_fit
+
+-- where the state ahead is set to so much time after the beginning, from whatever time it is at
+pub there_along : (s : State) (rs : List Fraction) (x : Fraction) (t new : State) → IsAlong s rs t → ((from : Fraction) → t ≡ moved s rs from → new ≡ moved s rs x) → new ≡ moved s rs x
+there_along s rs x t new h f = f h.at h.is
+
+pub along_there : (s : State) (rs : List Fraction) (x : Fraction) (t new : State) → IsAlong s rs t → ((from : Fraction) → t ≡ moved s rs from → new ≡ moved s rs x) → IsAlong s rs new
+along_there s rs x t new h f = record { at = x; is = f h.at h.is }
+
+-- what goes no further than is known may move for so long
+pub known_to_fit : (fits : Fraction → Type 0) (o : Option ℕ) (vs : List (Option Fraction)) (rs : List Fraction) (x : Fraction) → IfSome o (Extends vs rs) → IsSomeAnd o (λ e. MayDrift fits e x) → AllFit fits (moved_nodes vs rs x)
+known_to_fit fits (Some e) vs rs x h d = d vs rs h
+known_to_fit fits None vs rs x h d = absurd d

@@ -1,13 +1,14 @@
 //! What begins at one moment along a running set.
-ghost use Rattle.std.specs.Prelude.{◌≡◌, [], ◌∷◌, length, map, IfOk, IfSome};
+ghost use Rattle.std.specs.Prelude.{◌≡◌, [], ◌∷◌, true, length, map, IfOk, IfSome, IsSomeAnd};
 ghost use Rattle.plus_fraction.specs.Fraction.{◌+ℚ◌};
 ghost use Rattle.plus_model.specs.Running.{moved};
 ghost use Rattle.plus_state.specs.View.{problem_of};
 ghost use Rattle.plus_state.specs.Fits.{StateFits};
-ghost use Rattle.plus_state.specs.Asked.{node};
+ghost use Rattle.plus_state.specs.Asked.{node, AllFit};
 ghost use Rattle.plus_state.specs.Numbers.{event_numbers};
 ghost use Rattle.plus_state.specs.Walk.{event_conditions, OthersPass, OthersFalse};
 ghost use Rattle.plus_crossing.specs.Moves.{moved_nodes};
+ghost use Rattle.plus_crossing.specs.Motions.{Extends, MayDrift};
 ghost use Rattle.plus_settle.specs.Members.{process_numbers, AreMembers};
 ghost use Rattle.plus_stretch.specs.Tests.{asks};
 ghost use Rattle.plus_stretch.specs.StretchTests.{here_tests};
@@ -19,6 +20,7 @@ ghost use Rattle.plus_stretch.specs.Arrives.{ComesBy, CrossingTold, IsArrived};
 use crate::arrival::{Arrival, End};
 use crate::halt::Halt;
 use crate::soon::none_soon;
+use plus_crossing::motions::{may_drift, set_motions};
 use plus_crossing::moves::{MoveStop, moved_changes};
 use plus_crossing::node::exact;
 use plus_crossing::rates::Rates;
@@ -166,11 +168,8 @@ pub fn move_ahead<Q: Exact>(
     }
 }
 
-/// What happens so much time after the beginning of a stretch, by a look at these events and processes,
-/// where it is known what the others tell there: none where nothing begins, or its end. The refusal is
-/// the first test that fails: the moment, the fluents that move, and then what is asked there of all
-/// events and processes; or want of memory. The state ahead is moved there.
-pub fn at_root<Q: Exact>(
+// What happens at a root, where all fluents that move are moved there at once.
+fn at_root_moved<Q: Exact>(
     alloc: Global,
     ground: &Ground<Q>,
     state: &State<Q>,
@@ -203,4 +202,94 @@ pub fn at_root<Q: Exact>(
             end,
         })),
     }
+}
+
+// What happens at a root, where it is known that all that move stay values of the type: they are set on
+// their way, and what has changed is worked only where something begins.
+fn at_root_in_motion<Q: Exact>(
+    alloc: Global,
+    ground: &Ground<Q>,
+    state: &State<Q>,
+    ahead: &mut State<Q>,
+    running: &Running<Q>,
+    time: Q,
+    root: Q,
+    events: &[EventId],
+    processes: &[ProcessId],
+) -> Result<Option<Arrival<Q>>, Halt<Q>>
+    requires state { StateFits (length (ground.now.atoms.items)) (length (ground.now.fluents.items)) state.now }
+    requires members { AreMembers (length (ground.now.processes.items)) (process_numbers running.now.members.items) }
+    requires rates { length (running.now.rates) ≡ length (state.now.fluents) }
+    requires along { IsAlong state.now running.now.rates ahead.old }
+    requires events { AreMembers (length (ground.now.events.items)) (event_numbers events.now) }
+    requires processes { AreMembers (length (ground.now.processes.items)) (process_numbers processes.now) }
+    requires fit { AllFit Q.fits (moved_nodes (state.now.fluents) running.now.rates (Q.value root)) }
+    requires others { OthersKnown Q.fits (problem_of Q.value ground.now) (process_numbers running.now.members.items) (moved state.now running.now.rates (Q.value root)) running.now.rates (event_numbers events.now) (process_numbers processes.now) }
+    ensures told { CrossingTold Q.value Q.fits (problem_of Q.value ground.now) (Q.value time) state.now (process_numbers running.now.members.items) running.now.rates (Q.value root) result }
+    ensures along { IsAlong state.now running.now.rates ahead.new }
+    ensures arrived { IfOk result (λ o. IfSome o (IsArrived state.now ahead.new)) }
+{
+    let moment = later(time, root)?;
+    set_motions(state, ahead, &running.rates, root);
+    match begins_here(alloc, ground, ahead, running, moment, events, processes)? {
+        None => Ok(None),
+        Some(end) => match move_ahead(alloc, state, ahead, &running.rates, root) {
+            Err(halt) => Err(halt),
+            Ok(changes) => Ok(Some(Arrival {
+                time: moment,
+                changes,
+                end,
+            })),
+        },
+    }
+}
+
+// Whether all that goes no further than this, if that is known, is sure to stay a value after so much time.
+fn drifts<Q: Exact>(extent: Option<u64>, delay: Q) -> bool
+    ensures { result ≡ true → IsSomeAnd extent (λ e. MayDrift Q.fits e (Q.value delay)) }
+{
+    match extent {
+        None => false,
+        Some(most) => may_drift(most, delay),
+    }
+}
+
+/// What happens so much time after the beginning of a stretch, by a look at these events and processes,
+/// where it is known what the others tell there: none where nothing begins, or its end. The refusal is
+/// the first test that fails: the moment, the fluents that move, and then what is asked there of all
+/// events and processes; or want of memory. The state ahead is moved there.
+/// Where it is known how far the fluents go that move (`extent`), they may be set on their way.
+#[inline(always)]
+pub fn at_root<Q: Exact>(
+    alloc: Global,
+    ground: &Ground<Q>,
+    state: &State<Q>,
+    ahead: &mut State<Q>,
+    running: &Running<Q>,
+    time: Q,
+    root: Q,
+    events: &[EventId],
+    processes: &[ProcessId],
+    extent: Option<u64>,
+) -> Result<Option<Arrival<Q>>, Halt<Q>>
+    requires state { StateFits (length (ground.now.atoms.items)) (length (ground.now.fluents.items)) state.now }
+    requires members { AreMembers (length (ground.now.processes.items)) (process_numbers running.now.members.items) }
+    requires rates { length (running.now.rates) ≡ length (state.now.fluents) }
+    requires along { IsAlong state.now running.now.rates ahead.old }
+    requires events { AreMembers (length (ground.now.events.items)) (event_numbers events.now) }
+    requires processes { AreMembers (length (ground.now.processes.items)) (process_numbers processes.now) }
+    requires extent { IfSome extent (Extends state.now.fluents running.now.rates) }
+    requires others { OthersKnown Q.fits (problem_of Q.value ground.now) (process_numbers running.now.members.items) (moved state.now running.now.rates (Q.value root)) running.now.rates (event_numbers events.now) (process_numbers processes.now) }
+    ensures told { CrossingTold Q.value Q.fits (problem_of Q.value ground.now) (Q.value time) state.now (process_numbers running.now.members.items) running.now.rates (Q.value root) result }
+    ensures along { IsAlong state.now running.now.rates ahead.new }
+    ensures arrived { IfOk result (λ o. IfSome o (IsArrived state.now ahead.new)) }
+{
+    if drifts(extent, root) {
+        return at_root_in_motion(
+            alloc, ground, state, ahead, running, time, root, events, processes,
+        );
+    }
+    at_root_moved(
+        alloc, ground, state, ahead, running, time, root, events, processes,
+    )
 }

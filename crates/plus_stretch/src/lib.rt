@@ -5,6 +5,8 @@
 //! them, and goes from one to the next below the time asked for. At each it visits each fluent that moves
 //! once, and takes the condition of each event that has the root twice and of each process that has it
 //! once, and of those whose conditions are not simple, up to the first root at which something begins.
+//! Where many fluents move, and it is known beforehand that all stay values of the type, they are only set
+//! on their way, and worked where they are read: what has changed is worked once, where something begins.
 //! It copies no state: the state ahead is lent, and what it answers are changes. `reach` lists all events
 //! and all processes.
 #![tactic(auto)]

@@ -12,7 +12,7 @@ ghost use Rattle.plus_stretch.specs.Skips.{not_simple_among};
 use crate::mark::Mark;
 use plus_crossing::rates::Rates;
 use plus_number::exact::Exact;
-use plus_reads::touched::members_of;
+use plus_reads::touched::members_into;
 use plus_state::outcome::Owner;
 use plus_state::problem::Ground;
 use plus_state::term::{EventId, ProcessId};
@@ -25,6 +25,33 @@ use std::alloc::{AllocError, Global};
 pub struct Looked {
     pub events: Vec<EventId>,
     pub processes: Vec<ProcessId>,
+}
+
+impl Looked {
+    /// None yet.
+    pub fn new(alloc: Global) -> Looked {
+        Looked {
+            events: Vec::new(alloc),
+            processes: Vec::new(alloc),
+        }
+    }
+}
+
+/// What is looked at at one root after the other, and memory for their numbers.
+#[derive(Drop)]
+pub struct Looking {
+    pub looked: Looked,
+    numbers: Vec<u32>,
+}
+
+impl Looking {
+    /// None yet.
+    pub fn new(alloc: Global) -> Looking {
+        Looking {
+            looked: Looked::new(alloc),
+            numbers: Vec::new(alloc),
+        }
+    }
 }
 
 fn append_unless<I: Conditional>(
@@ -41,43 +68,43 @@ fn append_unless<I: Conditional>(
     Ok(())
 }
 
-// Those of these members whose condition is not simple.
+// Puts those of these members whose condition is not simple in place of others.
 fn not_simple<Q: Exact, I: Conditional>(
-    alloc: Global,
     ground: &Ground<Q>,
     rates: &Rates<Q>,
     listed: &[I],
-) -> Result<Vec<I>, AllocError>
+    found: &mut Vec<I>,
+) -> Result<(), AllocError>
     requires rates { length rates.now ≡ length (ground.now.fluents.items) }
     requires members { AreMembers (length (I.conditions (problem_of Q.value ground.now))) (map I.number listed.now) }
-    ensures { IfOk result (λ found. map I.number found.items ≡ not_simple_among (I.conditions (problem_of Q.value ground.now)) (map I.number listed.now) rates.now) }
+    ensures { IfOk result (λ _. map I.number found.new.items ≡ not_simple_among (I.conditions (problem_of Q.value ground.now)) (map I.number listed.now) rates.now) }
 {
-    let mut found = Vec::new(alloc);
+    found.clear();
     'each: for member in listed {
         let simple = is_simple(member.condition(ground), rates);
-        append_unless(&mut found, *member, simple)?;
+        append_unless(found, *member, simple)?;
     }
-    Ok(found)
+    Ok(())
 }
 
-/// The listed events and processes whose conditions are not simple: what they ask may fail on the way.
+/// Puts the listed events and processes whose conditions are not simple in place of others: what they ask may
+/// fail on the way.
 pub fn everywhere<Q: Exact>(
-    alloc: Global,
     ground: &Ground<Q>,
     rates: &Rates<Q>,
     events: &[EventId],
     processes: &[ProcessId],
-) -> Result<Looked, AllocError>
+    into: &mut Looked,
+) -> Result<(), AllocError>
     requires rates { length rates.now ≡ length (ground.now.fluents.items) }
     requires events { AreMembers (length (ground.now.events.items)) (event_numbers events.now) }
     requires processes { AreMembers (length (ground.now.processes.items)) (process_numbers processes.now) }
-    ensures events { IfOk result (λ l. event_numbers l.events.items ≡ not_simple_among (event_conditions (problem_of Q.value ground.now)) (event_numbers events.now) rates.now) }
-    ensures processes { IfOk result (λ l. process_numbers l.processes.items ≡ not_simple_among (process_conditions (problem_of Q.value ground.now)) (process_numbers processes.now) rates.now) }
+    ensures events { IfOk result (λ _. event_numbers into.new.events.items ≡ not_simple_among (event_conditions (problem_of Q.value ground.now)) (event_numbers events.now) rates.now) }
+    ensures processes { IfOk result (λ _. process_numbers into.new.processes.items ≡ not_simple_among (process_conditions (problem_of Q.value ground.now)) (process_numbers processes.now) rates.now) }
 {
-    Ok(Looked {
-        events: not_simple(alloc, ground, rates, events)?,
-        processes: not_simple(alloc, ground, rates, processes)?,
-    })
+    not_simple(ground, rates, events, &mut into.events)?;
+    not_simple(ground, rates, processes, &mut into.processes)?;
+    Ok(())
 }
 
 // In order, each once.
@@ -90,14 +117,14 @@ fn sort_once(numbers: &mut Vec<u32>)
     numbers.dedup();
 }
 
-// The members with these numbers, in ground order and each once.
-fn in_order<I: Conditional>(alloc: Global, mut numbers: Vec<u32>) -> Result<Vec<I>, AllocError>
-    ensures rising { IfOk result (λ members. IsRising 0 (map I.number members.items)) }
-    ensures same { IfOk result (λ members. (k : ℕ) → is_in (map I.number members.items) k ≡ true ↔ is_in numbers.items k ≡ true) }
+// Puts the members with these numbers, in ground order and each once, in place of others.
+fn in_order<I: Conditional>(numbers: &mut Vec<u32>, members: &mut Vec<I>) -> Result<(), AllocError>
+    ensures rising { IfOk result (λ _. IsRising 0 (map I.number members.new.items)) }
+    ensures same { IfOk result (λ _. (k : ℕ) → is_in (map I.number members.new.items) k ≡ true ↔ is_in numbers.old.items k ≡ true) }
 {
-    sort_once(&mut numbers);
-    let members = members_of(alloc, &numbers)?;
-    Ok(members)
+    sort_once(numbers);
+    members_into(numbers, members)?;
+    Ok(())
 }
 
 fn note_event(numbers: &mut Vec<u32>, owner: Owner) -> Result<(), AllocError>
@@ -124,57 +151,59 @@ fn note_process(numbers: &mut Vec<u32>, owner: Owner) -> Result<(), AllocError>
     }
 }
 
-// The numbers of these events, and of those among the owners.
+// Puts the numbers of these events, and of those among the owners, in place of others.
 fn with_events<Q: Exact>(
-    alloc: Global,
     events: &[EventId],
     marks: &[Mark<Q>],
-) -> Result<Vec<u32>, AllocError>
-    ensures { IfOk result (λ numbers. numbers.items ≡ event_numbers events.now ++ owning_events (marks_of Q.value marks.now)) }
+    numbers: &mut Vec<u32>,
+) -> Result<(), AllocError>
+    ensures { IfOk result (λ _. numbers.new.items ≡ event_numbers events.now ++ owning_events (marks_of Q.value marks.now)) }
 {
-    let mut numbers = Vec::new(alloc);
+    numbers.clear();
     'events: for event in events {
         numbers.push(event.0)?;
     }
     'marks: for mark in marks {
-        note_event(&mut numbers, mark.owner)?;
+        note_event(numbers, mark.owner)?;
     }
-    Ok(numbers)
+    Ok(())
 }
 
-// The numbers of these processes, and of those among the owners.
+// Puts the numbers of these processes, and of those among the owners, in place of others.
 fn with_processes<Q: Exact>(
-    alloc: Global,
     processes: &[ProcessId],
     marks: &[Mark<Q>],
-) -> Result<Vec<u32>, AllocError>
-    ensures { IfOk result (λ numbers. numbers.items ≡ process_numbers processes.now ++ owning_processes (marks_of Q.value marks.now)) }
+    numbers: &mut Vec<u32>,
+) -> Result<(), AllocError>
+    ensures { IfOk result (λ _. numbers.new.items ≡ process_numbers processes.now ++ owning_processes (marks_of Q.value marks.now)) }
 {
-    let mut numbers = Vec::new(alloc);
+    numbers.clear();
     'processes: for process in processes {
         numbers.push(process.0)?;
     }
     'marks: for mark in marks {
-        note_process(&mut numbers, mark.owner)?;
+        note_process(numbers, mark.owner)?;
     }
-    Ok(numbers)
+    Ok(())
 }
 
-/// What is looked at where these marks are: their owners, and whatever is looked at everywhere; in
-/// ground order and each once.
+/// Puts what is looked at where these marks are in place of what is looked at before: their owners, and whatever
+/// is looked at everywhere; in ground order and each once.
 pub fn looked_at<Q: Exact>(
-    alloc: Global,
     marks: &[Mark<Q>],
     everywhere: &Looked,
-) -> Result<Looked, AllocError>
-    ensures events_rise { IfOk result (λ l. IsRising 0 (event_numbers l.events.items)) }
-    ensures events { IfOk result (λ l. (k : ℕ) → is_in (event_numbers l.events.items) k ≡ true
+    looking: &mut Looking,
+) -> Result<(), AllocError>
+    ensures events_rise { IfOk result (λ _. IsRising 0 (event_numbers looking.new.looked.events.items)) }
+    ensures events { IfOk result (λ _. (k : ℕ) → is_in (event_numbers looking.new.looked.events.items) k ≡ true
         ↔ is_in (event_numbers everywhere.now.events.items ++ owning_events (marks_of Q.value marks.now)) k ≡ true) }
-    ensures processes_rise { IfOk result (λ l. IsRising 0 (process_numbers l.processes.items)) }
-    ensures processes { IfOk result (λ l. (k : ℕ) → is_in (process_numbers l.processes.items) k ≡ true
+    ensures processes_rise { IfOk result (λ _. IsRising 0 (process_numbers looking.new.looked.processes.items)) }
+    ensures processes { IfOk result (λ _. (k : ℕ) → is_in (process_numbers looking.new.looked.processes.items) k ≡ true
         ↔ is_in (process_numbers everywhere.now.processes.items ++ owning_processes (marks_of Q.value marks.now)) k ≡ true) }
 {
-    let events = in_order(alloc, with_events(alloc, &everywhere.events, marks)?)?;
-    let processes = in_order(alloc, with_processes(alloc, &everywhere.processes, marks)?)?;
-    Ok(Looked { events, processes })
+    with_events(&everywhere.events, marks, &mut looking.numbers)?;
+    in_order(&mut looking.numbers, &mut looking.looked.events)?;
+    with_processes(&everywhere.processes, marks, &mut looking.numbers)?;
+    in_order(&mut looking.numbers, &mut looking.looked.processes)?;
+    Ok(())
 }

@@ -1,4 +1,5 @@
 //! Roots with their owners.
+use crate::looked::{Looked, Looking};
 use plus_number::exact::Exact;
 use plus_state::outcome::Owner;
 use std::alloc::Global;
@@ -11,12 +12,15 @@ pub struct Mark<Q> {
     pub owner: Owner,
 }
 
-/// Memory for the roots and the marks of a stretch, which many stretches use. It is memory only: no answer
-/// follows from what stands in it before.
+/// Memory for the lists of a stretch, which many stretches use. It is memory only: no answer follows from what
+/// stands in it before.
 #[derive(Drop)]
 pub struct Room<Q: Exact> {
     pub roots: Vec<Q>,
     pub marks: Vec<Mark<Q>>,
+    pub different: Vec<Q>,
+    pub everywhere: Looked,
+    pub looking: Looking,
 }
 
 impl<Q: Exact> Room<Q> {
@@ -25,6 +29,9 @@ impl<Q: Exact> Room<Q> {
         Room {
             roots: Vec::new(alloc),
             marks: Vec::new(alloc),
+            different: Vec::new(alloc),
+            everywhere: Looked::new(alloc),
+            looking: Looking::new(alloc),
         }
     }
 }

@@ -7,6 +7,7 @@ ghost use Rattle.plus_state.specs.Fits.{StateFits};
 ghost use Rattle.plus_state.specs.Asked.{node};
 ghost use Rattle.plus_state.specs.Numbers.{event_numbers};
 ghost use Rattle.plus_state.specs.Walk.{event_conditions, process_conditions, OthersFalse};
+ghost use Rattle.plus_crossing.specs.Motions.{Extends};
 ghost use Rattle.plus_still.specs.Others.{OthersStill};
 ghost use Rattle.plus_settle.specs.Members.{process_numbers, AreMembers};
 ghost use Rattle.plus_stretch.specs.Tests.{asks, AllPass};
@@ -25,11 +26,13 @@ use crate::crossing::{at_root, move_ahead};
 use crate::everyone::everyone;
 use crate::halt::Halt;
 use crate::listing::roots;
-use crate::looked::{Looked, everywhere, looked_at};
+use crate::looked::{Looked, Looking, everywhere, looked_at};
 use crate::mark::{Mark, Room};
 use crate::soon::none_soon;
 use crate::sorted::{rising, up_to};
+use plus_crossing::motions::extent;
 use plus_crossing::node::exact;
+use plus_crossing::rates::Rates;
 use plus_number::exact::Exact;
 use plus_settle::settling::Running;
 use plus_state::outcome::Limit;
@@ -37,6 +40,9 @@ use plus_state::problem::Ground;
 use plus_state::states::State;
 use plus_state::term::{EventId, ProcessId, Sign};
 use std::alloc::Global;
+
+// So few fluents are moved at once faster than set on their way.
+const FEW: usize = 8;
 
 // A stretch of time: from a moment up to another, and how long that is.
 #[derive(Clone, Copy)]
@@ -58,6 +64,8 @@ fn cross<Q: Exact>(
     root: Q,
     marks: &[Mark<Q>],
     everywhere: &Looked,
+    looking: &mut Looking,
+    extent: Option<u64>,
 ) -> Result<Option<Arrival<Q>>, Halt<Q>>
     requires state { StateFits (length (ground.now.atoms.items)) (length (ground.now.fluents.items)) state.now }
     requires members { AreMembers (length (ground.now.processes.items)) (process_numbers running.now.members.items) }
@@ -66,6 +74,7 @@ fn cross<Q: Exact>(
     requires owners { AreOwners (problem_of Q.value ground.now) (marks_of Q.value marks.now) }
     requires events { AreMembers (length (ground.now.events.items)) (event_numbers everywhere.now.events.items) }
     requires processes { AreMembers (length (ground.now.processes.items)) (process_numbers everywhere.now.processes.items) }
+    requires extent { IfSome extent (Extends state.now.fluents running.now.rates) }
     requires others { KnownFor Q.fits (problem_of Q.value ground.now) (process_numbers running.now.members.items) (moved state.now running.now.rates (Q.value root)) running.now.rates
         (event_numbers everywhere.now.events.items ++ owning_events (marks_of Q.value marks.now))
         (process_numbers everywhere.now.processes.items ++ owning_processes (marks_of Q.value marks.now)) }
@@ -73,9 +82,9 @@ fn cross<Q: Exact>(
     ensures along { IsAlong state.now running.now.rates ahead.new }
     ensures arrived { IfOk result (λ o. IfSome o (IsArrived state.now ahead.new)) }
 {
-    match looked_at(alloc, marks, everywhere) {
+    match looked_at(marks, everywhere, looking) {
         Err(_) => Err(Halt::Memory),
-        Ok(looked) => at_root(
+        Ok(()) => at_root(
             alloc,
             ground,
             state,
@@ -83,8 +92,9 @@ fn cross<Q: Exact>(
             running,
             time,
             root,
-            &looked.events,
-            &looked.processes,
+            &looking.looked.events,
+            &looking.looked.processes,
+            extent,
         ),
     }
 }
@@ -95,6 +105,44 @@ fn behind<Q: Exact>(marks: &[Mark<Q>], count: usize) -> &[Mark<Q>]
     ensures { marks_of Q.value result.now ≡ drop count (marks_of Q.value marks.now) }
 {
     &marks[count..]
+}
+
+// How far the fluents go that move, where so many move that it pays to set them on their way: then there is room
+// for that, if there is memory.
+fn quick_extent<Q: Exact>(state: &State<Q>, ahead: &mut State<Q>, rates: &Rates<Q>) -> Option<u64>
+    requires { length rates.now ≡ length (state.now.fluents) }
+    ensures extent { IfSome result (Extends state.now.fluents rates.now) }
+    ensures ahead { ahead.new ≡ ahead.old }
+{
+    if rates.given().len() <= FEW {
+        return None;
+    }
+    match ahead.make_room_for_motions() {
+        Err(_) => None,
+        Ok(()) => extent(state, rates),
+    }
+}
+
+// The same behind a crossing at which nothing begins. It is asked behind the first one, and known behind the others: most
+// stretches end at their first crossing, and all has to be moved there.
+#[inline(always)]
+fn extent_behind<Q: Exact>(
+    state: &State<Q>,
+    ahead: &mut State<Q>,
+    rates: &Rates<Q>,
+    is_first: bool,
+    known: Option<u64>,
+) -> Option<u64>
+    requires rates { length rates.now ≡ length (state.now.fluents) }
+    requires known { IfSome known (Extends state.now.fluents rates.now) }
+    ensures extent { IfSome result (Extends state.now.fluents rates.now) }
+    ensures ahead { ahead.new ≡ ahead.old }
+{
+    if is_first {
+        quick_extent(state, ahead, rates)
+    } else {
+        known
+    }
 }
 
 // From one of these roots to the next, up to the first at which something begins, or to the end. At each only the owners of the
@@ -109,6 +157,7 @@ fn walk<Q: Exact>(
     roots: &[Q],
     marks: &[Mark<Q>],
     everywhere: &Looked,
+    looking: &mut Looking,
 ) -> Result<Arrival<Q>, Halt<Q>>
     requires state { StateFits (length (ground.now.atoms.items)) (length (ground.now.fluents.items)) state.now }
     requires members { AreMembers (length (ground.now.processes.items)) (process_numbers running.now.members.items) }
@@ -137,6 +186,8 @@ fn walk<Q: Exact>(
         length,
     } = span;
     let mut rest = marks;
+    let mut extent: Option<u64> = None;
+    let mut is_first = true;
     'each: for root in roots {
         let count = up_to(rest, *root);
         match cross(
@@ -149,12 +200,16 @@ fn walk<Q: Exact>(
             *root,
             &rest[..count],
             everywhere,
+            looking,
+            extent,
         ) {
             Err(halt) => return Err(halt),
             Ok(Some(arrival)) => return Ok(arrival),
             Ok(None) => {}
         }
         rest = behind(rest, count);
+        extent = extent_behind(state, ahead, &running.rates, is_first, extent);
+        is_first = false;
     }
     match move_ahead(alloc, state, ahead, &running.rates, length) {
         Err(halt) => Err(halt),
@@ -220,11 +275,17 @@ pub fn reach_among<Q: Exact>(
     none_soon(ground, state, &running.rates, time, events)?;
     let length = time_left(time, until)?;
     roots(ground, state, &running.rates, events, processes, room)?;
-    match rising(alloc, &mut room.marks, length) {
+    match rising(&mut room.marks, length, &mut room.different) {
         Err(_) => Err(Halt::Memory),
-        Ok(different) => match everywhere(alloc, ground, &running.rates, events, processes) {
+        Ok(()) => match everywhere(
+            ground,
+            &running.rates,
+            events,
+            processes,
+            &mut room.everywhere,
+        ) {
             Err(_) => Err(Halt::Memory),
-            Ok(looked) => walk(
+            Ok(()) => walk(
                 alloc,
                 ground,
                 state,
@@ -235,9 +296,10 @@ pub fn reach_among<Q: Exact>(
                     until,
                     length,
                 },
-                &different,
+                &room.different,
                 &room.marks,
-                &looked,
+                &room.everywhere,
+                &mut room.looking,
             ),
         },
     }

@@ -9,7 +9,7 @@ ghost use Rattle.plus_stretch.specs.Thinned.{is_kept as is_kept_of, thinned};
 use crate::mark::Mark;
 use plus_crossing::crossings::is_below;
 use plus_number::exact::Exact;
-use std::alloc::{AllocError, Global};
+use std::alloc::AllocError;
 
 fn is_kept<Q: Exact>(before: Option<Q>, root: Q, bound: Q) -> bool
     ensures { result ≡ is_kept_of (Q.value bound) (option_map Q.value before) (Q.value root) }
@@ -30,32 +30,32 @@ fn append_if<Q: Exact>(into: &mut Vec<Q>, root: Q, keep: bool) -> Result<(), All
     Ok(())
 }
 
-// The roots below the bound, of roots that do not fall, each once.
-fn thin<Q: Exact>(alloc: Global, sorted: &[Mark<Q>], bound: Q) -> Result<Vec<Q>, AllocError>
-    ensures { IfOk result (λ xs. map Q.value xs.items ≡ thinned (Q.value bound) None (map (λ m. Q.value m.at) sorted.now)) }
+// Puts the roots below the bound, of roots that do not fall, each once, in place of others.
+fn thin<Q: Exact>(sorted: &[Mark<Q>], bound: Q, roots: &mut Vec<Q>) -> Result<(), AllocError>
+    ensures { IfOk result (λ _. map Q.value roots.new.items ≡ thinned (Q.value bound) None (map (λ m. Q.value m.at) sorted.now)) }
 {
-    let mut roots = Vec::new(alloc);
+    roots.clear();
     let mut before: Option<Q> = None;
     'each: for mark in sorted {
-        append_if(&mut roots, mark.at, is_kept(before, mark.at, bound))?;
+        append_if(roots, mark.at, is_kept(before, mark.at, bound))?;
         before = Some(mark.at);
     }
-    Ok(roots)
+    Ok(())
 }
 
-/// Sorts marks by their roots; the different roots below a bound, from the least.
+/// Sorts marks by their roots, and puts the different roots below a bound, from the least, in place of others.
 pub fn rising<Q: Exact>(
-    alloc: Global,
     marks: &mut Vec<Mark<Q>>,
     bound: Q,
-) -> Result<Vec<Q>, AllocError>
-    ensures different { IfOk result (λ xs. map Q.value xs.items ≡ rising_below (Q.value bound) (roots_of (marks_of Q.value marks.old.items))) }
+    different: &mut Vec<Q>,
+) -> Result<(), AllocError>
+    ensures different { IfOk result (λ _. map Q.value different.new.items ≡ rising_below (Q.value bound) (roots_of (marks_of Q.value marks.old.items))) }
     ensures kept { (x : Fraction) (w : Whose) → IsMarked x w (marks_of Q.value marks.old.items) → IsMarked x w (marks_of Q.value marks.new.items) }
     ensures no_other { (x : Fraction) (w : Whose) → IsMarked x w (marks_of Q.value marks.new.items) → IsMarked x w (marks_of Q.value marks.old.items) }
     ensures ascending { AreAscending (roots_of (marks_of Q.value marks.new.items)) }
 {
     marks.sort_unstable_by(|a, b| a.at.order(b.at));
-    thin(alloc, marks, bound)
+    thin(marks, bound, different)
 }
 
 /// How many of these marks, whose roots do not fall, have a root that is not above this one.

@@ -5,7 +5,7 @@ use Rattle.plus_stretch.proofs.LookedLemmas.{sifting_start, sifting_inside, sift
 use Rattle.plus_stretch.proofs.looked.not_simple.Goals as goal
 
 pub each-init : goal.each-init
-each-init g c = sifting_start _ _ _ _ (ap (map g.I.Conditional.number) c.new-found.ensures.items) c.requires.members
+each-init g c = sifting_start _ _ _ _ (ap (map g.I.Conditional.number) c.clear.ensures.items) c.requires.members
 
 pub condition-requires : goal.condition-requires
 condition-requires g c =

@@ -7,7 +7,7 @@ use Rattle.plus_stretch.proofs.Marks.{appending_start, appending_next, appending
 use Rattle.plus_stretch.proofs.looked.with_events.Goals as goal
 
 pub events-init : goal.events-init
-events-init g c = appending_start _ _ _ _ c.new-numbers.ensures.items refl
+events-init g c = appending_start _ _ _ _ c.clear.ensures.items refl
 
 pub events-preserved : goal.events-preserved
 events-preserved g c =

@@ -7,7 +7,7 @@ use Rattle.plus_stretch.proofs.Marks.{appending_start, appending_next, appending
 use Rattle.plus_stretch.proofs.looked.with_processes.Goals as goal
 
 pub processes-init : goal.processes-init
-processes-init g c = appending_start _ _ _ _ c.new-numbers.ensures.items refl
+processes-init g c = appending_start _ _ _ _ c.clear.ensures.items refl
 
 pub processes-preserved : goal.processes-preserved
 processes-preserved g c =

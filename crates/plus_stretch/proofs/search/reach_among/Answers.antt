@@ -62,8 +62,8 @@ walk-requires-clause-simple_processes g c = others_simple (process_conditions (p
 pub walk-requires-clause-along : goal.walk-requires-clause-along
 walk-requires-clause-along g c = along_start _ _ _ c.requires.ahead
 
-pub returns-clause-told : goal.returns-clause-told
-returns-clause-told g c =
+pub returns-in-Ok-everywhere-clause-told : goal.returns-in-Ok-everywhere-clause-told
+returns-in-Ok-everywhere-clause-told g c =
     let n = c.in_ok-none_soon.ensures in
     walk_tells (problem_of g.Q.Exact.value c.args.ground.now) _ _ _ _ _ c.requires.rates g.Q.Exact.value _ n.1 n.0 c.in_ok-length.ensures.0 c.in_ok-roots.ensures.0 _ _ _ _ c.in_ok-length.ensures.1 (rw c.deref.ensures.value c.in-Ok.ensures.different) c.in_ok-roots.ensures.1.roots c.walk.ensures.told
 

@@ -2,6 +2,7 @@ use Rattle.std.proofs.Common.{refl, sym, subst, ◌∙◌}
 use Rattle.plus_state.specs.View.{problem_of}
 use Rattle.plus_state.proofs.TestsLemmas.{next_member, no_member}
 use Rattle.plus_stretch.proofs.SearchLemmas.{walking_start, walking_halt, walking_arrives, walking_end, halt_end}
+use Rattle.plus_stretch.specs.Here.{IsAlong}
 use Rattle.plus_stretch.specs.Marked.{AreOwners}
 use Rattle.plus_stretch.proofs.Marks.{first_marks}
 use Rattle.plus_stretch.proofs.WalkLemmas.{stepping_start, owners_here, known_by_owners, stepping_next}
@@ -11,6 +12,7 @@ pub each-init : goal.each-init
 each-init g c = record {
   stepping = stepping_start _ (problem_of g.Q.Exact.value c.args.ground.now) _ _ _ _ _ _ _ (walking_start _ (problem_of g.Q.Exact.value c.args.ground.now) _ _ _ _ _ _ c.requires.on c.requires.none c.requires.roots) c.requires.ascending;
   along = c.requires.along;
+  extent = tt;
 }
 
 pub cross-requires-clause-state : goal.cross-requires-clause-state
@@ -30,6 +32,9 @@ cross-requires-clause-events g c = c.requires.events
 
 pub cross-requires-clause-processes : goal.cross-requires-clause-processes
 cross-requires-clause-processes g c = c.requires.processes
+
+pub cross-requires-clause-extent : goal.cross-requires-clause-extent
+cross-requires-clause-extent g c = c.each.invariant.extent
 
 pub cross-requires-clause-owners : goal.cross-requires-clause-owners
 cross-requires-clause-owners g c =
@@ -72,7 +77,8 @@ each-preserved g c =
     let h = rw c.in-Ok-None.field-0-is at c.in-Ok-None.ensures.told in
     record {
       stepping = stepping_next _ (problem_of g.Q.Exact.value c.args.ground.now) _ _ _ _ _ _ _ _ c.requires.linear _ _ (rw e at c.each.invariant.stepping) _ c.up_to-count.ensures.first _ h.0 h.1 c.behind-rest.ensures;
-      along = c.cross.ensures.along;
+      along = subst (IsAlong c.args.state.now c.args.running.now.rates) (sym c.extent_behind-extent.ensures.ahead) c.cross.ensures.along;
+      extent = c.extent_behind-extent.ensures.extent;
     }
 
 pub move_ahead-requires-clause-rates : goal.move_ahead-requires-clause-rates

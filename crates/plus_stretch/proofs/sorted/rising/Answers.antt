@@ -16,8 +16,8 @@ pub returns-clause-different : goal.returns-clause-different
 returns-clause-different g c =
     let v = g.Q.Exact.value in
     let s = c.sort_unstable_by.ensures in
-    ok_as c.thin.result (λ xs. map v xs.items ≡ thinned (v c.args.bound) None (map (λ (m : Mark _). v m.at) c.deref.result.now)) (λ xs. map v xs.items ≡ rising_below (v c.args.bound) (roots_of (marks_of v c.args.marks.now.items)))
-    (λ xs h. rising_marks v (v c.args.bound) c.args.marks.now.items _ _ (map v xs.items) c.deref.ensures.value s.permutation
+    ok_as c.thin.result (λ _. map v c.thin.new.roots.items ≡ thinned (v c.args.bound) None (map (λ (m : Mark _). v m.at) c.deref.result.now)) (λ _. map v c.thin.new.roots.items ≡ rising_below (v c.args.bound) (roots_of (marks_of v c.args.marks.now.items)))
+    (λ _ h. rising_marks v (v c.args.bound) c.args.marks.now.items _ _ (map v c.thin.new.roots.items) c.deref.ensures.value s.permutation
     (s.sorted (λ a b. is_lt (compared (v a.at) (v b.at))) (ranks_by compared_total (λ (m : Mark _). v m.at)) (answers_always _ _ _ (λ f a r q h. search rules))) h) c.thin.ensures
 
 pub returns-clause-kept : goal.returns-clause-kept
