@@ -2,7 +2,7 @@ use Rattle.std.proofs.Common.{map, sym, subst}
 use Rattle.std.specs.Prelude.{IfOk}
 use Rattle.plus_state.specs.View.{problem_of, action_of}
 use Rattle.plus_planner.specs.Places.{task_from}
-use Rattle.plus_planner.specs.Searches.{Answers}
+use Rattle.plus_planner.specs.Searches.{Answers, IsNotSpent}
 use Rattle.plus_planner.proofs.Beginning.{begin_holds, begin_broken, begin_beyond}
 use Rattle.plus_planner.proofs.planner.Planner.search.Goals.{in-Alive, in-Broken, in-Beyond}
 use Rattle.plus_planner.proofs.planner.Planner.search.Goals as goal
@@ -26,4 +26,12 @@ returns-clause-answers g c =
           (begin_broken g.Q.Exact.fits task c.args.decisions c.in_ok-start.start c.in_ok-start.fate g.met.Q.Exact.zero_fits c.in_ok-start.ensures.carried w.in-Broken.is)
       | in-Beyond w ↦ subst (λ r. IfOk r (Answers v g.Q.Exact.fits task c.args.decisions c.args.tries)) (sym w.answer-is)
           (begin_beyond g.Q.Exact.fits task c.args.decisions c.in_ok-start.start c.in_ok-start.fate g.met.Q.Exact.zero_fits c.in_ok-start.ensures.carried w.in-Beyond.is)
+    ]
+
+pub returns-clause-enough : goal.returns-clause-enough
+returns-clause-enough g c = λ enough.
+    elim c.match-fate.branch [
+      | in-Alive w ↦ subst (λ r. IfOk r IsNotSpent) (sym w.answer-is) (w.search_from-answer.ensures.enough enough)
+      | in-Broken w ↦ subst (λ r. IfOk r IsNotSpent) (sym w.answer-is) tt
+      | in-Beyond w ↦ subst (λ r. IfOk r IsNotSpent) (sym w.answer-is) tt
     ]
