@@ -1,5 +1,5 @@
 -- How far the conditions of events are looked at, and how far their effects are added.
-use Rattle.std.proofs.Common.{◌≡◌, ℕ, ◌<◌, zero, suc, List, [], ◌∷◌, ◌++◌, length, map, get_or, ap, sym, subst, ◌∙◌, arith, append_assoc}
+use Rattle.std.proofs.Common.{◌≡◌, ℕ, ◌<◌, zero, suc, List, [], ◌∷◌, ◌++◌, length, map, get_or, refl, ap, sym, subst, ◌∙◌, arith, append_assoc}
 use Rattle.std.proofs.lemmas.List.{append-nil, get_or-map, length-map}
 use Rattle.std.proofs.lemmas.List.Elements.{All-head, All-tail}
 use Rattle.std.specs.Prelude.{slice_get}
@@ -22,7 +22,8 @@ use Rattle.plus_state.specs.declared.outcome.JointStop.TheVariants.{Conflict, No
 use Rattle.plus_state.specs.Stops.{StopIs}
 use Rattle.plus_state.specs.declared.walk.WalkStop.{WalkStop}
 use Rattle.plus_state.specs.declared.walk.WalkStop.TheVariants as walk_stop
-use Rattle.plus_state.specs.Numbers.{AreMembers}
+use Rattle.plus_state.specs.declared.term.EventId.{EventId}
+use Rattle.plus_state.specs.Numbers.{AreMembers, event_numbers}
 use Rattle.plus_state.specs.Walk.{event_conditions, held_among, OthersFalse, WalkStops}
 use Rattle.plus_state.proofs.LookLemmas.{look_finds}
 use Rattle.plus_state.proofs.LookingLemmas.{numbers_by}
@@ -121,6 +122,20 @@ joining_inside v fits g due e rest whole s h =
 pub joining_end : (fits : Fraction → Type 0) (P : Problem) (due : List Due) (whole : List ℕ) (s : State) → Joining fits P due [] whole s → AllPass fits (add_steps (effects_of P whole) s) × (due ≡ dues (effects_of P whole) s)
 unfolding effects_of
 joining_end fits P due whole s h = (h.pass (pass_none (Passes fits)), sym (append-nil due) ∙ h.so_far)
+
+-- a list of one event, and what it does
+pub one_number : (xs : List EventId) (d : EventId) → length xs ≡ 1 → event_numbers xs ≡ (get_or xs 0 d).0 ∷ []
+one_number [] d h = absurd (omega arith)
+one_number (x ∷ []) d h = refl
+one_number (x ∷ y ∷ xs) d h = absurd (omega arith)
+
+pub one_inside : (n : ℕ) (xs : List EventId) (d : EventId) → length xs ≡ 1 → All (λ e. e < n) (event_numbers xs) → (get_or xs 0 d).0 < n
+one_inside n [] d h a = absurd (omega arith)
+one_inside n (x ∷ xs) d h a = All-head (λ e. e < n) x.0 (event_numbers xs) a
+
+pub effects_of_one : (P : Problem) (e : ℕ) (es : List Effect) → effects_at (slice_get P.events e) ≡ es → effects_of P (e ∷ []) ≡ es
+unfolding effects_of
+effects_of_one P e es k = append-nil (effects_at (slice_get P.events e)) ∙ k
 
 -- the state after changes is one for as many atoms and fluents
 pub after_fits : (atoms fluents : ℕ) (s t : State) (c : Changes) → StateFits atoms fluents s → t ≡ patched s c → StateFits atoms fluents t

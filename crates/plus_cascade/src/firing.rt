@@ -1,11 +1,11 @@
 //! The events that hold, and what they change together.
-ghost use Rattle.std.specs.Prelude.{◌≡◌, ◌<◌, length, All, IfOk, MatchResult};
+ghost use Rattle.std.specs.Prelude.{◌≡◌, ◌<◌, length, All, IfOk, OnOk, MatchResult};
 ghost use Rattle.plus_model.specs.Firing.{firing as firing_of, effects_of};
 ghost use Rattle.plus_state.specs.View.{problem_of};
 ghost use Rattle.plus_state.specs.Fits.{StateFits};
 ghost use Rattle.plus_state.specs.Changes.{RisesIn};
 ghost use Rattle.plus_state.specs.Asked.{AllFit};
-ghost use Rattle.plus_state.specs.Applies.{ChangesJointly};
+ghost use Rattle.plus_state.specs.Applies.{ChangesJointly, LeavesJointly};
 ghost use Rattle.plus_state.specs.Numbers.{AreMembers, event_numbers};
 ghost use Rattle.plus_state.specs.Walk.{event_conditions, OthersFalse, OthersPass};
 ghost use Rattle.plus_cascade.specs.Steps.{condition_nodes};
@@ -14,12 +14,12 @@ ghost use Rattle.plus_cascade.specs.Rounds.{ConditionStops, of_walk};
 use crate::rounds::CascadeStop;
 use plus_number::exact::Exact;
 use plus_state::changes::Changes;
-use plus_state::joint_effect::{add_dues, changes_by};
+use plus_state::joint_effect::{add_dues, changes_by, joint_changes_in};
 use plus_state::outcome::JointStop;
 use plus_state::problem::Ground;
 use plus_state::states::State;
 use plus_state::term::EventId;
-use plus_state::walk::{WalkStop, holding_among, holding_of_all};
+use plus_state::walk::{WalkStop, holding_in, holding_of_all};
 use std::alloc::Global;
 
 // The stop of a walk as that of a round.
@@ -51,12 +51,13 @@ pub fn firing<Q: Exact>(
 }
 
 // The events whose condition holds, in ground order, by a look at some of them, where of all others it
-// is known that they do not hold and that what they ask passes.
+// is known that they do not hold and that what they ask passes; in the memory of a list that is needed
+// no more.
 pub fn firing_among<Q: Exact>(
-    alloc: Global,
     ground: &Ground<Q>,
     state: &State<Q>,
     looked_at: &[EventId],
+    found: Vec<EventId>,
 ) -> Result<Vec<EventId>, CascadeStop<Q>>
     requires state { StateFits (length (ground.now.atoms.items)) (length (ground.now.fluents.items)) state.now }
     requires members { AreMembers (length (ground.now.events.items)) (event_numbers looked_at.now) }
@@ -67,7 +68,7 @@ pub fn firing_among<Q: Exact>(
         × (event_numbers events.items ≡ firing_of (problem_of Q.value ground.now) state.now))
         (λ stop. ConditionStops Q.value Q.fits (condition_nodes ((problem_of Q.value ground.now).events) state.now) stop) }
 {
-    match holding_among(alloc, ground, state, looked_at) {
+    match holding_in(ground, state, looked_at, found) {
         Ok(found) => Ok(found),
         Err(stop) => Err(walk_stop(stop)),
     }
@@ -94,4 +95,31 @@ pub fn changed_together<Q: Exact>(
         }
     }
     changes_by(alloc, state, &due)
+}
+
+// The same, put in place of changes, whose memory it uses. After a refusal the changes are not to be used.
+#[inline(always)]
+pub fn changed_together_in<Q: Exact>(
+    changes: &mut Changes<Q>,
+    alloc: Global,
+    ground: &Ground<Q>,
+    events: &[EventId],
+    state: &State<Q>,
+) -> Result<(), JointStop<Q>>
+    requires state { StateFits (length (ground.now.atoms.items)) (length (ground.now.fluents.items)) state.now }
+    requires events { All (λ e. e < length (ground.now.events.items)) (event_numbers events.now) }
+    ensures rises { OnOk result (RisesIn state.now changes.new) }
+    ensures told { LeavesJointly Q.value Q.fits (effects_of (problem_of Q.value ground.now) (event_numbers events.now)) state.now changes.new result }
+{
+    if let [only] = events {
+        let event = &ground.events[only.0 as usize];
+        return joint_changes_in(changes, alloc, state, &event.effects);
+    }
+    match changed_together(alloc, ground, events, state) {
+        Err(stop) => Err(stop),
+        Ok(found) => {
+            *changes = found;
+            Ok(())
+        }
+    }
 }

@@ -11,7 +11,7 @@ ghost use Rattle.plus_cascade.specs.Steps.{condition_nodes};
 ghost use Rattle.plus_cascade.specs.Rounds.{Rounds, RoundChanges, of_joint, set_after};
 
 use crate::cascade::Cascade;
-use crate::firing::{changed_together, firing, firing_among};
+use crate::firing::{changed_together_in, firing, firing_among};
 use plus_number::exact::Exact;
 use plus_state::changes::Changes;
 use plus_state::outcome::JointStop;
@@ -20,6 +20,7 @@ use plus_state::states::State;
 use plus_state::term::{EventId, FluentId, Overflow};
 use std::alloc::Global;
 use std::fmt::Debug;
+use std::mem;
 use thiserror::Error;
 
 /// Why a round cannot be had.
@@ -55,6 +56,16 @@ pub struct DueRound<Q: Exact> {
     pub changes: Changes<Q>,
 }
 
+impl<Q: Exact> DueRound<Q> {
+    /// A round of no events, which changes nothing. It takes no memory.
+    pub fn none(alloc: Global) -> DueRound<Q> {
+        DueRound {
+            events: Vec::new(alloc),
+            changes: Changes::none(alloc),
+        }
+    }
+}
+
 fn joint_stop<Q: Exact>(stop: JointStop<Q>) -> CascadeStop<Q>
     ensures { result ≡ of_joint stop }
 {
@@ -66,7 +77,8 @@ fn joint_stop<Q: Exact>(stop: JointStop<Q>) -> CascadeStop<Q>
     }
 }
 
-// The round in which these events fire, which are all that hold.
+// The round in which these events fire, which are all that hold, in the memory of the changes of a round
+// that is needed no more. Where there are none, the list of them is kept for another round.
 #[inline(always)]
 fn fire<Q: Exact>(
     alloc: Global,
@@ -74,6 +86,7 @@ fn fire<Q: Exact>(
     ground: &Ground<Q>,
     state: &State<Q>,
     events: Vec<EventId>,
+    spare: &mut DueRound<Q>,
 ) -> Result<Option<DueRound<Q>>, CascadeStop<Q>>
     requires state { StateFits (length (ground.now.atoms.items)) (length (ground.now.fluents.items)) state.now }
     requires events { length cascade.now ≡ length (ground.now.events.items) }
@@ -83,14 +96,18 @@ fn fire<Q: Exact>(
     ensures rises { IfOk result (λ o. IfSome o (λ r. RisesIn state.now r.changes)) }
 {
     if events.is_empty() {
+        spare.events = events;
         return Ok(None);
     }
     match cascade.first_fired(&events) {
         Some(event) => Err(CascadeStop::Repeats(event)),
-        None => match changed_together(alloc, ground, &events, state) {
-            Err(stop) => Err(joint_stop(stop)),
-            Ok(changes) => Ok(Some(DueRound { events, changes })),
-        },
+        None => {
+            let mut changes = mem::replace(&mut spare.changes, Changes::none(alloc));
+            match changed_together_in(&mut changes, alloc, ground, &events, state) {
+                Err(stop) => Err(joint_stop(stop)),
+                Ok(()) => Ok(Some(DueRound { events, changes })),
+            }
+        }
     }
 }
 
@@ -111,18 +128,23 @@ pub fn round_changes<Q: Exact>(
 {
     match firing(alloc, ground, state) {
         Err(stop) => Err(stop),
-        Ok(events) => fire(alloc, cascade, ground, state, events),
+        Ok(events) => {
+            let mut spare = DueRound::none(alloc);
+            fire(alloc, cascade, ground, state, events, &mut spare)
+        }
     }
 }
 
 /// The round that is due, by a look at some of the events, in ground order: of all others it is known
-/// that they do not hold and that what they ask passes. The answer is that of `round_changes`.
+/// that they do not hold and that what they ask passes. The answer is that of `round_changes`, in the
+/// memory of a round that is needed no more: whatever it is, the answer is the same.
 pub fn round_changes_among<Q: Exact>(
     alloc: Global,
     cascade: &Cascade,
     ground: &Ground<Q>,
     state: &State<Q>,
     looked_at: &[EventId],
+    spare: &mut DueRound<Q>,
 ) -> Result<Option<DueRound<Q>>, CascadeStop<Q>>
     requires state { StateFits (length (ground.now.atoms.items)) (length (ground.now.fluents.items)) state.now }
     requires events { length cascade.now ≡ length (ground.now.events.items) }
@@ -132,9 +154,10 @@ pub fn round_changes_among<Q: Exact>(
     ensures told { RoundChanges Q.value Q.fits (problem_of Q.value ground.now) cascade.now state.now result }
     ensures rises { IfOk result (λ o. IfSome o (λ r. RisesIn state.now r.changes)) }
 {
-    match firing_among(alloc, ground, state, looked_at) {
+    let found = mem::replace(&mut spare.events, Vec::new(alloc));
+    match firing_among(ground, state, looked_at, found) {
         Err(stop) => Err(stop),
-        Ok(events) => fire(alloc, cascade, ground, state, events),
+        Ok(events) => fire(alloc, cascade, ground, state, events, spare),
     }
 }
 

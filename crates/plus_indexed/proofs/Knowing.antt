@@ -200,9 +200,6 @@ fires_as value fits P u T L new e g m r d n =
     fires value fits P u L g new (subst (λ (t : TimelineView). t.now.running ≡ None) e m) r d
     (subst (λ (t : TimelineView). new ≡ record t { now = view_after t.now (Rounds (event_numbers r.events.items) (patched t.now.state r.changes)); before = t.now.state; events = event_numbers r.events.items; answer = Some Round; acted = false }) e n)
 
-pub told_as : {Q : Type 0} (value : Q → Fraction) (fits : Fraction → Type 0) (P : Problem) (u : Fraction) (old new : TimelineView) (r s : Result (Next Q) (Stop Q)) → r ≡ s → AdvanceTold value fits P u old new s → AdvanceTold value fits P u old new r
-told_as value fits P u old new r s e h = subst (AdvanceTold value fits P u old new) (sym e) h
-
 -- what stands still along a running set
 pub events_still : (fits : Fraction → Type 0) (P : Problem) (s : State) (rs : List Fraction) (i : Index) (listed : List ℕ) → Indexes P i → IsAtRest fits P s → ReadAny i.events (moving_of rs) listed → OthersStill fits (event_conditions P) s rs listed
 events_still fits P s rs i listed x q r = record { stand = stands_by (event_conditions P) i.events rs listed x.events r; pass = λ k c g n. q.events.pass k c g refl }

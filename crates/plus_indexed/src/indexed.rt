@@ -54,6 +54,8 @@ pub struct Indexed<Q: Exact> {
     listed: Vec<ProcessId>,
     // the running set before the last one, whose memory the next one takes
     room: Running<Q>,
+    // a round that is needed no more, whose memory the next one takes
+    spare: DueRound<Q>,
 }
 
 impl<Q: Exact> Model for Indexed<Q> {
@@ -131,6 +133,7 @@ impl<Q: Exact> Indexed<Q> {
             numbers: Vec::new(alloc),
             listed: Vec::new(alloc),
             room: no_room(alloc),
+            spare: DueRound::none(alloc),
         })
     }
 
@@ -267,19 +270,21 @@ impl<Q: Exact> Indexed<Q> {
             numbers: Vec::new(alloc),
             listed: Vec::new(alloc),
             room: no_room(alloc),
+            spare: DueRound::none(alloc),
         })
     }
 }
 
 impl<Q: Exact> Indexed<Q> {
-    // The round that is due.
-    fn due(&self, ground: &Ground<Q>) -> Result<Option<DueRound<Q>>, CascadeStop<Q>>
-        requires knows { Knows Q.fits (problem_of Q.value ground.now) self.now }
-        ensures told { DueTold Q.value Q.fits (problem_of Q.value ground.now) self.now.line.now.fired self.now.line.now.state result }
-        ensures rises { IfOk result (λ o. IfSome o (λ r. RisesIn self.now.line.now.state r.changes)) }
+    // The round that is due, in the memory of one that is needed no more.
+    fn due(&mut self, ground: &Ground<Q>) -> Result<Option<DueRound<Q>>, CascadeStop<Q>>
+        requires knows { Knows Q.fits (problem_of Q.value ground.now) self.old }
+        ensures told { DueTold Q.value Q.fits (problem_of Q.value ground.now) self.old.line.now.fired self.old.line.now.state result }
+        ensures rises { IfOk result (λ o. IfSome o (λ r. RisesIn self.old.line.now.state r.changes)) }
+        ensures same { self.new ≡ self.old }
     {
         match &self.events {
-            Some(events) => self.timeline.due_among(ground, events),
+            Some(events) => self.timeline.due_among(ground, events, &mut self.spare),
             None => self.timeline.due(ground),
         }
     }
@@ -303,7 +308,10 @@ impl<Q: Exact> Indexed<Q> {
             Err(stop) => Err(cascade_stop(stop)),
             Ok(Some(round)) => match self.timeline.put_round(round) {
                 Err(_) => Err(Stop::Memory),
-                Ok(()) => Ok(Next::Round),
+                Ok(spare) => {
+                    self.spare = spare;
+                    Ok(Next::Round)
+                }
             },
             Ok(None) => self.rest(ground, until),
         }

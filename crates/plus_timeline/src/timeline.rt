@@ -476,7 +476,7 @@ impl<Q: Exact> Timeline<Q> {
             Err(stop) => Err(cascade_stop(stop)),
             Ok(Some(round)) => match self.put_round(round) {
                 Err(_) => Err(Stop::Memory),
-                Ok(()) => Ok(Next::Round),
+                Ok(_spare) => Ok(Next::Round),
             },
             Ok(None) => self.rest(ground, until),
         }
@@ -492,11 +492,13 @@ impl<Q: Exact> Timeline<Q> {
     }
 
     /// A step of `advance`: the round that is due, by a look at some of the events, in ground order. Of
-    /// all others it is known that they do not hold and that what they ask passes.
+    /// all others it is known that they do not hold and that what they ask passes. It uses the memory of a
+    /// round that is needed no more: whatever it is, the answer is the same.
     pub fn due_among(
         &self,
         ground: &Ground<Q>,
         looked_at: &[EventId],
+        spare: &mut DueRound<Q>,
     ) -> Result<Option<DueRound<Q>>, CascadeStop<Q>>
         requires serves { Serves (problem_of Q.value ground.now) self.now }
         requires members { AreMembers (length (ground.now.events.items)) (event_numbers looked_at.now) }
@@ -505,12 +507,20 @@ impl<Q: Exact> Timeline<Q> {
         ensures told { DueTold Q.value Q.fits (problem_of Q.value ground.now) self.now.now.fired self.now.now.state result }
         ensures rises { IfOk result (λ o. IfSome o (λ r. RisesIn self.now.now.state r.changes)) }
     {
-        round_changes_among(self.alloc, &self.cascade, ground, self.state(), looked_at)
+        round_changes_among(
+            self.alloc,
+            &self.cascade,
+            ground,
+            self.state(),
+            looked_at,
+            spare,
+        )
     }
 
-    /// A step of `advance`: all events of the round that is due fire.
+    /// A step of `advance`: all events of the round that is due fire. The answer is memory of a round that
+    /// is needed no more, whatever stands in it.
     #[inline(always)]
-    pub fn put_round(&mut self, round: DueRound<Q>) -> Result<(), AllocError>
+    pub fn put_round(&mut self, round: DueRound<Q>) -> Result<DueRound<Q>, AllocError>
         requires events { All (λ e. e < self.old.event_count) (event_numbers round.events.items) }
         requires rises { RisesIn self.old.now.state round.changes }
         ensures ok { OnOk result (self.new ≡ record (self.old) {
@@ -525,13 +535,17 @@ impl<Q: Exact> Timeline<Q> {
     {
         let DueRound { events, changes } = round;
         self.fired.reserve(events.len())?;
+        let spare = self.states.take_spare(self.alloc);
         self.states.step(changes)?;
         self.fired.extend_from_slice(&events)?;
         self.cascade.add(&events);
-        self.events = events;
+        let events = mem::replace(&mut self.events, events);
         self.answer = Some(Next::Round);
         self.acted = false;
-        Ok(())
+        Ok(DueRound {
+            events,
+            changes: spare,
+        })
     }
 
     /// A step of `advance` where no event holds: whether the entry is to be closed, or else the time is

@@ -4,8 +4,8 @@ use Rattle.plus_state.specs.View.{problem_of}
 use Rattle.plus_cascade.proofs.FiringLemmas.{walk_stops, firing_among, all_conditions}
 use Rattle.plus_cascade.proofs.firing.firing_among.Goals as goal
 
-pub holding_among-requires-clause-members : goal.holding_among-requires-clause-members
-holding_among-requires-clause-members g c =
+pub holding_in-requires-clause-members : goal.holding_in-requires-clause-members
+holding_in-requires-clause-members g c =
     subst (λ (n : ℕ). AreMembers n (event_numbers c.args.looked_at.now)) (sym (all_conditions g.Q.Exact.value c.args.ground.now)) c.requires.members
 
 pub returns-in-Ok : goal.returns-in-Ok

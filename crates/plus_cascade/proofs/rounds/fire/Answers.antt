@@ -20,8 +20,8 @@ returns-in-Some-clause-told g c =
     let n = eqb-false _ _ (sym c.is_empty.ensures ∙ c.if-is_empty.false) in
     repeats_first _ _ _ _ _ _ c.requires.pass c.requires.all (some_numbers _ (λ k. n (omega (arith, k, c.args.events.ok.0)))) (rw c.deref.ensures.value at c.in-Some.ensures)
 
-pub changed_together-requires-clause-events : goal.changed_together-requires-clause-events
-changed_together-requires-clause-events g c =
+pub changed_together_in-requires-clause-events : goal.changed_together_in-requires-clause-events
+changed_together_in-requires-clause-events g c =
     rw c.deref-in-None.ensures.value (firing_all _ c.args.state.now _ _ (length-map c.args.ground.now.events.items (event_of g.Q.Exact.value)) c.requires.all)
 
 pub returns-in-Err-clause-told : goal.returns-in-Err-clause-told
