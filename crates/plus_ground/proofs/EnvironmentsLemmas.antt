@@ -1,18 +1,19 @@
 -- What variables stand for.
-use Rattle.std.proofs.Common.{◌≡◌, ℕ, ◌≤◌, ◌<◌, ◌+◌, Bool, true, false, cond, List, [], ◌∷◌, ◌++◌, ◌∙◌, ap, refl, sym, length, take, drop, get_or, None, Some, Option, nat_lt, arith, add-one, append_assoc, map, suc}
+use Rattle.std.proofs.Common.{◌≡◌, ℕ, ◌≤◌, ◌<◌, ◌+◌, ◌-◌, Bool, true, false, cond, List, [], ◌∷◌, ◌++◌, ◌∙◌, ap, refl, sym, length, take, drop, get_or, None, Some, Option, nat_lt, arith, add-one, append_assoc, map, suc}
 use Rattle.std.proofs.Math.Seq.{take-suc}
-use Rattle.std.proofs.lemmas.List.{append-nil, map-append, take_all}
+use Rattle.std.proofs.lemmas.List.{append-nil, length-append, map-append, take_all}
 use Rattle.std.proofs.lemmas.Bool.Decides.{nat_tests}
 use Rattle.std.proofs.lemmas.Grind.{flat_map-append}
 use Rattle.std.specs.List.{flat_map}
 use Rattle.std.specs.Str.{bytes_eq}
 use Rattle.plus_types.specs.Faults.{Context}
 use Rattle.plus_tree.specs.declared.terms.TypedName.{TypedName}
+use Rattle.plus_tree.specs.declared.terms.Term.{Term}
 use Rattle.plus_tree.specs.declared.terms.Use.{Use}
 use Rattle.plus_expansion.specs.Objects.{members_of}
 use Rattle.plus_expansion.specs.Numbers.{number_of}
 use Rattle.plus_expansion.specs.Counts.{first_over, name_counts}
-use Rattle.plus_expansion.specs.Environments.{Environment, environments, bound_object, use_objects, atom_number, fluent_number}
+use Rattle.plus_expansion.specs.Environments.{Environment, environments, bound_object, term_object, use_objects, atom_number, fluent_number}
 
 not_first : {A : Type 0} (b : Bool) (x : A) (r : Option A) → cond b (Some x) r ≡ None → b ≡ false
 not_first true x r e = cc
@@ -55,6 +56,46 @@ all_given c (v ∷ vs) rest first env name kind members i start after h f n k m 
 
 pub ruleset giving = (more_given, none_given)
 
+-- what is made of each member of lists put together
+map_given : {X Y Z : Type 0} (f : Y → Z) (g : X → List Y) (xs : List X) → map f (flat_map g xs) ≡ flat_map (λ x. map f (g x)) xs
+map_given f g [] = refl
+map_given f g (x ∷ xs) = map-append f (g x) (flat_map g xs) ∙ ap (λ ys. map f (g x) ++ ys) (map_given f g xs)
+
+-- the same of what is made in each environment
+pub all_made :
+    {A : Type 0} (f : Environment → A) (c : Context) (vars rest : List TypedName) (first : TypedName) (env : Environment) (name kind members : List ℕ) (i : ℕ) (start after : List A)
+    → 1 ≤ length vars → first ≡ get_or vars 0 first → name ≡ first.name.name → kind ≡ first.kind.name
+    → members ≡ members_of c kind → length members ≤ i
+    → after ≡ start ++ flat_map (λ o. map f (environments c rest (env ++ (name, o) ∷ []))) (take i members)
+    → rest ≡ drop 1 vars
+    → after ≡ start ++ map f (environments c vars env)
+all_made f c vars rest first env name kind members i start after h g n k m t s r =
+    let all : flat_map (λ o. environments c rest (env ++ (name, o) ∷ [])) (take i members) ≡ environments c vars env = all_given c vars rest first env name kind members i [] _ h g n k m t refl r in
+    s ∙ ap (λ ys. start ++ ys) (sym (map_given f (λ o. environments c rest (env ++ (name, o) ∷ [])) (take i members)) ∙ ap (map f) all)
+
+-- one more member makes its own
+pub more_made :
+    {A : Type 0} (f : Environment → A) (c : Context) (rest : List TypedName) (env inner : Environment) (name : List ℕ) (start before after : List A) (members : List ℕ) (i o : ℕ)
+    → i < length members → o ≡ get_or members i o → inner ≡ env ++ (name, o) ∷ []
+    → before ≡ start ++ flat_map (λ o. map f (environments c rest (env ++ (name, o) ∷ []))) (take i members)
+    → after ≡ before ++ map f (environments c rest inner)
+    → after ≡ start ++ flat_map (λ o. map f (environments c rest (env ++ (name, o) ∷ []))) (take (i + 1) members)
+more_made f c rest env inner name start before after members i o h m n b a =
+    more_given (λ o. map f (environments c rest (env ++ (name, o) ∷ []))) start before after members i o h m b
+    (a ∙ ap (λ e. before ++ map f (environments c rest e)) n)
+
+-- the innermost variable goes again
+pub unbound : (env inner outer : Environment) (b : List ℕ × ℕ) → inner ≡ env ++ b ∷ [] → outer ≡ take (length inner - 1) inner → outer ≡ env
+unbound env inner outer b n t = t ∙ ap (λ (e : Environment). take (length e - 1) e) n ∙ ap (λ (k : ℕ). take k (env ++ b ∷ [])) (one_less env) ∙ before_last env
+  where
+    one_less : (xs : Environment) → length (xs ++ b ∷ []) - 1 ≡ length xs
+    one_less [] = refl
+    one_less (x ∷ xs) = let e : length (xs ++ b ∷ []) - 1 ≡ length xs = one_less xs in let l : length (xs ++ b ∷ []) ≡ length xs + 1 = length-append xs (b ∷ []) in omega (arith, l)
+
+    before_last : (xs : Environment) → take (length xs) (xs ++ b ∷ []) ≡ xs
+    before_last [] = refl
+    before_last (x ∷ xs) = ap (λ ys. x ∷ ys) (before_last xs)
+
 -- the number of a name with the objects of a use is that of the use
 pub atom_named :
     (c : Context) (env : Environment) (u : Use) (n : ℕ) (name objects : List ℕ)
@@ -65,6 +106,14 @@ pub fluent_named :
     (c : Context) (env : Environment) (u : Use) (n : ℕ) (name objects : List ℕ)
     → n ≡ number_of c c.functions name objects → name ≡ u.head.name → objects ≡ use_objects c env u → n ≡ fluent_number c env u
 fluent_named c env u n name objects e f g = e ∙ ap (λ os. number_of c c.functions name os) g ∙ ap (λ m. number_of c c.functions m (use_objects c env u)) f
+
+-- the objects of a use with one argument
+pub one_object :
+    (c : Context) (env : Environment) (u : Use) (args : List Term) (only : Term) (o : ℕ)
+    → 1 ≤ length args → length args < 2 → only ≡ get_or args 0 only → args ≡ u.args → o ≡ term_object c env only → o ∷ [] ≡ use_objects c env u
+one_object c env u [] only o l m h e t = absurd (omega (arith, l))
+one_object c env u (x ∷ []) only o l m h e t = ap (λ y. y ∷ []) (t ∙ ap (term_object c env) h) ∙ ap (map (term_object c env)) e
+one_object c env u (x ∷ y ∷ xs) only o l m h e t = absurd (omega (arith, m))
 
 -- the last of the variables comes first
 last_first :

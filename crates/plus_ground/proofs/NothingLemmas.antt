@@ -85,3 +85,10 @@ pub no_environment : (c : Context) (vs : List TypedName) (env : Environment) →
 no_environment c [] env h = cc
 no_environment c (v ∷ vs) env h =
     one_empty c v vs env (nat_eq (length (members_of c v.kind.name)) 0) refl h (λ inner k. no_environment c vs inner k)
+
+-- then nothing is made
+pub none_made :
+    {A : Type 0} (f : Environment → A) (c : Context) (vars params : List TypedName) (start : List A)
+    → vars ≡ params → have_objects c vars ≡ false → start ≡ start ++ map f (environments c params [])
+none_made f c vars params start e h =
+    sym (append-nil start) ∙ ap (λ es. start ++ map f es) (sym (ap (λ vs. environments c vs []) (sym e) ∙ no_environment c vars [] h))

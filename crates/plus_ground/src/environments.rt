@@ -1,12 +1,14 @@
 //! What variables stand for, and the ground atoms and fluents that uses name there.
 
-ghost use Rattle.std.specs.Prelude.{◌≡◌, ℕ, [], ◌∷◌, ◌++◌, ◌≤◌, ◌<◌, ◌^◌, length, map, IfOk, OnOk};
+ghost use Rattle.std.specs.Prelude.{◌≡◌, ℕ, [], ◌∷◌, ◌++◌, ◌-◌, ◌≤◌, ◌<◌, ◌^◌, length, map, take, IfOk, OnOk};
 ghost use Rattle.plus_numbering.specs.Numbered.{context};
+ghost use Rattle.plus_expansion.specs.Objects.{object_names};
+ghost use Rattle.plus_expansion.specs.Numbers.{label_of};
 ghost use Rattle.plus_expansion.specs.Environments.{environments, bound_object, term_object, use_objects, atom_number, fluent_number};
 ghost use Rattle.plus_ground.specs.Nothing.{have_objects};
 
 use plus_numbering::Numbering;
-use plus_state::{AtomId, FluentId};
+use plus_state::{AtomId, FluentId, Label};
 use plus_tree::{Term, TypedName, Use};
 use smallvec::SmallVec;
 use std::alloc::{AllocError, Global};
@@ -64,6 +66,14 @@ impl<'a> Environment<'a> {
         Ok(())
     }
 
+    /// The environment without its innermost variable.
+    #[inline(always)]
+    pub fn unbind(&mut self)
+        ensures { self.new ≡ take (length self.old - 1) self.old }
+    {
+        self.bound.pop();
+    }
+
     /// An equal environment with one more variable, inside the others.
     pub fn with(
         &self,
@@ -87,8 +97,8 @@ impl<'a> Environment<'a> {
         Ok(Environment { bound })
     }
 
-    /// The objects that the variables stand for.
-    pub fn objects(&self, alloc: Global) -> Result<SmallVec<u32, 4>, AllocError>
+    // The objects that the variables stand for.
+    fn objects(&self, alloc: Global) -> Result<SmallVec<u32, 4>, AllocError>
         ensures { IfOk result (λ os. os.items ≡ map (λ b. b.1) self.now) }
     {
         let mut objects = SmallVec::new(alloc);
@@ -96,6 +106,24 @@ impl<'a> Environment<'a> {
             objects.push(bound.object)?;
         }
         Ok(objects)
+    }
+
+    /// The label of a form with this name in the environment of its parameters.
+    #[inline(always)]
+    pub fn label(
+        &self,
+        alloc: Global,
+        numbering: &Numbering,
+        name: &[u8],
+    ) -> Result<Label, AllocError>
+        ensures { IfOk result (λ l. l ≡ label_of name.now
+            (object_names (context numbering.now) (map (λ b. b.1) self.now))) }
+    {
+        if let [only] = self.bound.as_slice() {
+            return numbering.label(alloc, name, &[only.object]);
+        }
+        let objects = self.objects(alloc)?;
+        numbering.label(alloc, name, objects.as_slice())
     }
 
     /// The object that a variable stands for, the innermost where several lists bind it, or this one where
@@ -144,9 +172,9 @@ fn extend<'a>(
     }
 }
 
-// Whether there is an object of the type of each variable. Asked first, since else the choices of the
-// variables before an empty type would be walked for nothing.
-fn have_objects(numbering: &Numbering, vars: &[TypedName]) -> bool
+/// Whether there is an object of the type of each variable. Asked first, since else the choices of the
+/// variables before an empty type would be walked for nothing.
+pub fn have_objects(numbering: &Numbering, vars: &[TypedName]) -> bool
     ensures { result ≡ have_objects (context numbering.now) vars.now }
 {
     'vars: for var in vars {
@@ -157,8 +185,8 @@ fn have_objects(numbering: &Numbering, vars: &[TypedName]) -> bool
     true
 }
 
-// How many environments there are for the first variable alone.
-fn fewest(numbering: &Numbering, vars: &[TypedName]) -> usize {
+/// How many environments there are for the first variable alone.
+pub fn fewest(numbering: &Numbering, vars: &[TypedName]) -> usize {
     match vars {
         [] => 1,
         [first, ..] => numbering.members(first.kind.name.bytes()).len(),
@@ -228,8 +256,12 @@ pub fn atom(
     ensures { IfOk result (λ a. a.0
         ≡ atom_number (context numbering.now) env.now used.now) }
 {
+    let name = used.head.name.bytes();
+    if let [only] = used.args.as_slice() {
+        return Ok(numbering.atom(name, &[term_object(numbering, env, only)]));
+    }
     let objects = use_objects(alloc, numbering, env, used)?;
-    Ok(numbering.atom(used.head.name.bytes(), objects.as_slice()))
+    Ok(numbering.atom(name, objects.as_slice()))
 }
 
 /// The ground fluent that a use names.
@@ -243,6 +275,10 @@ pub fn fluent(
     ensures { IfOk result (λ f. f.0
         ≡ fluent_number (context numbering.now) env.now used.now) }
 {
+    let name = used.head.name.bytes();
+    if let [only] = used.args.as_slice() {
+        return Ok(numbering.fluent(name, &[term_object(numbering, env, only)]));
+    }
     let objects = use_objects(alloc, numbering, env, used)?;
-    Ok(numbering.fluent(used.head.name.bytes(), objects.as_slice()))
+    Ok(numbering.fluent(name, objects.as_slice()))
 }

@@ -11,12 +11,12 @@ ghost use Rattle.plus_expansion.specs.Expansion.{instance_label, action_meant, e
 
 use crate::conditions::condition;
 use crate::effects::effects;
-use crate::environments::{Environment, environments};
+use crate::environments::{Environment, fewest, have_objects};
 use crate::rates::rates;
 use plus_literal::FromParts;
 use plus_numbering::Numbering;
 use plus_state::{Action, Event, Label, Process};
-use plus_tree::{EffectNode, EffectTree, Schema};
+use plus_tree::{EffectNode, EffectTree, Schema, TypedName};
 use std::alloc::{AllocError, Global};
 
 // The label of an instance: the name of the schema, and those of its objects.
@@ -30,8 +30,7 @@ fn label(
     ensures { IfOk result (λ l. l
         ≡ instance_label (context numbering.now) schema.now env.now) }
 {
-    let objects = env.objects(alloc)?;
-    numbering.label(alloc, schema.name.name.bytes(), objects.as_slice())
+    env.label(alloc, numbering, schema.name.name.bytes())
 }
 
 // How many writes an effect has where each of its members is one: the room that their list begins with.
@@ -107,6 +106,38 @@ fn process<Q: FromParts>(
     })
 }
 
+// Adds the ground events of an event for each choice of objects for these parameters, inside those of `env`.
+fn add_events<'a, Q: FromParts>(
+    alloc: Global,
+    numbering: &Numbering,
+    schema: &Schema,
+    params: &'a [TypedName],
+    env: &mut Environment<'a>,
+    into: &mut Vec<Event<Q>>,
+) -> Result<(), AllocError>
+    requires { All (LiteralFits Q.fits) (schema_literals schema.now) }
+    ensures added { OnOk result (map (event_of Q.value) into.new.items ≡ map (event_of Q.value) into.old.items
+        ++ map (event_meant (context numbering.now) schema.now)
+        (environments (context numbering.now) params.now env.old)) }
+    ensures same { OnOk result (env.new ≡ env.old) }
+{
+    match params {
+        [] => {
+            into.push(event(alloc, numbering, schema, env)?)?;
+            Ok(())
+        }
+        [first, rest @ ..] => {
+            let name = first.name.name.bytes();
+            'members: for member in numbering.members(first.kind.name.bytes()) {
+                env.bind(name, *member)?;
+                add_events(alloc, numbering, schema, rest, env, into)?;
+                env.unbind();
+            }
+            Ok(())
+        }
+    }
+}
+
 // Adds the ground events of an event, one for each choice of objects for its parameters.
 fn events_of<Q: FromParts>(
     alloc: Global,
@@ -119,13 +150,45 @@ fn events_of<Q: FromParts>(
         ++ map (event_meant (context numbering.now) schema.now)
         (environments (context numbering.now) schema.now.params [])) }
 {
-    let none = Environment::new(alloc);
-    let choices = environments(alloc, numbering, schema.params.as_slice(), &none)?;
-    into.reserve(choices.len())?;
-    'choices: for env in &choices {
-        into.push(event(alloc, numbering, schema, env)?)?;
+    let params = schema.params.as_slice();
+    if !have_objects(numbering, params) {
+        return Ok(());
     }
-    Ok(())
+    into.reserve(fewest(numbering, params))?;
+    let mut none = Environment::new(alloc);
+    add_events(alloc, numbering, schema, params, &mut none, into)
+}
+
+// Adds the ground processes of a process for each choice of objects for these parameters, inside those of `env`.
+fn add_processes<'a, Q: FromParts>(
+    alloc: Global,
+    numbering: &Numbering,
+    schema: &Schema,
+    params: &'a [TypedName],
+    env: &mut Environment<'a>,
+    into: &mut Vec<Process<Q>>,
+) -> Result<(), AllocError>
+    requires { All (LiteralFits Q.fits) (schema_literals schema.now) }
+    ensures added { OnOk result (map (process_of Q.value) into.new.items ≡ map (process_of Q.value) into.old.items
+        ++ map (process_meant (context numbering.now) schema.now)
+        (environments (context numbering.now) params.now env.old)) }
+    ensures same { OnOk result (env.new ≡ env.old) }
+{
+    match params {
+        [] => {
+            into.push(process(alloc, numbering, schema, env)?)?;
+            Ok(())
+        }
+        [first, rest @ ..] => {
+            let name = first.name.name.bytes();
+            'members: for member in numbering.members(first.kind.name.bytes()) {
+                env.bind(name, *member)?;
+                add_processes(alloc, numbering, schema, rest, env, into)?;
+                env.unbind();
+            }
+            Ok(())
+        }
+    }
 }
 
 // Adds the ground processes of a process, one for each choice of objects for its parameters.
@@ -140,13 +203,13 @@ fn processes_of<Q: FromParts>(
         ++ map (process_meant (context numbering.now) schema.now)
         (environments (context numbering.now) schema.now.params [])) }
 {
-    let none = Environment::new(alloc);
-    let choices = environments(alloc, numbering, schema.params.as_slice(), &none)?;
-    into.reserve(choices.len())?;
-    'choices: for env in &choices {
-        into.push(process(alloc, numbering, schema, env)?)?;
+    let params = schema.params.as_slice();
+    if !have_objects(numbering, params) {
+        return Ok(());
     }
-    Ok(())
+    into.reserve(fewest(numbering, params))?;
+    let mut none = Environment::new(alloc);
+    add_processes(alloc, numbering, schema, params, &mut none, into)
 }
 
 /// The ground events of a list of events, in order.
