@@ -35,10 +35,10 @@ pub kept_too : (t u : Typed) (k : Kept) → u ≡ t → IsKept t k → IsKept u 
 kept_too t u k e h = subst (λ v. IsKept v k) (sym e) h
 
 -- a copy of a call has its instance
-pub kept_copy : (t : Typed) (k : Kept) (name : List ℕ) (args : List (List ℕ)) → k.call.name ≡ name → k.call.args ≡ args
+pub kept_copy : (t : Typed) (k : Kept) (name : List ℕ) (args : List (List ℕ)) → k.name ≡ name → k.args.items ≡ args
     → IsMade t name args (action_of fraction_of k.action) → IsKept t k
 kept_copy t k name args n b h =
-    subst (λ m. IsMade t k.call.name m (action_of fraction_of k.action)) (sym b)
+    subst (λ m. IsMade t k.name m (action_of fraction_of k.action)) (sym b)
     (subst (λ m. IsMade t m args (action_of fraction_of k.action)) (sym n) h)
 
 -- another one stands at a place

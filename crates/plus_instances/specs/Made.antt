@@ -21,7 +21,7 @@ pub record IsMade (t : Typed) (name : List ℕ) (args : List (List ℕ)) (a : mo
 
 -- an instance is kept with its call
 abbrev pub IsKept : Typed → Kept → Type 0
-IsKept t k = IsMade t k.call.name k.call.args (action_of fraction_of k.action)
+IsKept t k = IsMade t k.name k.args.items (action_of fraction_of k.action)
 
 -- all that are kept are instances of their calls
 pub record AreMade (i : Instances) : Type 0 where

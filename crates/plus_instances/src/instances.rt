@@ -13,7 +13,8 @@ use plus_number::frac::Frac64;
 use plus_numbering::Numbering;
 use plus_state::problem::Action;
 use plus_state::term::Cond;
-use plus_tree::{Call, Name, NameArgs};
+use plus_tree::{Call, Name};
+use smallvec::SmallVec;
 use std::alloc::{AllocError, Global};
 
 /// The most conditions and effects of the large instances that are kept together.
@@ -34,10 +35,11 @@ pub enum Place {
     Small(usize),
 }
 
-/// An instance, with its call.
+/// An instance, with the names of its action and of the objects that it was called with.
 #[derive(Drop)]
 struct Kept {
-    call: Call,
+    name: Name,
+    args: SmallVec<Name, 1>,
     action: Action<Frac64>,
 }
 
@@ -120,24 +122,14 @@ fn slot_of(hash: u64) -> usize {
     (hash % SLOTS as u64) as usize
 }
 
-fn copied_args(alloc: Global, args: &[Name]) -> Result<NameArgs, AllocError>
-    ensures { IfOk result (λ copy. copy ≡ args.now) }
+fn copied(alloc: Global, names: &[Name]) -> Result<SmallVec<Name, 1>, AllocError>
+    ensures { IfOk result (λ copy. copy.items ≡ names.now) }
 {
-    let mut copy = NameArgs::new(alloc);
-    for arg in args {
-        copy.push(Name::new(alloc, arg.bytes())?)?;
+    let mut copy = SmallVec::new(alloc);
+    for name in names {
+        copy.push(Name::new(alloc, name.bytes())?)?;
     }
     Ok(copy)
-}
-
-fn copied(alloc: Global, call: &Call) -> Result<Call, AllocError>
-    ensures name { IfOk result (λ copy. copy.name ≡ call.now.name) }
-    ensures args { IfOk result (λ copy. copy.args ≡ call.now.args) }
-{
-    Ok(Call {
-        name: Name::new(alloc, call.name.bytes())?,
-        args: copied_args(alloc, call.args.as_slice())?,
-    })
 }
 
 fn are_same(names: &[Name], others: &[Name]) -> bool
@@ -155,11 +147,11 @@ fn are_same(names: &[Name], others: &[Name]) -> bool
 impl Kept {
     // Whether it is the instance of a call.
     fn is_of(&self, call: &Call) -> bool
-        ensures name { IsTrue result → self.now.call.name ≡ call.now.name }
-        ensures args { IsTrue result → self.now.call.args ≡ call.now.args }
+        ensures name { IsTrue result → self.now.name ≡ call.now.name }
+        ensures args { IsTrue result → self.now.args.items ≡ call.now.args }
     {
-        self.call.name.bytes() == call.name.bytes()
-            && are_same(self.call.args.as_slice(), call.args.as_slice())
+        self.name.bytes() == call.name.bytes()
+            && are_same(self.args.as_slice(), call.args.as_slice())
     }
 }
 
@@ -253,7 +245,8 @@ impl<'a> Instances<'a> {
     {
         let size = size_of(&action);
         let kept = Kept {
-            call: copied(alloc, call)?,
+            name: Name::new(alloc, call.name.bytes())?,
+            args: copied(alloc, call.args.as_slice())?,
             action,
         };
         if size < LARGE {
