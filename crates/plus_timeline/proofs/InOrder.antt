@@ -1,5 +1,5 @@
 -- Timed literals in the order of their times, and how far time may go between them.
-use Rattle.std.proofs.Common.{◌≡◌, ℕ, ◌<◌, ◌≤◌, zero, suc, Bool, true, false, List, [], ◌∷◌, length, map, get_or, drop, refl, ap, sym, ◌∙◌, arith, drop-cons}
+use Rattle.std.proofs.Common.{◌≡◌, ℕ, ◌<◌, ◌≤◌, ◌-◌, zero, suc, Bool, true, false, List, [], ◌∷◌, length, map, get_or, drop, refl, ap, sym, ◌∙◌, arith, drop-cons}
 use Rattle.std.proofs.lemmas.List.{drop_all}
 use Rattle.std.specs.Prelude.{not, ◌&&◌, if◌then◌else◌}
 use Rattle.std.specs.List.Sorted.{IsPartitionPoint, IsPartitionedBy}
@@ -92,6 +92,13 @@ module _ {Q : Type 0} (value : Q → Fraction) where
     where
       not_at : (y : Fraction) → is_below t y ≡ false → t <ℚ y → ⊥
       not_at y e l = let k : is_below t y ≡ true = to_below t y l in cc (e, k)
+
+  -- ---- the place before which the literals pass a test, told by its two neighbours
+  pub point_at : (p : Timed Q → Bool) (xs : List (Timed Q)) (n : ℕ) → IsPartitionedBy p xs → n ≤ length xs → (0 < n → (d : Timed Q) → p (get_or xs (n - 1) d) ≡ true) → (n < length xs → (d : Timed Q) → p (get_or xs n d) ≡ false) → IsPartitionPoint (λ l. p l ≡ true) (λ l. p l ≡ false) xs n
+  point_at p xs n h l a b = (
+    λ k d i j. h k (n - 1) d (omega (arith, j)) (omega (arith, j, l)) (a (omega (arith, j)) d),
+    λ k d i j. known (p (get_or xs k d)) (λ e. let f = b (omega (arith, i, j)) d in let g = h n k d i j e in cc (f, g)),
+  )
 
   -- ---- the least of a moment and of the later times
   least_past : (t b : Fraction) (xs : List (Timed Q)) (n : ℕ) → ((k : ℕ) (d : Timed Q) → 0 ≤ k → k < n → is_by value t (get_or xs k d) ≡ true) → least t b (map (timed_of value) xs) ≡ least t b (map (timed_of value) (drop n xs))

@@ -3,7 +3,7 @@ use Rattle.std.proofs.Common.{◌≡◌, ℕ, ◌<◌, ◌≤◌, ◌+◌, ◌-�
 use Rattle.std.proofs.lemmas.Bool.{eq-eqb, cases_lt}
 use Rattle.std.proofs.lemmas.List.{get_or-drop, get_or-replicate, length-drop}
 use Rattle.std.proofs.lemmas.List.Elements.{All-nil, All-cons, All-head, All-tail, All-take, All-drop}
-use Rattle.std.specs.Prelude.{not, nat_eq, if◌then◌else◌, ◌↔◌}
+use Rattle.std.specs.Prelude.{not, nat_eq, if◌then◌else◌, ◌↔◌, Result, Ok, Err, IfOk}
 use Rattle.std.specs.List.{All, list_any}
 use Rattle.std.specs.List.Sorted.{IsPartitionPoint}
 use Rattle.std.specs.declared.cmp.Ordering.{Ordering}
@@ -20,7 +20,8 @@ use Rattle.plus_model.proofs.Moments.{from_below}
 use Rattle.plus_state.specs.declared.problem.Timed.{Timed}
 use Rattle.plus_state.specs.View.{timed_of}
 use Rattle.plus_state.specs.Changes.{Changes, patched_list, AreIn, Rises}
-use Rattle.plus_state.specs.Due.{Due, DuesFit, atom_change, atom_changes}
+use Rattle.plus_state.specs.Due.{Due, puts, DuesFit, atom_change, atom_changes}
+use Rattle.plus_state.proofs.AtomsLemmas.{atoms_are}
 use Rattle.plus_stretch.proofs.Rising.{to_below}
 use Rattle.plus_timeline.specs.Timeline.{has_literal}
 use Rattle.plus_timeline.specs.Literals.{AreLiterals, is_before, is_by, puts_of}
@@ -183,6 +184,25 @@ first_put a false cs h = go (gains a cs) refl
 nothing_put : {Q : Type 0} (xs : List (Timed Q)) → ((bs : List Bool) → bs ≡ new_atoms 0 (atom_changes (puts_of xs)) bs) → xs ≡ []
 nothing_put [] h = refl
 nothing_put (x ∷ xs) h = absurd (first_put x.atom.0 x.positive (atom_changes (puts_of xs)) h)
+
+-- one literal alone
+one_put : {Q : Type 0} (xs : List (Timed Q)) (x : Timed Q) → length xs ≡ 1 → x ≡ get_or xs 0 x → puts_of xs ≡ puts x.atom.0 x.positive ∷ []
+one_put [] x l e = absurd (omega (arith, l))
+one_put (y ∷ []) x l e = ap (λ z. puts_of (z ∷ [])) (sym e)
+one_put (y ∷ z ∷ zs) x l e = absurd (omega (arith, l))
+
+one_same : (a : ℕ) (v : Bool) (bs : List Bool) → patched_list ((a, v) ∷ []) bs ≡ new_atoms 0 (atom_changes (puts a v ∷ [])) bs
+one_same a true bs = atoms_are (puts a true ∷ []) bs
+one_same a false bs = atoms_are (puts a false ∷ []) bs
+
+pub one_alone : {Q : Type 0} (xs : List (Timed Q)) (x : Timed Q) (cs : List (ℕ × Bool)) → length xs ≡ 1 → x ≡ get_or xs 0 x → cs ≡ (x.atom.0, x.positive) ∷ [] → (bs : List Bool) → patched_list cs bs ≡ new_atoms 0 (atom_changes (puts_of xs)) bs
+one_alone xs x cs l e h bs =
+    ap (λ (cs : List (ℕ × Bool)). patched_list cs bs) h ∙ one_same x.atom.0 x.positive bs ∙ sym (ap (λ ds. new_atoms 0 (atom_changes ds) bs) (one_put xs x l e))
+
+-- what follows from what an answer is
+pub with_ok : {A E : Type 0} (P R : A → Type 0) (r : Result A E) → ((x : A) → P x → R x) → IfOk r P → IfOk r R
+with_ok P R (Ok x) f h = f x h
+with_ok P R (Err e) f h = tt
 
 put_none : {Q : Type 0} (xs : List (Timed Q)) → atom_changes (puts_of xs) ≡ [] → xs ≡ []
 put_none [] h = refl

@@ -7,7 +7,7 @@ use Rattle.plus_state.specs.Changes.{Changes, TrailView, patched_list, patched, 
 use Rattle.plus_state.specs.Fits.{StateFits}
 use Rattle.plus_state.proofs.PatchLemmas.{same_atoms, same_fluents}
 use Rattle.plus_timeline.specs.Undo.{undone, recalled, root_at, Notes}
-use Rattle.plus_timeline.specs.EntryStates.{EntryView, KeepsEntry, IsReached, Leads}
+use Rattle.plus_timeline.specs.EntryStates.{EntryView, LedBy, KeepsEntry, IsReached, Leads}
 use Rattle.plus_timeline.proofs.Entries.{ahead_on}
 use Rattle.plus_timeline.proofs.Roots.{joined, noted_root, stepped_root, entered_root, noted_in, inside_after, way_within, way_leads}
 
@@ -25,6 +25,11 @@ kept_noted arrival state past past' ahead c old new h e w n = record {
 -- the same, and what was changed is kept
 pub kept_here : (arrival state : State) (past : Option Changes) (ahead : Option State) (c : Changes) (old new : Option Changes) → KeepsEntry arrival past state ahead old → Within (length state.atoms) (length state.fluents) c → Notes state c old new → KeepsEntry arrival past state ahead new
 kept_here arrival state past ahead c old new h w n = record { led = h.led; inside = noted_in state c w old new h.inside n }
+
+-- the changes that are taken out lead from the arrival to the state now
+pub taken_leads : (arrival state t : State) (past taken : Option Changes) (ahead : Option State) → LedBy arrival past state ahead → taken ≡ past → t ≡ state → IfSome taken (λ p. Leads arrival p t)
+taken_leads arrival state t None taken ahead h e f = subst (λ o. IfSome o (λ p. Leads arrival p t)) (sym e) tt
+taken_leads arrival state t (Some p) taken ahead h e f = subst (λ o. IfSome o (λ p. Leads arrival p t)) (sym e) (record { within = h.within; is = f ∙ h.is })
 
 -- a step is made
 pub inside_stepped : (s t : State) (c : Changes) (old new : Option Changes) → t ≡ patched s c → IfSome old (λ u. Within (length s.atoms) (length s.fluents) u) → Within (length s.atoms) (length s.fluents) c → Notes s c old new → IfSome new (λ u. Within (length t.atoms) (length t.fluents) u)

@@ -144,6 +144,20 @@ fn copied<Q: Exact>(
     }
 }
 
+// Equal changes, in the memory of some that are needed no more.
+fn copied_into<Q: Exact>(
+    alloc: Global,
+    spare: &mut Changes<Q>,
+    changes: &Changes<Q>,
+) -> Result<Changes<Q>, AllocError>
+    ensures { IfOk result (λ c. c ≡ changes.now) }
+{
+    let mut copy = mem::replace(spare, Changes::none(alloc));
+    copy.clear();
+    copy.append(changes)?;
+    Ok(copy)
+}
+
 // Notes what these changes are about to change, where there is a root.
 fn note<Q: Exact>(
     undo: &mut Option<Undo<Q>>,
@@ -334,7 +348,7 @@ impl<Q: Exact> EntryStates<Q> {
         }) }
         ensures err { OnErr result (self.new ≡ self.old) }
     {
-        let past = literals.copy(alloc)?;
+        let past = copied_into(alloc, &mut self.spare, &literals)?;
         note(&mut self.undo, self.trail.state(), &moves)?;
         note(&mut self.undo, self.trail.state(), &past)?;
         let since = self.past.take();

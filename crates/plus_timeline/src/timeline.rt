@@ -61,6 +61,8 @@ pub struct Timeline<Q: Exact> {
     events: Vec<EventId>,
     running: Running<Q>,
     literal: bool,
+    // about where the first literal after the present time stands: whatever it is, the answers are the same
+    next_literal: usize,
     lines: u64,
     entries: u64,
     most: u64,
@@ -133,7 +135,8 @@ impl<Q: Exact> Timeline<Q> {
         ensures { IfOk result (λ t. t ≡ begun (problem_of Q.value ground.now) happenings) }
     {
         let time = zero();
-        let literals = literal_changes(alloc, ground, time)?;
+        let mut next_literal = 0;
+        let literals = literal_changes(alloc, ground, time, &mut next_literal)?;
         Ok(Timeline {
             alloc,
             time,
@@ -146,6 +149,7 @@ impl<Q: Exact> Timeline<Q> {
                 members: Vec::new(alloc),
                 rates: Rates::zero(alloc, 0),
             },
+            next_literal,
             lines: 0,
             entries: 1,
             most: happenings,
@@ -320,6 +324,7 @@ impl<Q: Exact> Timeline<Q> {
             events: Vec::from_slice(alloc, &self.events)?,
             running: self.running.copy(alloc)?,
             literal: self.literal,
+            next_literal: self.next_literal,
             lines: self.lines,
             entries: self.entries,
             most: self.most,
@@ -372,6 +377,7 @@ impl<Q: Exact> Timeline<Q> {
                 rates: Rates::zero(alloc, 0),
             },
             literal: self.literal,
+            next_literal: self.next_literal,
             lines: self.lines,
             entries: self.entries,
             most: self.most,
@@ -403,6 +409,7 @@ impl<Q: Exact> Timeline<Q> {
         };
         self.time = from.time;
         self.literal = from.literal;
+        self.next_literal = from.next_literal;
         self.lines = from.lines;
         self.entries = from.entries;
         self.most = from.most;
@@ -562,7 +569,7 @@ impl<Q: Exact> Timeline<Q> {
             (Q.value until) self.now self.now (Err stop)) }
     {
         let time = self.time();
-        if !is_earlier(time, bound(ground, time, until)) {
+        if !is_earlier(time, bound(ground, time, until, self.next_literal)) {
             return Ok(false);
         }
         if self.is_full() {
@@ -661,7 +668,8 @@ impl<Q: Exact> Timeline<Q> {
         ensures kept { OnErr result (self.new ≡ self.old) }
     {
         let time = self.time();
-        match self.reach(ground, bound(ground, time, until), events, processes) {
+        let latest = bound(ground, time, until, self.next_literal);
+        match self.reach(ground, latest, events, processes) {
             Err(halt) => Err(halt_stop(halt)),
             Ok(reached) => {
                 let Reached { arrival, ahead } = reached;
@@ -725,7 +733,7 @@ impl<Q: Exact> Timeline<Q> {
             (has_literal (problem_of Q.value ground.now) (Q.value time)) self.old self.new) }
         ensures err { OnErr result (self.new ≡ self.old) }
     {
-        let literals = literal_changes(self.alloc, ground, time)?;
+        let literals = literal_changes(self.alloc, ground, time, &mut self.next_literal)?;
         let literal = are_there(&literals);
         self.states.enter(self.alloc, moves, ahead, literals)?;
         self.cascade.clear(&self.fired);

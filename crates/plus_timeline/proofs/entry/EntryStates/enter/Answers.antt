@@ -4,7 +4,7 @@ use Rattle.plus_model.specs.Terms.{State}
 use Rattle.plus_state.specs.Changes.{Changes, TrailView, RisesIn, Within, patched}
 use Rattle.plus_timeline.specs.EntryStates.{EntryView, IsReached, KeepsEntry}
 use Rattle.plus_timeline.specs.Undo.{Notes, root_at}
-use Rattle.plus_timeline.proofs.Noting.{kept_here, kept_noted, view_noted, view_entered, kept_entered, on_err}
+use Rattle.plus_timeline.proofs.Noting.{taken_leads, kept_here, kept_noted, view_noted, view_entered, kept_entered, on_err}
 use Rattle.plus_timeline.proofs.entry.EntryStates.enter.Goals as goal
 
 pub invariant_of-self-in_err-note-2 : goal.invariant_of-self-in_err-note-2
@@ -31,6 +31,10 @@ returns-in_err-note-2-clause-err g c =
     on_err c.from_residual-in_err-note-2.result
     (view_noted s c.self.inside.trail.before c.self.inside.arrival old c.args.self.now c.self.view_is moves new reached.rises.within
     (subst (λ o. Notes s moves old o) (sym c.in_err-note-2.ensures.err) first))
+
+pub catch_up-requires : goal.catch_up-requires
+catch_up-requires g c =
+    taken_leads c.self.inside.arrival c.self.inside.trail.state _ c.self.inside.past _ c.self.inside.ahead c.self.invariant.led c.take-since.ensures.value c.state-3.ensures
 
 pub invariant_of-self-in_err-kept : goal.invariant_of-self-in_err-kept
 invariant_of-self-in_err-kept g c =

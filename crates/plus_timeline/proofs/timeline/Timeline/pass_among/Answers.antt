@@ -10,12 +10,12 @@ use Rattle.plus_timeline.proofs.timeline.Timeline.pass_among.Goals as goal
 
 pub reach-requires-clause-later : goal.reach-requires-clause-later
 reach-requires-clause-later g c =
-    later_there (problem_of g.Q.Exact.value c.args.ground.now).timed _ _ _ _ c.time-time.ensures c.bound.ensures c.requires.later
+    later_there (problem_of g.Q.Exact.value c.args.ground.now).timed _ _ _ _ c.time-time.ensures c.bound-latest.ensures c.requires.later
 
 pub returns-in-Err-clause-told : goal.returns-in-Err-clause-told
 returns-in-Err-clause-told g c =
     let P = problem_of g.Q.Exact.value c.args.ground.now in
-    let b = bound_as P.timed _ _ _ _ c.time-time.ensures c.bound.ensures in
+    let b = bound_as P.timed _ _ _ _ c.time-time.ensures c.bound-latest.ensures in
     let told = halted g.Q.Exact.value g.Q.Exact.fits P (g.Q.Exact.value c.args.until) c.args.self.now c.requires.going c.reach.new.self
     c.args.self.now.running c.args.self.now.rates c.requires.runs c.in-Err.halt
     (subst (λ (x : Fraction). ReachTold g.Q.Exact.value g.Q.Exact.fits P x c.args.self.now.now.time c.args.self.now.now.state c.args.self.now.running c.args.self.now.rates (Err c.in-Err.halt)) b c.in-Err.ensures.told) in
@@ -24,7 +24,7 @@ returns-in-Err-clause-told g c =
 pub returns-in-Ok-enter-clause-told : goal.returns-in-Ok-enter-clause-told
 returns-in-Ok-enter-clause-told g c =
     let P = problem_of g.Q.Exact.value c.args.ground.now in
-    let b = bound_as P.timed _ _ _ _ c.time-time.ensures c.bound.ensures in
+    let b = bound_as P.timed _ _ _ _ c.time-time.ensures c.bound-latest.ensures in
     enters g.Q.Exact.value g.Q.Exact.fits P (g.Q.Exact.value c.args.until) c.args.self.now c.requires.going c.enter.new.self
     c.args.self.now.running c.args.self.now.rates c.requires.runs c.in-Ok.reached
     (subst (λ (x : Fraction). ReachTold g.Q.Exact.value g.Q.Exact.fits P x c.args.self.now.now.time c.args.self.now.now.state c.args.self.now.running c.args.self.now.rates (Ok c.in-Ok.reached)) b c.in-Ok.ensures.told)
