@@ -5,8 +5,10 @@ usage: bench/functions.py FOLDER [N]   the N (20) dearest, as bench/functions.py
 
 FOLDER is what `rt check NAME --jobs 1` leaves behind a check from nothing (remove it before), or a copy of it. The prover writes a file
 there as soon as a module is checked, one after the other: so the seconds from the file before are what the module took,
-on the wall. A module belongs to the function in its name; those below `Lts` are the borrow checker's part of a proof. What
-stands under `specs` is read and stated once for all functions.
+on the wall, which says little where the processors are busy. A large crate is checked in batches, whose files come out of
+order: for that one take a folder that `rattle check --incremental FOLDER` wrote by itself, or the base of its edits, which
+stands under /tmp/rt-edits-* while `rt ci` tries them. A module belongs to the function in its name; those below `Lts` are
+the borrow checker's part of a proof. What stands under `specs` is read and stated once for all functions.
 """
 import collections
 import os
@@ -14,8 +16,6 @@ import re
 import sys
 
 NAME = re.compile(r"Rattle-(\w+)-(specs|proofs)\.(.*)\.oantt")
-# What a function's proof is made of.
-PARTS = {"Answers", "Code", "Facts", "Goals", "Key", "Met", "Parts", "Proof", "Statement", "Symbol", "Tie"}
 
 
 def written(folder):
@@ -34,9 +34,11 @@ def function_of(file):
     if not named or named[2] == "specs":
         return "statements and libraries", False
     path = named[3].split(".")
-    is_borrows = any(it.startswith("Lts") for it in path)
-    path = path[: next((at for at, it in enumerate(path) if it.startswith("Lts")), len(path))]
-    return ".".join(it for it in path if it not in PARTS), is_borrows
+    borrows = next((at for at, it in enumerate(path) if it.startswith("Lts")), None)
+    path = path[:borrows]
+    # behind a function's name come the parts of its proof, in capitals; a file of lemmas has no other name
+    last = max((at for at, it in enumerate(path) if not it[:1].isupper()), default=len(path) - 1)
+    return ".".join(path[: last + 1]), borrows is not None
 
 
 def main(folder, most=20):
