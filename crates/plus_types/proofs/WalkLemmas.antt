@@ -7,7 +7,7 @@ use Rattle.plus_tree.specs.declared.terms.TypedName.{TypedName}
 use Rattle.plus_tree.specs.declared.trees.Domain.{Domain}
 use Rattle.plus_tree.specs.declared.trees.Problem.{Problem}
 use Rattle.plus_types.specs.Types.{Binding, bindings_of, bound_names}
-use Rattle.plus_types.specs.Faults.{IsFirstFault, Context, argument_faults, arguments_faults, type_faults, is_well_typed, types_faults, list_faults, heads_faults, declaration_faults, rule_faults, problem_faults, state_faults, domain_name_faults}
+use Rattle.plus_types.specs.Faults.{IsFirstFault, Context, argument_faults, arguments_faults, type_faults, is_well_typed, list_faults, problem_faults, state_faults, domain_name_faults}
 use Rattle.plus_types.specs.declared.faults.File.TheVariants as files
 
 -- the first form has none, and neither has the rest
@@ -62,48 +62,6 @@ pairs_err c vars whole ps ts i p t e h k m n w f =
 pub well_typed_if_none : (d : Domain) (p : Problem) → type_faults d p ≡ [] → IsTrue (is_well_typed d p)
 well_typed_if_none d p e = rw e search rules
 
--- the parts of the walk: the four declarations, the three kinds of rules, the problem
-pub declared_none :
-    (d : Domain) → types_faults (bindings_of d.types) [] d.types ≡ [] → list_faults (bindings_of d.types) files.Domain [] [] d.constants ≡ []
-    → heads_faults (bindings_of d.types) [] d.predicates ≡ [] → heads_faults (bindings_of d.types) [] d.functions ≡ [] → declaration_faults d ≡ []
-unfolding declaration_faults
-declared_none d a b c e = none_more _ _ a (none_more _ _ b (none_more _ _ c e))
-
-pub declared_types : (d : Domain) (f : TypeFault) → IsFirstFault (types_faults (bindings_of d.types) [] d.types) f → IsFirstFault (declaration_faults d) f
-unfolding declaration_faults
-declared_types d f h = first_here _ _ f h
-
-pub declared_constants :
-    (d : Domain) (f : TypeFault) → types_faults (bindings_of d.types) [] d.types ≡ [] → IsFirstFault (list_faults (bindings_of d.types) files.Domain [] [] d.constants) f
-    → IsFirstFault (declaration_faults d) f
-unfolding declaration_faults
-declared_constants d f a h = first_later _ _ f a (first_here _ _ f h)
-
-pub declared_predicates :
-    (d : Domain) (f : TypeFault) → types_faults (bindings_of d.types) [] d.types ≡ [] → list_faults (bindings_of d.types) files.Domain [] [] d.constants ≡ []
-    → IsFirstFault (heads_faults (bindings_of d.types) [] d.predicates) f → IsFirstFault (declaration_faults d) f
-unfolding declaration_faults
-declared_predicates d f a b h = first_later _ _ f a (first_later _ _ f b (first_here _ _ f h))
-
-pub declared_functions :
-    (d : Domain) (f : TypeFault) → types_faults (bindings_of d.types) [] d.types ≡ [] → list_faults (bindings_of d.types) files.Domain [] [] d.constants ≡ []
-    → heads_faults (bindings_of d.types) [] d.predicates ≡ [] → IsFirstFault (heads_faults (bindings_of d.types) [] d.functions) f → IsFirstFault (declaration_faults d) f
-unfolding declaration_faults
-declared_functions d f a b c h = first_later _ _ f a (first_later _ _ f b (first_later _ _ f c h))
-
-pub pair_none : (d : Domain) (p : Problem) → declaration_faults d ≡ [] → rule_faults d ≡ [] → problem_faults d p ≡ [] → type_faults d p ≡ []
-pair_none d p a b c = none_more _ _ a (none_more _ _ b c)
-
-pub pair_declared : (d : Domain) (p : Problem) (f : TypeFault) → IsFirstFault (declaration_faults d) f → IsFirstFault (type_faults d p) f
-pair_declared d p f h = first_here _ _ f h
-
-pub pair_rules : (d : Domain) (p : Problem) (f : TypeFault) → declaration_faults d ≡ [] → IsFirstFault (rule_faults d) f → IsFirstFault (type_faults d p) f
-pair_rules d p f a h = first_later _ _ f a (first_here _ _ f h)
-
-pub pair_problem :
-    (d : Domain) (p : Problem) (f : TypeFault) → declaration_faults d ≡ [] → rule_faults d ≡ [] → IsFirstFault (problem_faults d p) f → IsFirstFault (type_faults d p) f
-pair_problem d p f a b h = first_later _ _ f a (first_later _ _ f b h)
-
 -- the objects, the name of the domain, the initial state and the goal
 pub problem_none :
     (d : Domain) (p : Problem) → list_faults (bindings_of d.types) files.Problem [] (bound_names (bindings_of d.constants)) p.objects ≡ [] → domain_name_faults d p ≡ [] → state_faults d p ≡ []
@@ -129,8 +87,4 @@ pub problem_state :
 unfolding problem_faults
 problem_state d p f a b h = first_later _ _ f a (first_later _ _ f b h)
 
-pub ruleset walking_declarations = (declared_none, declared_types, declared_constants, declared_predicates, declared_functions)
-
 pub ruleset walking_problem = (problem_none, problem_objects, problem_name, problem_state)
-
-pub ruleset walking_pair = (pair_none, pair_declared, pair_rules, pair_problem)

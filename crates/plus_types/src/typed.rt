@@ -1,8 +1,9 @@
 //! A domain and a problem that are well typed.
 
-ghost use Rattle.std.specs.Prelude.{◌≡◌, IsTrue, IfOk};
-ghost use Rattle.plus_types.specs.Faults.{Walks, type_faults, problem_faults, declaration_faults, rule_faults, state_faults, domain_name_faults, is_well_typed, predicate_names, function_names, action_names, process_names, event_names};
+ghost use Rattle.std.specs.Prelude.{◌≡◌, [], ◌++◌, IsTrue, true, false, IfOk};
+ghost use Rattle.plus_types.specs.Faults.{Walks, type_faults, problem_faults, declaration_faults, rule_faults, types_faults, list_faults, heads_faults, schemas_faults, state_faults, domain_name_faults, is_well_typed, predicate_names, function_names, action_names, process_names, event_names};
 ghost use Rattle.plus_types.specs.Types.{bindings_of, objects_of};
+ghost use Rattle.plus_types.specs.Known.{context};
 
 use crate::conditions::condition;
 use crate::declarations::{constants, heads, objects};
@@ -75,7 +76,48 @@ struct Rules {
     events: Names,
 }
 
-#[tactic(auto, using(crate::proofs::WalkLemmas::walking_declarations))]
+// A function here makes two of these tables at most: an early return lets go of all that it owns, and each of them is taken
+// apart there.
+
+// The predicates and the functions of a domain.
+#[tactic(auto, using(crate::proofs::WalkLemmas::walking))]
+fn predicates_and_functions(
+    alloc: Global,
+    domain: &Domain,
+    types: &Types,
+) -> Result<(Names, Names), TypeFault>
+    requires types { types.now ≡ bindings_of domain.now.types }
+    ensures walks { Walks (heads_faults (bindings_of domain.now.types) [] domain.now.predicates
+        ++ heads_faults (bindings_of domain.now.types) [] domain.now.functions) result }
+    ensures predicates { IfOk result (λ t. t.0 ≡ predicate_names domain.now) }
+    ensures functions { IfOk result (λ t. t.1 ≡ function_names domain.now) }
+{
+    let predicates = heads(alloc, types, domain.predicates.as_slice())?;
+    let functions = heads(alloc, types, domain.functions.as_slice())?;
+    Ok((predicates, functions))
+}
+
+// The constants, the predicates and the functions of a domain.
+#[tactic(auto, using(crate::proofs::WalkLemmas::walking))]
+fn constants_and_heads(
+    alloc: Global,
+    domain: &Domain,
+    types: &Types,
+) -> Result<(Kinds, Names, Names), TypeFault>
+    requires types { types.now ≡ bindings_of domain.now.types }
+    ensures walks { Walks (list_faults (bindings_of domain.now.types) File.Domain [] [] domain.now.constants
+        ++ (heads_faults (bindings_of domain.now.types) [] domain.now.predicates
+        ++ heads_faults (bindings_of domain.now.types) [] domain.now.functions)) result }
+    ensures objects { IfOk result (λ t. t.0 ≡ bindings_of domain.now.constants) }
+    ensures predicates { IfOk result (λ t. t.1 ≡ predicate_names domain.now) }
+    ensures functions { IfOk result (λ t. t.2 ≡ function_names domain.now) }
+{
+    let objects = constants(alloc, types, domain.constants.as_slice())?;
+    let (predicates, functions) = predicates_and_functions(alloc, domain, types)?;
+    Ok((objects, predicates, functions))
+}
+
+#[tactic(auto, using(crate::proofs::WalkLemmas::walking), unfolding(crate::specs::Faults::declaration_faults))]
 fn declarations(alloc: Global, domain: &Domain) -> Result<Tables, TypeFault>
     ensures walks { Walks (declaration_faults domain.now) result }
     ensures types { IfOk result (λ t. t.types ≡ bindings_of domain.now.types) }
@@ -84,15 +126,30 @@ fn declarations(alloc: Global, domain: &Domain) -> Result<Tables, TypeFault>
     ensures functions { IfOk result (λ t. t.functions ≡ function_names domain.now) }
 {
     let types = types::walk(alloc, domain.types.as_slice())?;
-    let objects = constants(alloc, &types, domain.constants.as_slice())?;
-    let predicates = heads(alloc, &types, domain.predicates.as_slice())?;
-    let functions = heads(alloc, &types, domain.functions.as_slice())?;
+    let (objects, predicates, functions) = constants_and_heads(alloc, domain, &types)?;
     Ok(Tables {
         types,
         objects,
         predicates,
         functions,
     })
+}
+
+// The processes and the events of a domain.
+#[tactic(auto, using(crate::proofs::WalkLemmas::walking))]
+fn processes_and_events(
+    alloc: Global,
+    domain: &Domain,
+    known: &Known<'_>,
+) -> Result<(Names, Names), TypeFault>
+    ensures walks { Walks (schemas_faults (context known.now) true [] domain.now.processes
+        ++ schemas_faults (context known.now) false [] domain.now.events) result }
+    ensures processes { IfOk result (λ t. t.0 ≡ process_names domain.now) }
+    ensures events { IfOk result (λ t. t.1 ≡ event_names domain.now) }
+{
+    let processes = schemas(alloc, known, true, domain.processes.as_slice())?;
+    let events = schemas(alloc, known, false, domain.events.as_slice())?;
+    Ok((processes, events))
 }
 
 #[tactic(auto, using(crate::proofs::WalkLemmas::walking), unfolding(crate::specs::Faults::rule_faults))]
@@ -120,8 +177,7 @@ fn rule_names(alloc: Global, domain: &Domain, tables: &Tables) -> Result<Rules, 
         file: File::Domain,
     };
     let actions = schemas(alloc, &known, false, domain.actions.as_slice())?;
-    let processes = schemas(alloc, &known, true, domain.processes.as_slice())?;
-    let events = schemas(alloc, &known, false, domain.events.as_slice())?;
+    let (processes, events) = processes_and_events(alloc, domain, &known)?;
     Ok(Rules {
         actions,
         processes,
@@ -204,8 +260,34 @@ fn problem_forms(
     states(alloc, domain, problem, tables)
 }
 
+// The actions, processes and events of the domain, and then the problem.
+#[tactic(auto, using(crate::proofs::WalkLemmas::walking))]
+fn rules_and_problem(
+    alloc: Global,
+    domain: &Domain,
+    problem: &Problem,
+    tables: &mut Tables,
+) -> Result<Rules, TypeFault>
+    requires types { tables.old.types ≡ bindings_of domain.now.types }
+    requires objects { tables.old.objects ≡ bindings_of domain.now.constants }
+    requires predicates { tables.old.predicates ≡ predicate_names domain.now }
+    requires functions { tables.old.functions ≡ function_names domain.now }
+    ensures walks { Walks (rule_faults domain.now ++ problem_faults domain.now problem.now) result }
+    ensures actions { IfOk result (λ r. r.actions ≡ action_names domain.now) }
+    ensures processes { IfOk result (λ r. r.processes ≡ process_names domain.now) }
+    ensures events { IfOk result (λ r. r.events ≡ event_names domain.now) }
+    ensures objects { IfOk result (λ _. tables.new.objects ≡ bindings_of (objects_of domain.now problem.now)) }
+    ensures types { tables.new.types ≡ tables.old.types }
+    ensures predicates { tables.new.predicates ≡ tables.old.predicates }
+    ensures functions { tables.new.functions ≡ tables.old.functions }
+{
+    let rules = rule_names(alloc, domain, &*tables)?;
+    problem_forms(alloc, domain, problem, tables)?;
+    Ok(rules)
+}
+
 // The walk over the pair, and its tables.
-#[tactic(auto, using(crate::proofs::WalkLemmas::walking_pair))]
+#[tactic(auto, using(crate::proofs::WalkLemmas::walking))]
 fn pair(alloc: Global, domain: &Domain, problem: &Problem) -> Result<(Tables, Rules), TypeFault>
     ensures walks { Walks (type_faults domain.now problem.now) result }
     ensures types { IfOk result (λ t. t.0.types ≡ bindings_of domain.now.types) }
@@ -217,8 +299,7 @@ fn pair(alloc: Global, domain: &Domain, problem: &Problem) -> Result<(Tables, Ru
     ensures events { IfOk result (λ t. t.1.events ≡ event_names domain.now) }
 {
     let mut tables = declarations(alloc, domain)?;
-    let rules = rule_names(alloc, domain, &tables)?;
-    problem_forms(alloc, domain, problem, &mut tables)?;
+    let rules = rules_and_problem(alloc, domain, problem, &mut tables)?;
     Ok((tables, rules))
 }
 
