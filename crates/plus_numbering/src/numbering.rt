@@ -9,7 +9,7 @@ ghost use Rattle.plus_expansion.specs.Objects.{members_of, object_place, object_
 ghost use Rattle.plus_expansion.specs.Numbers.{ground_names, ground_labels, number_of, label_of};
 ghost use Rattle.plus_numbering.specs.Tables.{context, starts_from, list_numbers};
 ghost use Rattle.plus_expansion.specs.Counts.{first_over, name_counts};
-ghost use Rattle.plus_numbering.specs.Refusals.{RefusesCount};
+ghost use Rattle.plus_numbering.specs.Refusals.{IsOver, RefusesCount};
 
 use crate::extents::Extents;
 use crate::faults::GroundFault;
@@ -19,6 +19,7 @@ use crate::numbers::{kinds, number};
 use crate::starts::starts;
 use plus_expansion::Count;
 use plus_state::{AtomId, FluentId, Label};
+use plus_tree::Head;
 use plus_types::Typed;
 use plus_types::known::Declared;
 use std::alloc::{AllocError, Global};
@@ -42,6 +43,27 @@ pub struct Numbering<'a> {
     ghost fluent_kinds_are: { map (λ ks. ks.items) fluent_kinds.items ≡ map (λ h. list_numbers extents.names h.params) typed.now.domain.functions },
 }
 
+// Where the ground atoms or fluents of each of these predicates or functions begin, and the numbers of the lists
+// of the types of its parameters.
+fn starts_and_kinds(
+    alloc: Global,
+    extents: &Extents<'_>,
+    heads: &[Head],
+    kind: Count,
+    most: u32,
+) -> Result<(Vec<u32>, Vec<Vec<usize>>), GroundFault>
+    requires { most < 2 ^ 31 }
+    ensures counts { MatchResult result
+        (λ t. (t.0.items ≡ starts_from (context extents.now.typed.now) 0 heads.now)
+        × (length (ground_names (context extents.now.typed.now) heads.now) ≤ most))
+        (IsOver kind most (length (ground_names (context extents.now.typed.now) heads.now))) }
+    ensures kinds { IfOk result (λ t. map (λ ks. ks.items) t.1.items ≡ map (λ h. list_numbers extents.now.names h.params) heads.now) }
+{
+    let starts = starts(alloc, extents, heads, kind, most)?;
+    let kinds = kinds(alloc, extents, heads)?;
+    Ok((starts, kinds))
+}
+
 impl<'a> Numbering<'a> {
     /// Numbers the ground atoms and fluents of a pair. `TooMany` comes where there are more than
     /// 10,000 objects, else where there are more than 200,000 ground atoms, else where there are more
@@ -60,11 +82,21 @@ impl<'a> Numbering<'a> {
         }
         let extents = Extents::new(alloc, typed)?;
         let predicates = typed.domain.predicates.as_slice();
-        let atoms = starts(alloc, &extents, predicates, Count::Atoms, MOST_ATOMS)?;
+        let (atoms, atom_kinds) = starts_and_kinds(
+            alloc,
+            &extents,
+            predicates,
+            Count::Atoms,
+            MOST_ATOMS,
+        )?;
         let functions = typed.domain.functions.as_slice();
-        let fluents = starts(alloc, &extents, functions, Count::Fluents, MOST_FLUENTS)?;
-        let atom_kinds = kinds(alloc, &extents, predicates)?;
-        let fluent_kinds = kinds(alloc, &extents, functions)?;
+        let (fluents, fluent_kinds) = starts_and_kinds(
+            alloc,
+            &extents,
+            functions,
+            Count::Fluents,
+            MOST_FLUENTS,
+        )?;
         Ok(Numbering {
             typed,
             extents,

@@ -18,7 +18,7 @@ returns-in_err-atoms-clause-counts c =
     let few : length C.objects ≤ 10000 = omega (arith, c.len.ensures.len, ap length t.objects_are, c.if-len-gt-MOST_OBJECTS.false) in
     let n = ap (λ (u : Typed). length (ground_names (problem_context u.domain u.problem) c.as_slice-predicates.result.now)) c.in_ok-extents.ensures
     ∙ ap (λ hs. length (ground_names C hs)) c.as_slice-predicates.ensures in
-    rw (p.1, p.2) (refuses-atoms C c.in_err-atoms.field-0.0 few (subst (λ (k : ℕ). IsOver Atoms 200000 k c.in_err-atoms.field-0.0) n c.in_err-atoms.ensures))
+    rw (p.1, p.2) (refuses-atoms C c.in_err-atoms.field-0.0 few (subst (λ (k : ℕ). IsOver Atoms 200000 k c.in_err-atoms.field-0.0) n c.in_err-atoms.ensures.counts))
 
 pub returns-in_err-fluents-clause-counts : goal.returns-in_err-fluents-clause-counts
 returns-in_err-fluents-clause-counts c =
@@ -30,25 +30,25 @@ returns-in_err-fluents-clause-counts c =
     ∙ ap (λ hs. length (ground_names C hs)) c.as_slice-predicates.ensures in
     let n = ap (λ (u : Typed). length (ground_names (problem_context u.domain u.problem) c.as_slice-functions.result.now)) c.in_ok-extents.ensures
     ∙ ap (λ hs. length (ground_names C hs)) c.as_slice-functions.ensures in
-    let a : length (ground_names C t.domain.predicates) ≤ 200000 = omega (arith, m, c.in_ok-atoms.ensures.1) in
-    rw (p.1, p.2) (refuses-fluents C c.in_err-fluents.field-0.0 few a (subst (λ (k : ℕ). IsOver Fluents 50000 k c.in_err-fluents.field-0.0) n c.in_err-fluents.ensures))
+    let a : length (ground_names C t.domain.predicates) ≤ 200000 = omega (arith, m, c.in_ok-atoms.ensures.counts.1) in
+    rw (p.1, p.2) (refuses-fluents C c.in_err-fluents.field-0.0 few a (subst (λ (k : ℕ). IsOver Fluents 50000 k c.in_err-fluents.field-0.0) n c.in_err-fluents.ensures.counts))
 
 pub invariant_of-result-clause-atom_kinds_are : goal.invariant_of-result-clause-atom_kinds_are
 invariant_of-result-clause-atom_kinds_are c =
-    c.in_ok-atom_kinds.ensures ∙ ap (λ (hs : List Head). map (λ (h : Head). list_numbers c.in_ok-extents.extents.names h.params) hs) c.as_slice-predicates.ensures
+    c.in_ok-atoms.ensures.kinds ∙ ap (λ (hs : List Head). map (λ (h : Head). list_numbers c.in_ok-extents.extents.names h.params) hs) c.as_slice-predicates.ensures
 
 pub invariant_of-result-clause-fluent_kinds_are : goal.invariant_of-result-clause-fluent_kinds_are
 invariant_of-result-clause-fluent_kinds_are c =
-    c.in_ok-fluent_kinds.ensures ∙ ap (λ (hs : List Head). map (λ (h : Head). list_numbers c.in_ok-extents.extents.names h.params) hs) c.as_slice-functions.ensures
+    c.in_ok-fluents.ensures.kinds ∙ ap (λ (hs : List Head). map (λ (h : Head). list_numbers c.in_ok-extents.extents.names h.params) hs) c.as_slice-functions.ensures
 
 pub invariant_of-result-clause-atoms_are : goal.invariant_of-result-clause-atoms_are
 invariant_of-result-clause-atoms_are c =
     let t = c.args.typed.now in
-    c.in_ok-atoms.ensures.0 ∙ ap (λ (u : Typed). starts_from (problem_context u.domain u.problem) 0 c.as_slice-predicates.result.now) c.in_ok-extents.ensures
+    c.in_ok-atoms.ensures.counts.0 ∙ ap (λ (u : Typed). starts_from (problem_context u.domain u.problem) 0 c.as_slice-predicates.result.now) c.in_ok-extents.ensures
     ∙ ap (λ hs. starts_from (problem_context t.domain t.problem) 0 hs) c.as_slice-predicates.ensures
 
 pub invariant_of-result-clause-fluents_are : goal.invariant_of-result-clause-fluents_are
 invariant_of-result-clause-fluents_are c =
     let t = c.args.typed.now in
-    c.in_ok-fluents.ensures.0 ∙ ap (λ (u : Typed). starts_from (problem_context u.domain u.problem) 0 c.as_slice-functions.result.now) c.in_ok-extents.ensures
+    c.in_ok-fluents.ensures.counts.0 ∙ ap (λ (u : Typed). starts_from (problem_context u.domain u.problem) 0 c.as_slice-functions.result.now) c.in_ok-extents.ensures
     ∙ ap (λ hs. starts_from (problem_context t.domain t.problem) 0 hs) c.as_slice-functions.ensures
