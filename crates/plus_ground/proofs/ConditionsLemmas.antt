@@ -1,6 +1,7 @@
 -- Ground conditions, member by member.
-use Rattle.std.proofs.Common.{◌≡◌, ℕ, zero, suc, ◌<◌, ◌≤◌, Bool, true, false, not, List, [], ◌∷◌, ◌∙◌, ap, refl, sym, subst, length, map, take, get_or, All, Vec, Global, arith}
-use Rattle.std.proofs.lemmas.List.{take_all}
+use Rattle.std.proofs.Common.{◌≡◌, ℕ, zero, suc, ◌<◌, ◌≤◌, ◌+◌, Bool, true, false, not, List, [], ◌∷◌, ◌++◌, ◌∙◌, ap, refl, sym, subst, length, map, take, get_or, All, Vec, Global, arith, add-one}
+use Rattle.std.proofs.Math.Seq.{take-suc}
+use Rattle.std.proofs.lemmas.List.{map-append, take_all}
 use Rattle.plus_fraction.specs.Fraction.{Fraction}
 use Rattle.plus_literal.specs.Value.{LiteralFits}
 use Rattle.plus_model.specs.Terms.{Always, Condition}
@@ -101,6 +102,17 @@ exists_returned c env positive cond all asks vs f s es i forms result w a k h l 
     r ∙ joined_choices (λ e. condition_meant c e positive f) all es (environments c vs env) i forms h l e
     ∙ ap (λ b. joined b (map (λ e. condition_meant c e positive f) (environments c vs env))) (a ∙ ap (signed positive) (k ∙ ap asks_all w) ∙ signed_false positive)
     ∙ sym (ap (condition_meant c env positive) w)
+
+-- one more form is made for one more choice
+pub mapped_more :
+    {A B X : Type 0} (v : A → B) (f : X → B) (before after : List A) (new : A) (xs : List X) (i : ℕ) (x : X)
+    → i < length xs → x ≡ get_or xs i x
+    → map v before ≡ map f (take i xs) → after ≡ before ++ new ∷ [] → v new ≡ f x
+    → map v after ≡ map f (take (i + 1) xs)
+mapped_more v f before after new xs i x h m b a n =
+    let next : take (i + 1) xs ≡ take i xs ++ x ∷ [] = rw add-one (take-suc xs i x h ∙ ap (λ y. take i xs ++ y ∷ []) (sym m)) in
+    ap (map v) a ∙ map-append v before (new ∷ []) ∙ ap (λ ys. ys ++ v new ∷ []) b
+    ∙ ap (λ y. map f (take i xs) ++ y ∷ []) n ∙ sym (map-append f (take i xs) (x ∷ [])) ∙ ap (map f) (sym next)
 
 -- the literals of a member fit
 pub member_fits :

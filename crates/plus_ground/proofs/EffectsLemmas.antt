@@ -1,6 +1,5 @@
 -- Ground effects, member by member.
-use Rattle.std.proofs.Common.{◌≡◌, ℕ, zero, suc, ◌<◌, ◌≤◌, ◌+◌, List, [], ◌∷◌, ◌++◌, ◌∙◌, ap, refl, sym, subst, length, map, take, get_or, All, arith, add-one, append_assoc}
-use Rattle.std.proofs.Math.Seq.{take-suc}
+use Rattle.std.proofs.Common.{◌≡◌, ℕ, zero, suc, ◌<◌, ◌≤◌, ◌+◌, List, [], ◌∷◌, ◌++◌, ◌∙◌, ap, refl, sym, subst, length, take, get_or, All, arith}
 use Rattle.std.proofs.lemmas.List.{take_all}
 use Rattle.std.specs.List.{flat_map}
 use Rattle.plus_fraction.specs.Fraction.{Fraction}
@@ -16,25 +15,6 @@ use Rattle.plus_expansion.specs.Environments.{Environment, environments}
 use Rattle.plus_expansion.specs.Literals.{effect_literals, effects_literals}
 use Rattle.plus_expansion.specs.Expansion.{effects_meant, all_effects_meant}
 use Rattle.plus_ground.proofs.ExpressionsLemmas.{all_left, all_right}
-
-map_append : {A B : Type 0} (f : A → B) (xs ys : List A) → map f (xs ++ ys) ≡ map f xs ++ map f ys
-map_append f [] ys = refl
-map_append f (x ∷ xs) ys = ap (λ zs. f x ∷ zs) (map_append f xs ys)
-
--- one more item is built for one more member
-pub mapped_more :
-    {A B X : Type 0} (v : A → B) (f : X → B) (start : List B) (before after : List A) (new : A) (xs : List X) (i : ℕ) (x : X)
-    → i < length xs → x ≡ get_or xs i x
-    → map v before ≡ start ++ map f (take i xs) → after ≡ before ++ new ∷ [] → v new ≡ f x
-    → map v after ≡ start ++ map f (take (i + 1) xs)
-mapped_more v f start before after new xs i x h m b a n =
-    let next : take (i + 1) xs ≡ take i xs ++ x ∷ [] = rw add-one (take-suc xs i x h ∙ ap (λ y. take i xs ++ y ∷ []) (sym m)) in
-    ap (map v) a ∙ map_append v before (new ∷ []) ∙ ap (λ ys. ys ++ v new ∷ []) b ∙ append_assoc start (map f (take i xs)) (v new ∷ [])
-    ∙ ap (λ y. start ++ (map f (take i xs) ++ y ∷ [])) n ∙ ap (λ ys. start ++ ys) (sym (map_append f (take i xs) (x ∷ []))) ∙ ap (λ ys. start ++ map f ys) (sym next)
-
--- all items are built
-pub mapped_end : {B X : Type 0} (f : X → B) (start items : List B) (xs : List X) (i : ℕ) → length xs ≤ i → items ≡ start ++ map f (take i xs) → items ≡ start ++ map f xs
-mapped_end f start items xs i h e = e ∙ ap (λ ys. start ++ map f ys) (take_all i xs h)
 
 -- all members are added
 pub given_end :

@@ -1,7 +1,7 @@
 -- What variables stand for.
 use Rattle.std.proofs.Common.{◌≡◌, ℕ, ◌≤◌, ◌<◌, ◌+◌, ◌-◌, Bool, true, false, cond, List, [], ◌∷◌, ◌++◌, ◌∙◌, ap, refl, sym, length, take, drop, get_or, None, Some, Option, nat_lt, arith, add-one, append_assoc, map, suc}
 use Rattle.std.proofs.Math.Seq.{take-suc}
-use Rattle.std.proofs.lemmas.List.{append-nil, length-append, map-append, take_all}
+use Rattle.std.proofs.lemmas.List.{append-nil, map-append, take_all}
 use Rattle.std.proofs.lemmas.Bool.Decides.{nat_tests}
 use Rattle.std.proofs.lemmas.Grind.{flat_map-append}
 use Rattle.std.specs.List.{flat_map}
@@ -72,29 +72,6 @@ pub all_made :
 all_made f c vars rest first env name kind members i start after h g n k m t s r =
     let all : flat_map (λ o. environments c rest (env ++ (name, o) ∷ [])) (take i members) ≡ environments c vars env = all_given c vars rest first env name kind members i [] _ h g n k m t refl r in
     s ∙ ap (λ ys. start ++ ys) (sym (map_given f (λ o. environments c rest (env ++ (name, o) ∷ [])) (take i members)) ∙ ap (map f) all)
-
--- one more member makes its own
-pub more_made :
-    {A : Type 0} (f : Environment → A) (c : Context) (rest : List TypedName) (env inner : Environment) (name : List ℕ) (start before after : List A) (members : List ℕ) (i o : ℕ)
-    → i < length members → o ≡ get_or members i o → inner ≡ env ++ (name, o) ∷ []
-    → before ≡ start ++ flat_map (λ o. map f (environments c rest (env ++ (name, o) ∷ []))) (take i members)
-    → after ≡ before ++ map f (environments c rest inner)
-    → after ≡ start ++ flat_map (λ o. map f (environments c rest (env ++ (name, o) ∷ []))) (take (i + 1) members)
-more_made f c rest env inner name start before after members i o h m n b a =
-    more_given (λ o. map f (environments c rest (env ++ (name, o) ∷ []))) start before after members i o h m b
-    (a ∙ ap (λ e. before ++ map f (environments c rest e)) n)
-
--- the innermost variable goes again
-pub unbound : (env inner outer : Environment) (b : List ℕ × ℕ) → inner ≡ env ++ b ∷ [] → outer ≡ take (length inner - 1) inner → outer ≡ env
-unbound env inner outer b n t = t ∙ ap (λ (e : Environment). take (length e - 1) e) n ∙ ap (λ (k : ℕ). take k (env ++ b ∷ [])) (one_less env) ∙ before_last env
-  where
-    one_less : (xs : Environment) → length (xs ++ b ∷ []) - 1 ≡ length xs
-    one_less [] = refl
-    one_less (x ∷ xs) = let e : length (xs ++ b ∷ []) - 1 ≡ length xs = one_less xs in let l : length (xs ++ b ∷ []) ≡ length xs + 1 = length-append xs (b ∷ []) in omega (arith, l)
-
-    before_last : (xs : Environment) → take (length xs) (xs ++ b ∷ []) ≡ xs
-    before_last [] = refl
-    before_last (x ∷ xs) = ap (λ ys. x ∷ ys) (before_last xs)
 
 -- the number of a name with the objects of a use is that of the use
 pub atom_named :

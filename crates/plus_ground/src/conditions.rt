@@ -69,16 +69,6 @@ fn asks_all(cond: &CondTree) -> bool
     }
 }
 
-// How many members a condition has besides those of a quantifier: the room that the list of their forms
-// begins with.
-fn members_at_once(cond: &CondTree) -> usize {
-    match &cond.node {
-        CondNode::All(members) | CondNode::Any(members) => members.len(),
-        CondNode::Imply(_, _) => 2,
-        _ => 0,
-    }
-}
-
 // Whether two terms are the same object, or are not.
 fn same<Q: FromParts>(
     alloc: Global,
@@ -135,20 +125,22 @@ pub fn condition<Q: FromParts>(
         ≡ condition_meant (context numbering.now) env.now positive cond.now) }
 {
     let all = signed(positive, asks_all(cond));
-    let mut forms = Vec::with_capacity(alloc, members_at_once(cond))?;
     match &cond.node {
         CondNode::All(members) | CondNode::Any(members) => {
+            let mut forms = Vec::with_capacity(alloc, members.len())?;
             'members: for member in members {
                 forms.push(condition(alloc, numbering, env, positive, member)?)?;
             }
             Ok(joined(all, forms))
         }
         CondNode::Imply(premise, conclusion) => {
+            let mut forms = Vec::with_capacity(alloc, 2)?;
             forms.push(condition(alloc, numbering, env, !positive, premise)?)?;
             forms.push(condition(alloc, numbering, env, positive, conclusion)?)?;
             Ok(joined(all, forms))
         }
         CondNode::ForAll(vars, body) | CondNode::Exists(vars, body) => {
+            let mut forms = Vec::new(alloc);
             'choices: for inner in &environments(alloc, numbering, vars.as_slice(), env)? {
                 forms.push(condition(alloc, numbering, inner, positive, body)?)?;
             }

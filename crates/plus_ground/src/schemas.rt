@@ -4,10 +4,10 @@ ghost use Rattle.std.specs.Prelude.{◌≡◌, [], ◌++◌, All, IfOk, OnOk, ma
 ghost use Rattle.std.specs.List.{flat_map};
 ghost use Rattle.plus_numbering.specs.Numbered.{context};
 ghost use Rattle.plus_literal.specs.Value.{LiteralFits};
-ghost use Rattle.plus_state.specs.View.{action_of, event_of, process_of};
+ghost use Rattle.plus_state.specs.View.{action_of, effect_of, event_of, process_of};
 ghost use Rattle.plus_expansion.specs.Environments.{environments};
-ghost use Rattle.plus_expansion.specs.Literals.{schema_literals};
-ghost use Rattle.plus_expansion.specs.Expansion.{instance_label, action_meant, event_meant, process_meant, instances_of};
+ghost use Rattle.plus_expansion.specs.Literals.{effect_literals, schema_literals};
+ghost use Rattle.plus_expansion.specs.Expansion.{action_meant, effects_meant, event_meant, process_meant, instances_of};
 
 use crate::conditions::condition;
 use crate::effects::effects;
@@ -15,23 +15,9 @@ use crate::environments::{Environment, fewest, have_objects};
 use crate::rates::rates;
 use plus_literal::FromParts;
 use plus_numbering::Numbering;
-use plus_state::{Action, Event, Label, Process};
+use plus_state::{Action, Effect, Event, Process};
 use plus_tree::{EffectNode, EffectTree, Schema, TypedName};
 use std::alloc::{AllocError, Global};
-
-// The label of an instance: the name of the schema, and those of its objects.
-#[inline(always)]
-fn label(
-    alloc: Global,
-    numbering: &Numbering,
-    schema: &Schema,
-    env: &Environment,
-) -> Result<Label, AllocError>
-    ensures { IfOk result (λ l. l
-        ≡ instance_label (context numbering.now) schema.now env.now) }
-{
-    env.label(alloc, numbering, schema.name.name.bytes())
-}
 
 // How many writes an effect has where each of its members is one: the room that their list begins with.
 fn writes_at_once(effect: &EffectTree) -> usize {
@@ -40,6 +26,22 @@ fn writes_at_once(effect: &EffectTree) -> usize {
         EffectNode::When(_, leaves) => leaves.as_slice().len(),
         EffectNode::ForAll(_, _) | EffectNode::Leaf(_) => 1,
     }
+}
+
+// The ground writes of an effect.
+fn writes<Q: FromParts>(
+    alloc: Global,
+    numbering: &Numbering,
+    env: &Environment,
+    effect: &EffectTree,
+) -> Result<Vec<Effect<Q>>, AllocError>
+    requires { All (LiteralFits Q.fits) (effect_literals effect.now) }
+    ensures { IfOk result (λ ws. map (effect_of Q.value) ws.items
+        ≡ effects_meant (context numbering.now) env.now effect.now) }
+{
+    let mut writes = Vec::with_capacity(alloc, writes_at_once(effect))?;
+    effects(alloc, numbering, env, effect, &mut writes)?;
+    Ok(writes)
 }
 
 /// The ground action of an action in an environment of its parameters.
@@ -53,14 +55,13 @@ pub fn action<Q: FromParts>(
     ensures { IfOk result (λ a. action_of Q.value a
         ≡ action_meant (context numbering.now) schema.now env.now) }
 {
-    let label = label(alloc, numbering, schema, env)?;
+    let label = env.label(alloc, numbering, schema.name.name.bytes())?;
     let condition = condition(alloc, numbering, env, true, &schema.condition)?;
-    let mut writes = Vec::with_capacity(alloc, writes_at_once(&schema.effect))?;
-    effects(alloc, numbering, env, &schema.effect, &mut writes)?;
+    let effects = writes(alloc, numbering, env, &schema.effect)?;
     Ok(Action {
         label,
         condition,
-        effects: writes,
+        effects,
     })
 }
 
@@ -74,14 +75,13 @@ fn event<Q: FromParts>(
     ensures { IfOk result (λ e. event_of Q.value e
         ≡ event_meant (context numbering.now) schema.now env.now) }
 {
-    let label = label(alloc, numbering, schema, env)?;
+    let label = env.label(alloc, numbering, schema.name.name.bytes())?;
     let condition = condition(alloc, numbering, env, true, &schema.condition)?;
-    let mut writes = Vec::with_capacity(alloc, writes_at_once(&schema.effect))?;
-    effects(alloc, numbering, env, &schema.effect, &mut writes)?;
+    let effects = writes(alloc, numbering, env, &schema.effect)?;
     Ok(Event {
         label,
         condition,
-        effects: writes,
+        effects,
     })
 }
 
@@ -95,7 +95,7 @@ fn process<Q: FromParts>(
     ensures { IfOk result (λ p. process_of Q.value p
         ≡ process_meant (context numbering.now) schema.now env.now) }
 {
-    let label = label(alloc, numbering, schema, env)?;
+    let label = env.label(alloc, numbering, schema.name.name.bytes())?;
     let condition = condition(alloc, numbering, env, true, &schema.condition)?;
     let mut slopes = Vec::with_capacity(alloc, writes_at_once(&schema.effect))?;
     rates(alloc, numbering, env, &schema.effect, &mut slopes)?;

@@ -1,5 +1,6 @@
 use Rattle.std.proofs.Common.{◌≡◌, ◌+◌, ◌∙◌, All, ap, sym, rules, refl, inl, inr}
 use Rattle.plus_model.specs.Terms.{Atom}
+use Rattle.plus_state.specs.View.{condition_of}
 use Rattle.plus_tree.specs.Cond.{cond_size, conds_size, conds_of}
 use Rattle.plus_types.specs.Faults.{problem_context}
 use Rattle.plus_literal.specs.Value.{LiteralFits}
@@ -7,8 +8,13 @@ use Rattle.plus_expansion.specs.Environments.{environments, atom_number}
 use Rattle.plus_expansion.specs.Expansion.{condition_meant}
 use Rattle.plus_expansion.specs.Literals.{expression_literals, condition_literals, conditions_literals}
 use Rattle.plus_ground.proofs.ExpressionsLemmas.{all_left, all_right}
-use Rattle.plus_ground.proofs.ConditionsLemmas.{member_fits, member_smaller, all_returned, any_returned, forall_returned, exists_returned}
+use Rattle.plus_ground.proofs.ConditionsLemmas.{mapped_more, member_fits, member_smaller, all_returned, any_returned, forall_returned, exists_returned}
 use Rattle.plus_ground.proofs.conditions.+condition.Goals as goal
+
+pub condition-requires : goal.condition-requires
+condition-requires g t c κs within =
+    let h = rw (← c.cond.view_is, c.in-Imply.is) at c.requires in
+    (search rules, (within, rw c.deref.ensures (all_left (LiteralFits g.Q.Exact.fits) (condition_literals c.in-Imply.premise.value) (condition_literals c.in-Imply.conclusion.value) h)))
 
 pub condition-requires-in-Imply : goal.condition-requires-in-Imply
 condition-requires-in-Imply g t c κs within =
@@ -54,6 +60,13 @@ condition-requires-in-members g t c κs within =
     ] in
     let smaller = member_smaller c.deref-member-items.result.now c.members.member-index c.member-item.result c.members-test.true c.member-item.is in
     (search rules, (within, member_fits g.Q.Exact.fits c.deref-member-items.result.now c.members.member-index c.member-item.result c.members-test.true c.member-item.is h))
+
+pub choices-preserved : goal.choices-preserved
+choices-preserved g t c =
+    let k = problem_context c.args.numbering.now.typed.now.domain c.args.numbering.now.typed.now.problem in
+    mapped_more (condition_of g.Q.Exact.value) (λ e. condition_meant k e c.args.positive c.in-ForAll.body.value) c.choices.forms.items c.push-in-choices.new.self.items c.in_ok-condition-in-ForAll.field-0
+    c.deref-inner-items.result.now c.choices.inner-index c.inner-item.result c.choices-test.true c.inner-item.is c.choices.invariant c.in_ok-push-in-ForAll.ensures.items
+    (c.in_ok-condition-in-ForAll.ensures ∙ ap (λ f. condition_meant k c.inner-item.result c.args.positive f) c.deref-in-choices.ensures)
 
 pub returns-after-members : goal.returns-after-members
 returns-after-members g t c =

@@ -6,5 +6,5 @@ use Rattle.plus_ground.proofs.schemas.action.Goals as goal
 pub condition-requires : goal.condition-requires
 condition-requires g c = all_left (LiteralFits g.Q.Exact.fits) (condition_literals c.args.schema.now.condition) (effect_literals c.args.schema.now.effect) c.requires
 
-pub effects-requires : goal.effects-requires
-effects-requires g c = all_right (LiteralFits g.Q.Exact.fits) (condition_literals c.args.schema.now.condition) (effect_literals c.args.schema.now.effect) c.requires
+pub writes-requires : goal.writes-requires
+writes-requires g c = all_right (LiteralFits g.Q.Exact.fits) (condition_literals c.args.schema.now.condition) (effect_literals c.args.schema.now.effect) c.requires
