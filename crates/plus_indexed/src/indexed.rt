@@ -110,6 +110,20 @@ fn copied_processes(
     }
 }
 
+// Both lists once more.
+fn copied_lists(
+    alloc: Global,
+    events: &Option<Vec<EventId>>,
+    processes: &Option<Waiting>,
+) -> Result<(Option<Vec<EventId>>, Option<Waiting>), AllocError>
+    ensures events { IfOk result (λ r. option_map (λ w. event_numbers w.items) r.0 ≡ option_map (λ w. event_numbers w.items) events.now) }
+    ensures processes { IfOk result (λ r. r.1 ≡ processes.now) }
+{
+    let events = copied_events(alloc, events)?;
+    let processes = copied_processes(alloc, processes)?;
+    Ok((events, processes))
+}
+
 impl<Q: Exact> Indexed<Q> {
     /// A timeline for this problem, and the index of it: the first entry, at time 0. `happenings`
     /// entries are allowed.
@@ -261,12 +275,15 @@ impl<Q: Exact> Indexed<Q> {
     pub fn copy(&self, alloc: Global) -> Result<Indexed<Q>, AllocError>
         ensures { IfOk result (λ t. t ≡ self.now) }
     {
+        let (events, processes) = copied_lists(alloc, &self.events, &self.processes)?;
+        let readers = self.readers.copy(alloc)?;
+        let timeline = self.timeline.copy(alloc)?;
         Ok(Indexed {
             alloc,
-            timeline: self.timeline.copy(alloc)?,
-            readers: self.readers.copy(alloc)?,
-            events: copied_events(alloc, &self.events)?,
-            processes: copied_processes(alloc, &self.processes)?,
+            timeline,
+            readers,
+            events,
+            processes,
             numbers: Vec::new(alloc),
             listed: Vec::new(alloc),
             room: no_room(alloc),

@@ -1,5 +1,5 @@
 -- The states of an entry where changes are noted and made.
-use Rattle.std.proofs.Common.{◌≡◌, List, [], length, ap, ap₂, sym, subst, ◌∙◌}
+use Rattle.std.proofs.Common.{◌≡◌, ℕ, List, [], length, ap, ap₂, sym, subst, ◌∙◌}
 use Rattle.std.specs.Prelude.{Bool, Option, Some, None, IfSome, option_map, Result, Ok, Err, OnErr}
 use Rattle.plus_fraction.specs.Fraction.{Fraction}
 use Rattle.plus_model.specs.Terms.{State}
@@ -9,7 +9,7 @@ use Rattle.plus_state.proofs.PatchLemmas.{same_atoms, same_fluents}
 use Rattle.plus_timeline.specs.Undo.{undone, recalled, root_at, Notes}
 use Rattle.plus_timeline.specs.EntryStates.{EntryView, LedBy, KeepsEntry, IsReached, Leads}
 use Rattle.plus_timeline.proofs.Entries.{ahead_on}
-use Rattle.plus_timeline.proofs.Roots.{joined, noted_root, stepped_root, entered_root, noted_in, inside_after, way_within, way_leads}
+use Rattle.plus_timeline.proofs.Roots.{joined, noted_root, stepped_root, noted_in, inside_after, way_within, way_leads}
 
 -- what was changed since the arrival is forgotten, and nothing was changed
 pub kept_noted : (arrival state : State) (past past' : Option Changes) (ahead : Option State) (c : Changes) (old new : Option Changes) → KeepsEntry arrival past state ahead old → past' ≡ None → Within (length state.atoms) (length state.fluents) c → Notes state c old new → KeepsEntry arrival past' state ahead new
@@ -21,10 +21,6 @@ kept_noted arrival state past past' ahead c old new h e w n = record {
   };
   inside = noted_in state c w old new h.inside n;
 }
-
--- the same, and what was changed is kept
-pub kept_here : (arrival state : State) (past : Option Changes) (ahead : Option State) (c : Changes) (old new : Option Changes) → KeepsEntry arrival past state ahead old → Within (length state.atoms) (length state.fluents) c → Notes state c old new → KeepsEntry arrival past state ahead new
-kept_here arrival state past ahead c old new h w n = record { led = h.led; inside = noted_in state c w old new h.inside n }
 
 -- the changes that are taken out lead from the arrival to the state now
 pub taken_leads : (arrival state t : State) (past taken : Option Changes) (ahead : Option State) → LedBy arrival past state ahead → taken ≡ past → t ≡ state → IfSome taken (λ p. Leads arrival p t)
@@ -44,37 +40,50 @@ module _ (s b a : State) (old : Option Changes) (v : EntryView) (p : record { st
       ap₂ (λ (x : TrailView) (r : Option State). record { state = x.state; before = x.before; arrival = a; root = r }) q (stepped_root s c w t.state old new (ap (λ x. x.state) q) n)
       ∙ ap (λ (e : EntryView). record e { state = patched e.state c; before = e.state }) p
 
+-- the step to the next entry: its literals, and what moves on the way
+abbrev pub step_of : Changes → Changes → Changes
+step_of literals moves = record { atoms = literals.atoms; fluents = moves.fluents }
+
+pub step_in : (m n : ℕ) (literals moves : Changes) → Within m n literals → Within m n moves → Within m n (step_of literals moves)
+step_in m n literals moves h g = record { atoms_in = h.atoms_in; fluents_in = g.fluents_in }
+
+-- so do they fit the state that the moves lead to
+pub literals_in : (s : State) (moves literals : Changes) → Within (length s.atoms) (length s.fluents) literals → Within (length (patched s moves).atoms) (length (patched s moves).fluents) literals
+literals_in s moves literals w =
+    subst (λ m. Within m (length (patched s moves).fluents) literals) (sym (same_atoms s moves))
+    (subst (λ m. Within (length s.atoms) m literals) (sym (same_fluents s moves)) w)
+
 -- what the way to the next entry and its literals come to
-entered : (s ahead : State) (moves literals : Changes) → IsReached s moves ahead → literals.fluents ≡ [] → patched s (record { atoms = literals.atoms; fluents = moves.fluents }) ≡ patched (patched s moves) literals
+entered : (s ahead : State) (moves literals : Changes) → IsReached s moves ahead → literals.fluents ≡ [] → patched s (step_of literals moves) ≡ patched (patched s moves) literals
 entered s ahead moves literals r o =
     ap₂ (λ (x : List Bool) (y : List (Option Fraction)). record { atoms = x; fluents = y })
     (ap (patched_list literals.atoms) (sym r.atoms ∙ ap (λ (x : State). x.atoms) r.is))
     (sym (ap (λ l. patched_list l (patched s moves).fluents) o))
 
 -- the next entry is begun
-module _ (s b a : State) (old mid new : Option Changes) (v : EntryView) (p : record { state = s; before = b; arrival = a; root = root_at s old } ≡ v) (t : TrailView) (arrived ahead : State) (moves literals : Changes) (r : IsReached s moves ahead) (o : literals.fluents ≡ []) (w : Within (length s.atoms) (length s.fluents) literals) (n : Notes s moves old mid) (k : Notes s literals mid new) (e : arrived ≡ patched s moves) (q : t ≡ record { state = patched s (record { atoms = literals.atoms; fluents = moves.fluents }); before = s }) where
+module _ (s b a : State) (old new : Option Changes) (v : EntryView) (p : record { state = s; before = b; arrival = a; root = root_at s old } ≡ v) (t : TrailView) (arrived ahead : State) (moves literals : Changes) (r : IsReached s moves ahead) (o : literals.fluents ≡ []) (w : Within (length s.atoms) (length s.fluents) literals) (n : Notes s (step_of literals moves) old new) (e : arrived ≡ patched s moves) (q : t ≡ record { state = patched s (step_of literals moves); before = s }) where
+  inside : Within (length s.atoms) (length s.fluents) (step_of literals moves)
+  inside = step_in (length s.atoms) (length s.fluents) literals moves w r.rises.within
+
   there : t.state ≡ patched (patched s moves) literals
   there = ap (λ x. x.state) q ∙ entered s ahead moves literals r o
 
   pub view_entered : ◌≡◌ {A = EntryView} (record { state = t.state; before = t.before; arrival = arrived; root = root_at t.state new }) (record { state = patched (patched v.state moves) literals; before = v.state; arrival = patched v.state moves; root = v.root })
   view_entered =
-      let root = entered_root s t.state moves literals old mid new r.rises.within w n k there in
+      let root = stepped_root s (step_of literals moves) inside t.state old new (ap (λ x. x.state) q) n in
       let entry : State → State → State → Option State → EntryView = λ x y z u. record { state = x; before = y; arrival = z; root = u } in
       let next : EntryView → EntryView = λ x. record { state = patched (patched x.state moves) literals; before = x.state; arrival = patched x.state moves; root = x.root } in
       (λ i. entry (there i) (q i).before (e i) (root i)) ∙ ap next p
 
-  pub kept_entered : (past : Changes) (ahead' : State) → past ≡ literals → ahead' ≡ patched ahead literals → IfSome old (λ u. Within (length s.atoms) (length s.fluents) u) → KeepsEntry arrived (Some past) t.state (Some ahead') new
-  kept_entered past ahead' f g h = record {
+  pub kept_entered : (past : Changes) (held held' : Option State) → past ≡ literals → held ≡ Some ahead → held' ≡ option_map (λ x. patched x literals) held → IfSome old (λ u. Within (length s.atoms) (length s.fluents) u) → KeepsEntry arrived (Some past) t.state held' new
+  kept_entered past held held' f i g h = record {
     led = record {
       is = there ∙ ap (λ x. patched x literals) (sym e) ∙ ap (patched arrived) (sym f);
       within = subst (λ x. Within (length x.atoms) (length x.fluents) past) (sym e)
-          (subst (λ m. Within m (length (patched s moves).fluents) past) (sym (same_atoms s moves))
-          (subst (λ m. Within (length s.atoms) m past) (sym (same_fluents s moves))
-          (subst (λ c. Within (length s.atoms) (length s.fluents) c) (sym f) w)));
-      same = g ∙ ap (λ x. patched x literals) r.is ∙ sym there;
+          (subst (λ c. Within (length (patched s moves).atoms) (length (patched s moves).fluents) c) (sym f) (literals_in s moves literals w));
+      same = subst (λ o. IfSome o (λ x. x ≡ t.state)) (sym (g ∙ ap (option_map (λ x. patched x literals)) i)) (ap (λ x. patched x literals) r.is ∙ sym there);
     };
-    inside = inside_after s t.state (record { atoms = literals.atoms; fluents = moves.fluents }) new (ap (λ x. x.state) q)
-        (noted_in s literals w mid new (noted_in s moves r.rises.within old mid h n) k);
+    inside = inside_after s t.state (step_of literals moves) new (ap (λ x. x.state) q) (noted_in s (step_of literals moves) inside old new h n);
   }
 
 -- ---- back to the root and on to another state

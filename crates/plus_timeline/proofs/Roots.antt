@@ -1,14 +1,14 @@
 -- The root of a state stays where what is changed is noted.
-use Rattle.std.proofs.Common.{◌≡◌, ℕ, zero, suc, List, [], ◌∷◌, ◌++◌, length, get_or, refl, ap, ap₂, sym, subst, ◌∙◌, append_assoc}
+use Rattle.std.proofs.Common.{◌≡◌, ℕ, zero, suc, List, [], ◌∷◌, ◌++◌, length, get_or, refl, ap, ap₂, sym, subst, ◌∙◌}
 use Rattle.std.specs.Prelude.{Bool, false, slice_get, unwrap_or, Option, Some, None, IfSome}
 use Rattle.plus_fraction.specs.Fraction.{Fraction}
 use Rattle.plus_model.specs.Terms.{State}
 use Rattle.plus_model.specs.Value.{atom_of, fluent_of}
 use Rattle.plus_state.specs.Changes.{Changes, patched, Within}
 use Rattle.plus_state.proofs.PatchLemmas.{same_atoms, same_fluents}
-use Rattle.plus_state.proofs.OpenLemmas.{in_append, patched_append}
+use Rattle.plus_state.proofs.OpenLemmas.{in_append}
 use Rattle.plus_timeline.specs.Undo.{undone, recalled, root_at, Notes}
-use Rattle.plus_timeline.proofs.Undoing.{undone-append, recalled_in, recalled-append, back_list, still_list, way_list}
+use Rattle.plus_timeline.proofs.Undoing.{undone-append, recalled_in, back_list, still_list, way_list}
 
 get_is : {A : Type 0} (xs : List A) (k : ℕ) (d : A) → unwrap_or (slice_get xs k) d ≡ get_or xs k d
 get_is [] k d = refl
@@ -36,14 +36,8 @@ within_joined m n c d h g = record {
 pub within_recalled : (m n : ℕ) (s : State) (c : Changes) → Within m n c → Within m n (recalled s c)
 within_recalled m n s c h = record { atoms_in = recalled_in m (atom_of s) c.atoms h.atoms_in; fluents_in = recalled_in n (fluent_of s) c.fluents h.fluents_in }
 
-recalled_joined : (s : State) (c d : Changes) → recalled s (joined c d) ≡ joined (recalled s c) (recalled s d)
-recalled_joined s c d = ap₂ (λ (a : List (ℕ × Bool)) (f : List (ℕ × Option Fraction)). record { atoms = a; fluents = f }) (recalled-append (atom_of s) c.atoms d.atoms) (recalled-append (fluent_of s) c.fluents d.fluents)
-
 undone_joined : (s : State) (c d : Changes) → undone s (joined c d) ≡ undone (undone s d) c
 undone_joined s c d = ap₂ state_of (undone-append c.atoms d.atoms s.atoms) (undone-append c.fluents d.fluents s.fluents)
-
-patched_joined : (s : State) (c d : Changes) → patched s (joined c d) ≡ patched (patched s c) d
-patched_joined s c d = ap₂ state_of (patched_append c.atoms d.atoms s.atoms) (patched_append c.fluents d.fluents s.fluents)
 
 module _ (s : State) (c : Changes) (i : Within (length s.atoms) (length s.fluents) c) where
   back : undone (patched s c) (recalled s c) ≡ s
@@ -74,23 +68,6 @@ module _ (s : State) (c : Changes) (i : Within (length s.atoms) (length s.fluent
   noted_in (Some old) (Some new) h n =
       subst (λ u. Within (length s.atoms) (length s.fluents) u) (sym n)
       (within_joined (length s.atoms) (length s.fluents) old (recalled s c) h (within_recalled (length s.atoms) (length s.fluents) s c i))
-
--- two changes were noted, and made one after the other
-notes_both : (s : State) (c d : Changes) (old mid new : Option Changes) → Notes s c old mid → Notes s d mid new → Notes s (joined c d) old new
-notes_both s c d None None None n k = tt
-notes_both s c d None None (Some new) n k = k
-notes_both s c d None (Some mid) new n k = absurd n
-notes_both s c d (Some old) None new n k = absurd n
-notes_both s c d (Some old) (Some mid) None n k = k
-notes_both s c d (Some old) (Some mid) (Some new) n k =
-    k ∙ ap (λ u. joined u (recalled s d)) n
-    ∙ ap₂ (λ (a : List (ℕ × Bool)) (f : List (ℕ × Option Fraction)). record { atoms = a; fluents = f })
-    (append_assoc old.atoms (recalled s c).atoms (recalled s d).atoms) (append_assoc old.fluents (recalled s c).fluents (recalled s d).fluents)
-    ∙ ap (joined old) (sym (recalled_joined s c d))
-
-pub entered_root : (s t : State) (c d : Changes) (old mid new : Option Changes) → Within (length s.atoms) (length s.fluents) c → Within (length s.atoms) (length s.fluents) d → Notes s c old mid → Notes s d mid new → t ≡ patched (patched s c) d → root_at t new ≡ root_at s old
-entered_root s t c d old mid new i j n k e =
-    stepped_root s (joined c d) (within_joined (length s.atoms) (length s.fluents) c d i j) t old new (e ∙ sym (patched_joined s c d)) (notes_both s c d old mid new n k)
 
 -- the way to another state with the same root
 module _ (from to : State) (u v way : Changes) (a : length from.atoms ≡ length to.atoms) (f : length from.fluents ≡ length to.fluents) (i : Within (length from.atoms) (length from.fluents) u) (j : Within (length from.atoms) (length from.fluents) v) (e : way ≡ joined (recalled to u) (recalled to v)) where

@@ -48,7 +48,7 @@ pub recalled_in : {A : Type 0} (n : ℕ) (at : ℕ → A) (cs : List (ℕ × A))
 recalled_in n at [] h = tt
 recalled_in n at (c ∷ cs) h = (h.0, recalled_in n at cs h.1)
 
-pub recalled-append : {A : Type 0} (at : ℕ → A) (cs ds : List (ℕ × A)) → recalled_list at (cs ++ ds) ≡ recalled_list at cs ++ recalled_list at ds
+recalled-append : {A : Type 0} (at : ℕ → A) (cs ds : List (ℕ × A)) → recalled_list at (cs ++ ds) ≡ recalled_list at cs ++ recalled_list at ds
 recalled-append at [] ds = refl
 recalled-append at (c ∷ cs) ds = ap (λ xs. (c.0, at c.0) ∷ xs) (recalled-append at cs ds)
 

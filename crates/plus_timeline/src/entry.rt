@@ -2,7 +2,7 @@
 ghost use Rattle.std.specs.Prelude.{◌≡◌, [], ◌++◌, length, Ok, Option, None, Some, option_map, IfOk, IfSome, IsSomeAnd, OnOk, OnErr};
 ghost use Rattle.plus_fraction.specs.Fraction.{◌<ℚ◌};
 ghost use Rattle.plus_model.specs.Running.{rates as rates_of, GoesOn};
-ghost use Rattle.plus_state.specs.Changes.{patched, Within, RisesIn, LeadsTo};
+ghost use Rattle.plus_state.specs.Changes.{patched, AreIn, Within, RisesIn, LeadsTo};
 ghost use Rattle.plus_state.specs.Fits.{StateFits};
 ghost use Rattle.plus_state.specs.View.{problem_of};
 ghost use Rattle.plus_state.specs.Numbers.{event_numbers};
@@ -10,7 +10,7 @@ ghost use Rattle.plus_state.specs.Walk.{event_conditions, process_conditions, Ot
 ghost use Rattle.plus_still.specs.Others.{OthersStill};
 ghost use Rattle.plus_settle.specs.Members.{process_numbers, AreMembers};
 ghost use Rattle.plus_timeline.specs.EntryStates.{IsReached, Leads};
-ghost use Rattle.plus_timeline.specs.Undo.{undone, Notes};
+ghost use Rattle.plus_timeline.specs.Undo.{undone, recalled, Notes};
 ghost use Rattle.plus_timeline.specs.Reaching.{ReachTold};
 
 use crate::undo::{Undo, recall};
@@ -78,14 +78,11 @@ impl<Q: Exact> Model for EntryStates<Q> {
     ghost invariant = { λ e. KeepsEntry e.arrival e.past e.trail.state e.ahead (option_map (λ u. u.noted) e.undo) };
 }
 
-// The atoms of the first changes and the fluents of the others.
-fn joined<Q: Exact>(atoms: Changes<Q>, fluents: Changes<Q>) -> Changes<Q>
-    ensures { result ≡ record { atoms = atoms.atoms; fluents = fluents.fluents } }
+// The first changes get the atoms of the others, in exchange for their own.
+fn swap_atoms<Q: Exact>(changes: &mut Changes<Q>, others: &mut Changes<Q>)
+    ensures { changes.new ≡ record { atoms = others.old.atoms; fluents = changes.old.fluents } }
 {
-    Changes {
-        atoms: atoms.atoms,
-        fluents: fluents.fluents,
-    }
+    mem::swap(&mut changes.atoms, &mut others.atoms);
 }
 
 // Makes the changes in a state, where there is one.
@@ -174,18 +171,58 @@ fn note<Q: Exact>(
     }
 }
 
-// Brings the state on arrival up to the present one, and hands out the changes that were kept, for their memory.
+// Notes what the step to the next entry is about to change, where there is a root.
+fn note_joined<Q: Exact>(
+    undo: &mut Option<Undo<Q>>,
+    state: &State<Q>,
+    atoms: &Changes<Q>,
+    fluents: &Changes<Q>,
+) -> Result<(), AllocError>
+    requires atoms { AreIn (length state.now.atoms) atoms.now.atoms }
+    requires fluents { AreIn (length state.now.fluents) fluents.now.fluents }
+    ensures ok { OnOk result (Notes state.now (record { atoms = atoms.now.atoms; fluents = fluents.now.fluents }) (option_map (λ u. u.noted) undo.old) (option_map (λ u. u.noted) undo.new)) }
+    ensures err { OnErr result (option_map (λ u. u.noted) undo.new ≡ option_map (λ u. u.noted) undo.old) }
+{
+    match undo {
+        Some(undo) => undo.note_joined(state, atoms, fluents),
+        None => Ok(()),
+    }
+}
+
+// Notes what the moves to the next entry and its literals are about to change, where there is a root,
+// and copies the literals, in the memory of changes that are needed no more.
+fn note_entry<Q: Exact>(
+    alloc: Global,
+    undo: &mut Option<Undo<Q>>,
+    spare: &mut Changes<Q>,
+    state: &State<Q>,
+    moves: &Changes<Q>,
+    literals: &Changes<Q>,
+) -> Result<Changes<Q>, AllocError>
+    requires atoms { AreIn (length state.now.atoms) literals.now.atoms }
+    requires fluents { AreIn (length state.now.fluents) moves.now.fluents }
+    ensures copy { IfOk result (λ c. c ≡ literals.now) }
+    ensures ok { OnOk result (Notes state.now (record { atoms = literals.now.atoms; fluents = moves.now.fluents }) (option_map (λ u. u.noted) undo.old) (option_map (λ u. u.noted) undo.new)) }
+    ensures err { OnErr result (option_map (λ u. u.noted) undo.new ≡ option_map (λ u. u.noted) undo.old) }
+{
+    let copy = copied_into(alloc, spare, literals)?;
+    note_joined(undo, state, literals, moves)?;
+    Ok(copy)
+}
+
+// Brings the state on arrival up to the present one, and takes out the changes that were kept, for their memory.
 fn catch_up<Q: Exact>(
     alloc: Global,
     arrival: &mut State<Q>,
-    past: Option<Changes<Q>>,
+    past: &mut Option<Changes<Q>>,
     state: &State<Q>,
 ) -> Result<Changes<Q>, AllocError>
-    requires { IfSome past (λ p. Leads arrival.old p state.now) }
+    requires { IfSome past.old (λ p. Leads arrival.old p state.now) }
     ensures ok { OnOk result (arrival.new ≡ state.now) }
     ensures err { OnErr result (arrival.new ≡ arrival.old) }
+    ensures taken { past.new ≡ None }
 {
-    match past {
+    match past.take() {
         Some(past) => {
             arrival.patch(&past);
             Ok(past)
@@ -209,6 +246,77 @@ fn copied_undo<Q: Exact>(
     }
 }
 
+// A trail that begins in an equal state.
+fn trail_in<Q: Exact>(alloc: Global, state: &State<Q>) -> Result<Trail<Q>, AllocError>
+    ensures { IfOk result (λ t. t ≡ record { state = state.now; before = state.now }) }
+{
+    Trail::new(alloc, state.copy(alloc)?)
+}
+
+// A trail that begins in an equal state, and one more such state.
+fn trail_and_copy<Q: Exact>(
+    alloc: Global,
+    state: &State<Q>,
+) -> Result<(Trail<Q>, State<Q>), AllocError>
+    ensures trail { IfOk result (λ r. r.0 ≡ record { state = state.now; before = state.now }) }
+    ensures copy { IfOk result (λ r. r.1 ≡ state.now) }
+{
+    let copy = state.copy(alloc)?;
+    let trail = trail_in(alloc, state)?;
+    Ok((trail, copy))
+}
+
+// An equal trail and an equal state on arrival.
+fn copied_trail<Q: Exact>(
+    alloc: Global,
+    trail: &Trail<Q>,
+    arrival: &State<Q>,
+) -> Result<(Trail<Q>, State<Q>), AllocError>
+    ensures trail { IfOk result (λ r. r.0 ≡ trail.now) }
+    ensures arrival { IfOk result (λ r. r.1 ≡ arrival.now) }
+{
+    let arrival = arrival.copy(alloc)?;
+    let trail = trail.copy(alloc)?;
+    Ok((trail, arrival))
+}
+
+// Equal changes since the arrival, and the same of what leads back to the root.
+fn copied_past<Q: Exact>(
+    alloc: Global,
+    past: &Option<Changes<Q>>,
+    undo: &Option<Undo<Q>>,
+) -> Result<(Option<Changes<Q>>, Option<Undo<Q>>), AllocError>
+    ensures past { IfOk result (λ r. r.0 ≡ past.now) }
+    ensures undo { IfOk result (λ r. option_map (λ u. u.noted) r.1 ≡ option_map (λ u. u.noted) undo.now) }
+{
+    let past = copied(alloc, past)?;
+    let undo = copied_undo(alloc, undo)?;
+    Ok((past, undo))
+}
+
+// Gathers the way back to the root and on to another state with that root, and makes what was noted what
+// the other one notes.
+fn lead_over<Q: Exact>(
+    way: &mut Changes<Q>,
+    undo: &mut Undo<Q>,
+    other: &Undo<Q>,
+    state: &State<Q>,
+) -> Result<(), AllocError>
+    requires undo { Within (length state.now.atoms) (length state.now.fluents) undo.old.noted }
+    requires other { Within (length state.now.atoms) (length state.now.fluents) other.now.noted }
+    ensures way { OnOk result (way.new ≡ record {
+      atoms = (recalled state.now undo.old.noted).atoms ++ (recalled state.now other.now.noted).atoms;
+      fluents = (recalled state.now undo.old.noted).fluents ++ (recalled state.now other.now.noted).fluents;
+    }) }
+    ensures noted { OnOk result (undo.new.noted ≡ other.now.noted) }
+{
+    way.clear();
+    recall(way, state, &undo.noted)?;
+    recall(way, state, &other.noted)?;
+    undo.noted.clear();
+    undo.noted.append(&other.noted)
+}
+
 impl<Q: Exact> EntryStates<Q> {
     /// The first entry: the initial state, and what the literals of its time change.
     pub fn begin(
@@ -224,9 +332,8 @@ impl<Q: Exact> EntryStates<Q> {
           root = None;
         }) }
     {
-        let mut trail = Trail::new(alloc, initial.copy(alloc)?)?;
-        let arrival = initial.copy(alloc)?;
         let past = literals.copy(alloc)?;
+        let (mut trail, arrival) = trail_and_copy(alloc, initial)?;
         trail.step(&mut literals);
         Ok(EntryStates {
             trail,
@@ -333,9 +440,9 @@ impl<Q: Exact> EntryStates<Q> {
     pub fn enter(
         &mut self,
         alloc: Global,
-        moves: Changes<Q>,
-        mut ahead: State<Q>,
-        literals: Changes<Q>,
+        mut moves: Changes<Q>,
+        ahead: State<Q>,
+        mut literals: Changes<Q>,
     ) -> Result<(), AllocError>
         requires reached { IsReached self.old.state moves ahead }
         requires literals { RisesIn self.old.state literals }
@@ -348,18 +455,47 @@ impl<Q: Exact> EntryStates<Q> {
         }) }
         ensures err { OnErr result (self.new ≡ self.old) }
     {
-        let past = copied_into(alloc, &mut self.spare, &literals)?;
-        note(&mut self.undo, self.trail.state(), &moves)?;
-        note(&mut self.undo, self.trail.state(), &past)?;
-        let since = self.past.take();
-        let kept = catch_up(alloc, &mut self.arrival, since, self.trail.state())?;
-        self.arrival.patch(&moves);
-        ahead.patch(&past);
-        let mut changes = joined(literals, moves);
-        self.trail.step(&mut changes);
-        self.spare = changes;
+        let mut ahead = Some(ahead);
+        self.enter_with(alloc, &mut moves, &mut ahead, &mut literals)
+    }
+
+    // The same, with what is lent. In exchange it gets memory that is needed no more.
+    fn enter_with(
+        &mut self,
+        alloc: Global,
+        moves: &mut Changes<Q>,
+        ahead: &mut Option<State<Q>>,
+        literals: &mut Changes<Q>,
+    ) -> Result<(), AllocError>
+        requires reached { IsReached self.old.state moves.old (patched self.old.state moves.old) }
+        requires ahead { ahead.old ≡ Some (patched self.old.state moves.old) }
+        requires literals { RisesIn self.old.state literals.old }
+        requires only { literals.old.fluents ≡ [] }
+        ensures ok { OnOk result (self.new ≡ record {
+          state = patched (patched self.old.state moves.old) literals.old;
+          before = self.old.state;
+          arrival = patched self.old.state moves.old;
+          root = self.old.root;
+        }) }
+        ensures err { OnErr result (self.new ≡ self.old) }
+    {
+        let state = self.trail.state();
+        let past = note_entry(
+            alloc,
+            &mut self.undo,
+            &mut self.spare,
+            state,
+            moves,
+            literals,
+        )?;
+        let kept = catch_up(alloc, &mut self.arrival, &mut self.past, state)?;
+        self.arrival.patch(moves);
+        patch_some(ahead, &past);
+        swap_atoms(moves, literals);
+        self.trail.step(moves);
+        mem::swap(&mut self.spare, moves);
+        mem::swap(&mut self.ahead, ahead);
         self.past = Some(renewed(kept, past));
-        self.ahead = Some(ahead);
         Ok(())
     }
 
@@ -422,14 +558,15 @@ impl<Q: Exact> EntryStates<Q> {
           root = self.now.root;
         }) }
     {
-        let state = self.trail.state();
+        let undo = copied_undo(alloc, &self.undo)?;
+        let (trail, arrival) = trail_and_copy(alloc, self.trail.state())?;
         Ok(EntryStates {
-            trail: Trail::new(alloc, state.copy(alloc)?)?,
-            arrival: state.copy(alloc)?,
+            trail,
+            arrival,
             past: Some(Changes::none(alloc)),
             ahead: None,
             spare: Changes::none(alloc),
-            undo: copied_undo(alloc, &self.undo)?,
+            undo,
             room: Room::new(alloc),
         })
     }
@@ -456,6 +593,19 @@ impl<Q: Exact> EntryStates<Q> {
                 }
             }
         }
+        self.become_fork(alloc, from)
+    }
+
+    // Drops these states for a fork of others.
+    fn become_fork(&mut self, alloc: Global, from: &EntryStates<Q>) -> Result<(), AllocError>
+        ensures ok { OnOk result (self.new ≡ record {
+          state = from.now.state;
+          before = from.now.state;
+          arrival = from.now.state;
+          root = from.now.root;
+        }) }
+        ensures err { OnErr result (self.new ≡ self.old) }
+    {
         *self = from.fork(alloc)?;
         Ok(())
     }
@@ -489,11 +639,7 @@ impl<Q: Exact> EntryStates<Q> {
         ensures err { OnErr result (self.new ≡ self.old) }
     {
         let mut way = self.take_spare(alloc);
-        way.clear();
-        recall(&mut way, state, &undo.noted)?;
-        recall(&mut way, state, &other.noted)?;
-        undo.noted.clear();
-        undo.noted.append(&other.noted)?;
+        lead_over(&mut way, &mut undo, other, state)?;
         self.arrival.patch(&past);
         self.arrival.patch(&way);
         past.clear();
@@ -509,13 +655,15 @@ impl<Q: Exact> EntryStates<Q> {
     pub fn copy(&self, alloc: Global) -> Result<EntryStates<Q>, AllocError>
         ensures { IfOk result (λ e. e ≡ self.now) }
     {
+        let (past, undo) = copied_past(alloc, &self.past, &self.undo)?;
+        let (trail, arrival) = copied_trail(alloc, &self.trail, &self.arrival)?;
         Ok(EntryStates {
-            trail: self.trail.copy(alloc)?,
-            arrival: self.arrival.copy(alloc)?,
-            past: copied(alloc, &self.past)?,
+            trail,
+            arrival,
+            past,
             ahead: None,
             spare: Changes::none(alloc),
-            undo: copied_undo(alloc, &self.undo)?,
+            undo,
             room: Room::new(alloc),
         })
     }

@@ -124,6 +124,35 @@ fn is_earlier<Q: Exact>(time: Q, other: Q) -> bool
     }
 }
 
+// The events that have fired in a cascade, as an equal set and in order.
+fn copied_cascade(
+    alloc: Global,
+    cascade: &Cascade,
+    fired: &[EventId],
+) -> Result<(Cascade, Vec<EventId>), AllocError>
+    ensures cascade { IfOk result (λ r. r.0 ≡ cascade.now) }
+    ensures fired { IfOk result (λ r. r.1.items ≡ fired.now) }
+{
+    let cascade = cascade.copy(alloc)?;
+    let fired = Vec::from_slice(alloc, fired)?;
+    Ok((cascade, fired))
+}
+
+// The events of the last round, and an equal running set.
+fn copied_last<Q: Exact>(
+    alloc: Global,
+    events: &[EventId],
+    running: &Running<Q>,
+) -> Result<(Vec<EventId>, Running<Q>), AllocError>
+    ensures events { IfOk result (λ r. r.0.items ≡ events.now) }
+    ensures members { IfOk result (λ r. r.1.members.items ≡ running.now.members.items) }
+    ensures rates { IfOk result (λ r. r.1.rates ≡ running.now.rates) }
+{
+    let events = Vec::from_slice(alloc, events)?;
+    let running = running.copy(alloc)?;
+    Ok((events, running))
+}
+
 impl<Q: Exact> Timeline<Q> {
     /// A timeline for this problem: the first entry, at time 0. `happenings` entries are allowed.
     pub fn begin(
@@ -136,13 +165,16 @@ impl<Q: Exact> Timeline<Q> {
     {
         let time = zero();
         let mut next_literal = 0;
+        let cascade = plus_cascade::begin(alloc, ground)?;
         let literals = literal_changes(alloc, ground, time, &mut next_literal)?;
+        let literal = are_there(&literals);
+        let states = EntryStates::begin(alloc, &ground.initial, literals)?;
         Ok(Timeline {
             alloc,
             time,
-            literal: are_there(&literals),
-            states: EntryStates::begin(alloc, &ground.initial, literals)?,
-            cascade: plus_cascade::begin(alloc, ground)?,
+            literal,
+            states,
+            cascade,
             fired: Vec::new(alloc),
             events: Vec::new(alloc),
             running: Running {
@@ -315,14 +347,17 @@ impl<Q: Exact> Timeline<Q> {
     pub fn copy(&self, alloc: Global) -> Result<Timeline<Q>, AllocError>
         ensures { IfOk result (λ t. t ≡ self.now) }
     {
+        let (cascade, fired) = copied_cascade(alloc, &self.cascade, &self.fired)?;
+        let (events, running) = copied_last(alloc, &self.events, &self.running)?;
+        let states = self.states.copy(alloc)?;
         Ok(Timeline {
             alloc,
             time: self.time,
-            states: self.states.copy(alloc)?,
-            cascade: self.cascade.copy(alloc)?,
-            fired: Vec::from_slice(alloc, &self.fired)?,
-            events: Vec::from_slice(alloc, &self.events)?,
-            running: self.running.copy(alloc)?,
+            states,
+            cascade,
+            fired,
+            events,
+            running,
             literal: self.literal,
             next_literal: self.next_literal,
             lines: self.lines,
@@ -362,9 +397,8 @@ impl<Q: Exact> Timeline<Q> {
         ensures moment { self.now.now.running ≡ None }
         ensures forked { IfOk result (λ t. t ≡ forked self.now) }
     {
+        let (cascade, fired) = copied_cascade(alloc, &self.cascade, &self.fired)?;
         let states = self.states.fork(alloc)?;
-        let cascade = self.cascade.copy(alloc)?;
-        let fired = Vec::from_slice(alloc, &self.fired)?;
         Ok(Timeline {
             alloc,
             time: self.time,

@@ -98,6 +98,27 @@ impl<Q: Exact> Undo<Q> {
         self.noted.append(&self.spare)
     }
 
+    /// Notes what a step is about to change whose atoms stand in some changes and whose fluents in others.
+    pub fn note_joined(
+        &mut self,
+        state: &State<Q>,
+        atoms: &Changes<Q>,
+        fluents: &Changes<Q>,
+    ) -> Result<(), AllocError>
+        requires atoms { AreIn (length state.now.atoms) atoms.now.atoms }
+        requires fluents { AreIn (length state.now.fluents) fluents.now.fluents }
+        ensures ok { OnOk result (self.new.noted ≡ record {
+          atoms = self.old.noted.atoms ++ (recalled state.now atoms.now).atoms;
+          fluents = self.old.noted.fluents ++ (recalled state.now fluents.now).fluents;
+        }) }
+        ensures err { OnErr result (self.new.noted ≡ self.old.noted) }
+    {
+        self.spare.clear();
+        recall_atoms(&mut self.spare.atoms, state, &atoms.atoms)?;
+        recall_fluents(&mut self.spare.fluents, state, &fluents.fluents)?;
+        self.noted.append(&self.spare)
+    }
+
     /// How many were noted of the kind of which there are more.
     pub fn len(&self) -> usize {
         self.noted.atoms.len().max(self.noted.fluents.len())

@@ -1,4 +1,4 @@
-use Rattle.std.proofs.Common.{◌≡◌, ap, sym, subst, ◌∙◌}
+use Rattle.std.proofs.Common.{◌≡◌, sym, subst, ◌∙◌}
 use Rattle.std.specs.Prelude.{option_map}
 use Rattle.plus_timeline.specs.EntryStates.{EntryView}
 use Rattle.plus_timeline.specs.Undo.{root_at, recalled}
@@ -13,10 +13,10 @@ patch-requires-2 g c =
     let u = c.args.undo.noted in
     let v = c.args.other.now.noted in
     let to = c.args.state.now in
-    let way = c.recall-2.new.into in
+    let way = c.lead_over.new.way in
     let h : Following view past u v to = subst (λ x. Following x past u v to) (sym (c.self.view_is ∙ c.take_spare-way.ensures))
     record { past_leads = c.requires.past; size = c.requires.size; undo = c.requires.undo; other = c.requires.other; root = c.requires.root } in
-    let w : way ≡ joined (recalled to u) (recalled to v) = c.in_ok-recall-2.ensures ∙ ap (λ x. joined x (recalled to v)) (c.in_ok-recall.ensures ∙ ap (λ x. joined x (recalled to u)) c.clear.ensures) in
+    let w : way ≡ joined (recalled to u) (recalled to v) = c.in_ok-lead_over.ensures.way in
     way_in_arrival view past u v way to h w c.patch.new.self c.patch.ensures
 
 pub restart-requires : goal.restart-requires
@@ -26,10 +26,10 @@ restart-requires g c =
     let u = c.args.undo.noted in
     let v = c.args.other.now.noted in
     let to = c.args.state.now in
-    let way = c.recall-2.new.into in
+    let way = c.lead_over.new.way in
     let h : Following view past u v to = subst (λ x. Following x past u v to) (sym (c.self.view_is ∙ c.take_spare-way.ensures))
     record { past_leads = c.requires.past; size = c.requires.size; undo = c.requires.undo; other = c.requires.other; root = c.requires.root } in
-    let w : way ≡ joined (recalled to u) (recalled to v) = c.in_ok-recall-2.ensures ∙ ap (λ x. joined x (recalled to v)) (c.in_ok-recall.ensures ∙ ap (λ x. joined x (recalled to u)) c.clear.ensures) in
+    let w : way ≡ joined (recalled to u) (recalled to v) = c.in_ok-lead_over.ensures.way in
     way_in view past u v way to h w
 
 pub patch_some-requires : goal.patch_some-requires
@@ -39,10 +39,10 @@ patch_some-requires g c =
     let u = c.args.undo.noted in
     let v = c.args.other.now.noted in
     let to = c.args.state.now in
-    let way = c.recall-2.new.into in
+    let way = c.lead_over.new.way in
     let h : Following view past u v to = subst (λ x. Following x past u v to) (sym (c.self.view_is ∙ c.take_spare-way.ensures))
     record { past_leads = c.requires.past; size = c.requires.size; undo = c.requires.undo; other = c.requires.other; root = c.requires.root } in
-    let w : way ≡ joined (recalled to u) (recalled to v) = c.in_ok-recall-2.ensures ∙ ap (λ x. joined x (recalled to v)) (c.in_ok-recall.ensures ∙ ap (λ x. joined x (recalled to u)) c.clear.ensures) in
+    let w : way ≡ joined (recalled to u) (recalled to v) = c.in_ok-lead_over.ensures.way in
     way_in_ahead view past u v way to h w c.self.inside.ahead c.self.invariant.led.same
 
 pub invariant_of-self : goal.invariant_of-self
@@ -52,12 +52,12 @@ invariant_of-self g c =
     let u = c.args.undo.noted in
     let v = c.args.other.now.noted in
     let to = c.args.state.now in
-    let way = c.recall-2.new.into in
+    let way = c.lead_over.new.way in
     let h : Following view past u v to = subst (λ x. Following x past u v to) (sym (c.self.view_is ∙ c.take_spare-way.ensures))
     record { past_leads = c.requires.past; size = c.requires.size; undo = c.requires.undo; other = c.requires.other; root = c.requires.root } in
-    let w : way ≡ joined (recalled to u) (recalled to v) = c.in_ok-recall-2.ensures ∙ ap (λ x. joined x (recalled to v)) (c.in_ok-recall.ensures ∙ ap (λ x. joined x (recalled to u)) c.clear.ensures) in
-    kept_there view past u v way to h w c.restart.new.self c.patch.new.self c.patch-2.new.self c.restart.ensures c.patch.ensures c.patch-2.ensures c.append.new.self
-    (c.in_ok-append.ensures.ok ∙ ap (λ x. joined x v) c.clear-2.ensures) c.clear-3.new.self c.self.inside.ahead c.patch_some.new.state c.clear-3.ensures c.self.invariant.led.same c.patch_some.ensures
+    let w : way ≡ joined (recalled to u) (recalled to v) = c.in_ok-lead_over.ensures.way in
+    kept_there view past u v way to h w c.restart.new.self c.patch.new.self c.patch-2.new.self c.restart.ensures c.patch.ensures c.patch-2.ensures c.lead_over.new.undo.noted
+    c.in_ok-lead_over.ensures.noted c.clear.new.self c.self.inside.ahead c.patch_some.new.state c.clear.ensures c.self.invariant.led.same c.patch_some.ensures
 
 pub returns-clause-ok : goal.returns-clause-ok
 returns-clause-ok g c =
@@ -66,9 +66,9 @@ returns-clause-ok g c =
     let u = c.args.undo.noted in
     let v = c.args.other.now.noted in
     let to = c.args.state.now in
-    let way = c.recall-2.new.into in
+    let way = c.lead_over.new.way in
     let h : Following view past u v to = subst (λ x. Following x past u v to) (sym (c.self.view_is ∙ c.take_spare-way.ensures))
     record { past_leads = c.requires.past; size = c.requires.size; undo = c.requires.undo; other = c.requires.other; root = c.requires.root } in
-    let w : way ≡ joined (recalled to u) (recalled to v) = c.in_ok-recall-2.ensures ∙ ap (λ x. joined x (recalled to v)) (c.in_ok-recall.ensures ∙ ap (λ x. joined x (recalled to u)) c.clear.ensures) in
-    view_there view past u v way to h w c.restart.new.self c.patch.new.self c.patch-2.new.self c.restart.ensures c.patch.ensures c.patch-2.ensures c.append.new.self
-    (c.in_ok-append.ensures.ok ∙ ap (λ x. joined x v) c.clear-2.ensures)
+    let w : way ≡ joined (recalled to u) (recalled to v) = c.in_ok-lead_over.ensures.way in
+    view_there view past u v way to h w c.restart.new.self c.patch.new.self c.patch-2.new.self c.restart.ensures c.patch.ensures c.patch-2.ensures c.lead_over.new.undo.noted
+    c.in_ok-lead_over.ensures.noted
