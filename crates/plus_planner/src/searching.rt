@@ -62,8 +62,14 @@ fn first<Q: Exact>(alloc: Global, ground: &Ground<Q>) -> Result<(Timeline<Q>, Fa
 {
     let mut timeline = Timeline::begin(alloc, ground, MOST_ENTRIES)?;
     root_large(&mut timeline);
-    let fate = carry(&mut timeline, ground, zero())?;
-    Ok((timeline, fate))
+    match carry(&mut timeline, ground, zero()) {
+        Ok(fate) => Ok((timeline, fate)),
+        Err(error) => {
+            // By a call, as below.
+            drop(timeline);
+            Err(error)
+        }
+    }
 }
 
 impl<Q: Exact, G: Guide<Q> + Drop> Planner<Q, G> {

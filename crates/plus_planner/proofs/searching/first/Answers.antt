@@ -14,8 +14,8 @@ carry-requires-clause-reach g c =
 pub carry-requires-clause-kin : goal.carry-requires-clause-kin
 carry-requires-clause-kin g c = rooted_kin (problem_of g.Q.Exact.value c.args.ground.now) 10000 c.in_ok-timeline.timeline c.root_large.new.timeline c.in_ok-timeline.ensures c.root_large.ensures
 
-pub returns-clause-carried : goal.returns-clause-carried
-returns-clause-carried g c =
+pub returns-in-Ok-clause-carried : goal.returns-in-Ok-clause-carried
+returns-in-Ok-clause-carried g c =
     let v = g.Q.Exact.value in
-    first_carried g.Q.Exact.fits (problem_of v c.args.ground.now) 10000 (v c.zero.result) c.in_ok-timeline.timeline c.root_large.new.timeline c.carry.new.timeline c.in_ok-fate.fate
-    c.zero.ensures c.in_ok-timeline.ensures c.root_large.ensures c.in_ok-fate.ensures.carried
+    first_carried g.Q.Exact.fits (problem_of v c.args.ground.now) 10000 (v c.zero.result) c.in_ok-timeline.timeline c.root_large.new.timeline c.carry.new.timeline c.in-Ok.fate
+    c.zero.ensures c.in_ok-timeline.ensures c.root_large.ensures c.in-Ok.ensures.carried
