@@ -214,6 +214,23 @@ impl<'a> Replay<'a> {
         Ok(false)
     }
 
+    // Plays the text of a plan, and appends why it is refused.
+    fn text(
+        &mut self,
+        alloc: Global,
+        ground: &Ground<Frac64>,
+        plan: &[u8],
+        form: PlanForm,
+        into: &mut Vec<u8>,
+    ) -> Result<(), AllocError>
+        requires { Stands ground.now self.old }
+    {
+        if self.lines(alloc, ground, plan, form, into)? {
+            return self.close(ground, into);
+        }
+        Ok(())
+    }
+
     // Plays on at the end of the text, and appends what of the goal is not met.
     fn close(&mut self, ground: &Ground<Frac64>, into: &mut Vec<u8>) -> Result<(), AllocError>
         requires { Stands ground.now self.old }
@@ -250,11 +267,7 @@ fn play(
     requires { IsGroundOf numbering.now.typed.now ground.now }
 {
     let mut replay = Replay::begin(alloc, numbering, ground)?;
-    let done = replay.lines(alloc, ground, plan, form, into)?;
-    if done {
-        return replay.close(ground, into);
-    }
-    Ok(())
+    replay.text(alloc, ground, plan, form, into)
 }
 
 // Plays a plan of a pair again, and appends why it is refused.

@@ -51,12 +51,12 @@ fn refuse<O: Sink>(out: &mut O, fault: GroundFault) -> Outcome
 fn conclude<O: Sink>(
     alloc: Global,
     ground: &Ground<Frac64>,
-    run: Run,
+    run: &mut Run,
     played: Result<(), Halt>,
     out: &mut O,
 ) -> Outcome
     requires fits { IfErr played (HaltFits (problem_of fraction_of ground.now)) }
-    ensures concludes { Concludes (labels_of ground.now) (problem_of fraction_of ground.now) run played
+    ensures concludes { Concludes (labels_of ground.now) (problem_of fraction_of ground.now) run.old played
         (O.faults out.old) (O.faults out.new) (O.taken out.old) (O.taken out.new) result }
     ensures no_fall { O.faults out.old ≤ O.faults out.new }
 {
@@ -110,7 +110,7 @@ fn validate_ground<S: Shelf, O: Sink>(
     match play_file(&mut feed, alloc, ground, shelf, plan, out, happenings) {
         Ending::ReadFault => Outcome::ReadFault,
         Ending::WriteFault => Outcome::WriteFault,
-        Ending::Played(played) => conclude(alloc, ground, feed.run, played, out),
+        Ending::Played(played) => conclude(alloc, ground, &mut feed.run, played, out),
     }
 }
 

@@ -113,7 +113,7 @@ fn judge_ground(
 {
     let mut feed = Feed::begin(alloc, &*numbering, ground, happenings)?;
     let played = play_bytes(&mut feed, alloc, ground, bytes, happenings);
-    sum_up(alloc, ground, feed.run, played)
+    sum_up(alloc, ground, &mut feed.run, played)
 }
 
 // Judges the plan text of a pair whose ground atoms and fluents are numbered.

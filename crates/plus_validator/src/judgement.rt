@@ -13,6 +13,7 @@ use plus_number::frac::Frac64;
 use plus_report::{Verdict, write_verdict};
 use plus_state::problem::Ground;
 use std::alloc::Global;
+use std::mem;
 
 /// What is left of the report of a plan with its verdict line, and what is said of the plan.
 #[derive(Drop)]
@@ -36,15 +37,15 @@ fn verdict_of(played: Result<(), Halt>) -> Result<Verdict<Frac64>, Halt>
     }
 }
 
-/// What is said of a plan that is played so.
+/// What is said of a plan that is played so. It takes what is left of the report.
 pub fn sum_up(
     alloc: Global,
     ground: &Ground<Frac64>,
-    mut run: Run,
+    run: &mut Run,
     played: Result<(), Halt>,
 ) -> Result<Judgement, Halt>
     requires fits { IfErr played (HaltFits (problem_of fraction_of ground.now)) }
-    ensures sums { IfOk result (SumsUp (labels_of ground.now) (problem_of fraction_of ground.now) run played) }
+    ensures sums { IfOk result (SumsUp (labels_of ground.now) (problem_of fraction_of ground.now) run.old played) }
     ensures memory { IfErr result (λ halt. halt ≡ Halt.Memory) }
 {
     let verdict = verdict_of(played)?;
@@ -53,7 +54,7 @@ pub fn sum_up(
     run.report.bytes.extend_from_slice(&line.bytes)?;
     let outcome = outcome_of(&verdict);
     Ok(Judgement {
-        bytes: run.report.bytes,
+        bytes: mem::replace(&mut run.report.bytes, Vec::new(alloc)),
         outcome,
         judged: Judged {
             verdict,

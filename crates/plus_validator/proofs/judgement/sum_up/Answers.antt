@@ -29,7 +29,7 @@ returns-clause-sums c =
     record {
       gives = c.in_ok-verdict.ensures.gives;
       outcome = c.outcome_of-outcome.ensures;
-      bytes = c.in_ok-extend_from_slice.ensures.items ∙ ap (λ (t : List ℕ). c.args.run.report.bytes.items ++ t) (c.deref.ensures.value ∙ line);
+      bytes = ap (λ v. v.items) c.replace.ensures.value ∙ c.in_ok-extend_from_slice.ensures.items ∙ ap (λ (t : List ℕ). c.args.run.now.report.bytes.items ++ t) (c.deref.ensures.value ∙ line);
       line = line;
       entries = refl;
       firings = refl;
