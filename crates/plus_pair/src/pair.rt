@@ -192,5 +192,11 @@ pub fn pair<S: Shelf>(
 /// Lets a pair go. That its trees can be freed is proved here, and not once more where this is called.
 pub fn release(_typed: Typed) {}
 
+/// Lets the tree of a domain go, in the same way.
+pub fn release_domain(_domain: Domain) {}
+
+/// Lets the tree of a problem go, in the same way.
+pub fn release_problem(_problem: Problem) {}
+
 /// Lets two trees go, in the same way.
 pub fn release_trees(_domain: Domain, _problem: Problem) {}

@@ -11,7 +11,7 @@ ghost use Rattle.plus_run.specs.Headline.{IsAnswer};
 use crate::command::PlanFiles;
 use plus_io::{Shelf, Sink};
 use plus_numeric::{Source, Stop};
-use plus_pair::pair::{Refusal, pair};
+use plus_pair::pair::{Refusal, pair, release};
 use plus_reply::status::{Status, refuse, tell};
 use plus_types::Typed;
 use std::alloc::Global;
@@ -57,7 +57,11 @@ pub fn numeric<S: Shelf, O: Sink>(
     ensures no_fall { O.faults out.old ≤ O.faults out.new }
 {
     match pair(alloc, shelf, files.domain, files.problem) {
-        Ok(typed) => play(alloc, &typed, shelf, files.plan, out),
+        Ok(typed) => {
+            let status = play(alloc, &typed, shelf, files.plan, out);
+            release(typed);
+            status
+        }
         Err(Refusal::Early(early)) => refuse(out, &early),
         Err(Refusal::ReadFault) => Status::ReadFault,
         Err(Refusal::NoMemory) => Status::NoMemory,

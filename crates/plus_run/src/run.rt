@@ -16,7 +16,7 @@ use crate::numeric::numeric;
 use crate::replies::{lift, plan, translate, trial};
 use crate::show::{show_domain, show_problem};
 use plus_io::{Shelf, Sink};
-use plus_pair::pair::{Refusal, pair};
+use plus_pair::pair::{Refusal, pair, release};
 use plus_reply::status::{Status, refuse, tell};
 use plus_validator::validate;
 use std::alloc::Global;
@@ -43,14 +43,12 @@ fn check<S: Shelf, O: Sink>(alloc: Global, files: Check<'_>, shelf: &mut S, out:
     ensures no_fall { O.faults out.old ≤ O.faults out.new }
 {
     match pair(alloc, shelf, files.domain, files.problem) {
-        Ok(typed) => Status::of(validate(
-            alloc,
-            &typed,
-            shelf,
-            files.plan,
-            out,
-            files.happenings.number,
-        )),
+        Ok(typed) => {
+            let most = files.happenings.number;
+            let outcome = validate(alloc, &typed, shelf, files.plan, out, most);
+            release(typed);
+            Status::of(outcome)
+        }
         Err(Refusal::Early(early)) => refuse(out, &early),
         Err(Refusal::ReadFault) => Status::ReadFault,
         Err(Refusal::NoMemory) => Status::NoMemory,

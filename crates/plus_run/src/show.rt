@@ -10,7 +10,7 @@ ghost use Rattle.plus_reply.specs.Statuses.{Writes};
 ghost use Rattle.plus_run.specs.Headline.{IsAnswer};
 
 use plus_io::{Shelf, Sink};
-use plus_pair::pair::{Refusal, domain_under, problem_under};
+use plus_pair::pair::{Refusal, domain_under, problem_under, release_domain, release_problem};
 use plus_reply::canonical::{domain_text, problem_text};
 use plus_reply::status::{Status, refuse, tell};
 use std::alloc::Global;
@@ -30,10 +30,14 @@ pub fn show_domain<S: Shelf, O: Sink>(
     ensures no_fall { O.faults out.old ≤ O.faults out.new }
 {
     match domain_under(alloc, shelf, name) {
-        Ok(domain) => match domain_text(alloc, &domain) {
-            Ok(text) => tell(out, &text, Status::Valid),
-            Err(_) => Status::NoMemory,
-        },
+        Ok(domain) => {
+            let shown = domain_text(alloc, &domain);
+            release_domain(domain);
+            match shown {
+                Ok(text) => tell(out, &text, Status::Valid),
+                Err(_) => Status::NoMemory,
+            }
+        }
         Err(Refusal::Early(early)) => refuse(out, &early),
         Err(Refusal::ReadFault) => Status::ReadFault,
         Err(Refusal::NoMemory) => Status::NoMemory,
@@ -55,10 +59,14 @@ pub fn show_problem<S: Shelf, O: Sink>(
     ensures no_fall { O.faults out.old ≤ O.faults out.new }
 {
     match problem_under(alloc, shelf, name) {
-        Ok(problem) => match problem_text(alloc, &problem) {
-            Ok(text) => tell(out, &text, Status::Valid),
-            Err(_) => Status::NoMemory,
-        },
+        Ok(problem) => {
+            let shown = problem_text(alloc, &problem);
+            release_problem(problem);
+            match shown {
+                Ok(text) => tell(out, &text, Status::Valid),
+                Err(_) => Status::NoMemory,
+            }
+        }
         Err(Refusal::Early(early)) => refuse(out, &early),
         Err(Refusal::ReadFault) => Status::ReadFault,
         Err(Refusal::NoMemory) => Status::NoMemory,
