@@ -225,7 +225,8 @@ impl<'a> Replay<'a> {
     ) -> Result<(), AllocError>
         requires { Stands ground.now self.old }
     {
-        if self.lines(alloc, ground, plan, form, into)? {
+        let done = self.lines(alloc, ground, plan, form, into)?;
+        if done {
             return self.close(ground, into);
         }
         Ok(())

@@ -107,10 +107,21 @@ fn validate_ground<S: Shelf, O: Sink>(
     let Ok(mut feed) = Feed::begin(alloc, &*numbering, ground, happenings) else {
         return Outcome::NoMemory;
     };
+    // What is played is let go by a call: what drops it is long, and would stand here at each way out.
     match play_file(&mut feed, alloc, ground, shelf, plan, out, happenings) {
-        Ending::ReadFault => Outcome::ReadFault,
-        Ending::WriteFault => Outcome::WriteFault,
-        Ending::Played(played) => conclude(alloc, ground, &mut feed.run, played, out),
+        Ending::ReadFault => {
+            drop(feed);
+            Outcome::ReadFault
+        }
+        Ending::WriteFault => {
+            drop(feed);
+            Outcome::WriteFault
+        }
+        Ending::Played(played) => {
+            let outcome = conclude(alloc, ground, &mut feed.run, played, out);
+            drop(feed);
+            outcome
+        }
     }
 }
 

@@ -42,8 +42,8 @@ impl<'a> Feed<'a> {
         ensures begins { IfOk result (IsFresh (labels_of ground.now) (problem_of fraction_of ground.now) happenings numbering.now) }
         ensures memory { IfErr result (λ halt. halt ≡ Halt.Memory) }
     {
-        let run = Run::begin(alloc, ground, happenings)?;
         let reader = PlanReader::new(alloc, PlanForm::Timed)?;
+        let run = Run::begin(alloc, ground, happenings)?;
         Ok(Feed {
             run,
             instances: Instances::new(alloc, numbering),

@@ -113,7 +113,10 @@ fn judge_ground(
 {
     let mut feed = Feed::begin(alloc, &*numbering, ground, happenings)?;
     let played = play_bytes(&mut feed, alloc, ground, bytes, happenings);
-    sum_up(alloc, ground, &mut feed.run, played)
+    let judgement = sum_up(alloc, ground, &mut feed.run, played);
+    // By a call: what drops a plan that is played is long, and its proof stands once.
+    drop(feed);
+    judgement
 }
 
 // Judges the plan text of a pair whose ground atoms and fluents are numbered.

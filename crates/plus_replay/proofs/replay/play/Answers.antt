@@ -1,12 +1,7 @@
-use Rattle.plus_replay.specs.Replay.{Stands}
-use Rattle.plus_replay.proofs.Standing.{on_true}
 use Rattle.plus_replay.proofs.replay.play.Goals as goal
 
 pub begin-requires : goal.begin-requires
 begin-requires c = c.requires
 
-pub lines-requires : goal.lines-requires
-lines-requires c = c.in_ok-replay.ensures
-
-pub close-requires : goal.close-requires
-close-requires c = on_true c.in_ok-done.done (Stands c.args.ground.now c.lines.new.self) c.if-done.true c.in_ok-done.ensures
+pub text-requires : goal.text-requires
+text-requires c = c.in_ok-replay.ensures

@@ -22,35 +22,35 @@ returns-in-Played-clause-valid g c = λ h.
     ends_valid c.args.numbering.now.typed.now.domain c.args.numbering.now.typed.now.problem (labels_of c.args.ground.now) (problem_of fraction_of c.args.ground.now)
     c.args.happenings (g.S.Shelf.bytes c.args.shelf.now c.args.plan.now) (progress [] c.in-Ok.feed.run) c.play_file.new.feed.run c.in-Played.played
     (g.O.Sink.taken c.args.out.now) (g.O.Sink.taken c.play_file.new.out) c.requires.groundable c.requires.expands.expands c.requires.expands.labels c.in-Ok.ensures.begins.begins
-    (from_same _ _ _ _ c.in-Ok.ensures.begins.same _ _ _ _ _ _ c.in-Played.ensures.plays) c.in-Played.ensures.fits _ c.conclude.result _ _ c.conclude.ensures.concludes h
+    (from_same _ _ _ _ c.in-Ok.ensures.begins.same _ _ _ _ _ _ c.in-Played.ensures.plays) c.in-Played.ensures.fits _ c.conclude-outcome.result _ _ c.conclude-outcome.ensures.concludes h
 
 pub returns-in-Played-clause-refused : goal.returns-in-Played-clause-refused
 returns-in-Played-clause-refused g c = λ h.
     ends_refused c.args.numbering.now.typed.now.domain c.args.numbering.now.typed.now.problem (labels_of c.args.ground.now) (problem_of fraction_of c.args.ground.now)
     c.args.happenings (g.S.Shelf.bytes c.args.shelf.now c.args.plan.now) (progress [] c.in-Ok.feed.run) c.play_file.new.feed.run c.in-Played.played
     (g.O.Sink.taken c.args.out.now) (g.O.Sink.taken c.play_file.new.out) c.requires.groundable c.requires.expands.expands c.requires.expands.labels c.in-Ok.ensures.begins.begins
-    (from_same _ _ _ _ c.in-Ok.ensures.begins.same _ _ _ _ _ _ c.in-Played.ensures.plays) c.in-Played.ensures.fits _ c.conclude.result _ _ c.conclude.ensures.concludes h
+    (from_same _ _ _ _ c.in-Ok.ensures.begins.same _ _ _ _ _ _ c.in-Played.ensures.plays) c.in-Played.ensures.fits _ c.conclude-outcome.result _ _ c.conclude-outcome.ensures.concludes h
 
 pub returns-in-Played-clause-no_memory : goal.returns-in-Played-clause-no_memory
 returns-in-Played-clause-no_memory g c = λ h.
     ends_wanting c.args.numbering.now.typed.now.domain c.args.numbering.now.typed.now.problem (labels_of c.args.ground.now) (problem_of fraction_of c.args.ground.now)
     c.args.happenings (g.S.Shelf.bytes c.args.shelf.now c.args.plan.now) (progress [] c.in-Ok.feed.run) c.play_file.new.feed.run c.in-Played.played
     (g.O.Sink.taken c.args.out.now) (g.O.Sink.taken c.play_file.new.out) c.requires.groundable c.requires.expands.expands c.requires.expands.labels c.in-Ok.ensures.begins.begins
-    (from_same _ _ _ _ c.in-Ok.ensures.begins.same _ _ _ _ _ _ c.in-Played.ensures.plays) c.in-Played.ensures.fits _ c.conclude.result _ _ c.conclude.ensures.concludes h
+    (from_same _ _ _ _ c.in-Ok.ensures.begins.same _ _ _ _ _ _ c.in-Played.ensures.plays) c.in-Played.ensures.fits _ c.conclude-outcome.result _ _ c.conclude-outcome.ensures.concludes h
 
 pub returns-in-Played-clause-read_fault : goal.returns-in-Played-clause-read_fault
 returns-in-Played-clause-read_fault g c = λ h.
     absurd (ends_reading c.args.numbering.now.typed.now.domain c.args.numbering.now.typed.now.problem (labels_of c.args.ground.now) (problem_of fraction_of c.args.ground.now)
     c.args.happenings (g.S.Shelf.bytes c.args.shelf.now c.args.plan.now) (progress [] c.in-Ok.feed.run) c.play_file.new.feed.run c.in-Played.played
     (g.O.Sink.taken c.args.out.now) (g.O.Sink.taken c.play_file.new.out) c.requires.groundable c.requires.expands.expands c.requires.expands.labels c.in-Ok.ensures.begins.begins
-    (from_same _ _ _ _ c.in-Ok.ensures.begins.same _ _ _ _ _ _ c.in-Played.ensures.plays) c.in-Played.ensures.fits _ c.conclude.result _ _ c.conclude.ensures.concludes h)
+    (from_same _ _ _ _ c.in-Ok.ensures.begins.same _ _ _ _ _ _ c.in-Played.ensures.plays) c.in-Played.ensures.fits _ c.conclude-outcome.result _ _ c.conclude-outcome.ensures.concludes h)
 
 pub returns-in-Played-clause-write_fault : goal.returns-in-Played-clause-write_fault
 returns-in-Played-clause-write_fault g c = λ h.
     let k = ends_broken c.args.numbering.now.typed.now.domain c.args.numbering.now.typed.now.problem (labels_of c.args.ground.now) (problem_of fraction_of c.args.ground.now)
     c.args.happenings (g.S.Shelf.bytes c.args.shelf.now c.args.plan.now) (progress [] c.in-Ok.feed.run) c.play_file.new.feed.run c.in-Played.played
     (g.O.Sink.taken c.args.out.now) (g.O.Sink.taken c.play_file.new.out) c.requires.groundable c.requires.expands.expands c.requires.expands.labels c.in-Ok.ensures.begins.begins
-    (from_same _ _ _ _ c.in-Ok.ensures.begins.same _ _ _ _ _ _ c.in-Played.ensures.plays) c.in-Played.ensures.fits _ c.conclude.result _ _ c.conclude.ensures.concludes h in
+    (from_same _ _ _ _ c.in-Ok.ensures.begins.same _ _ _ _ _ _ c.in-Played.ensures.plays) c.in-Played.ensures.fits _ c.conclude-outcome.result _ _ c.conclude-outcome.ensures.concludes h in
     (rose_since _ _ _ c.play_file.ensures.no_fall k.0, k.1)
 
 pub returns-in-ReadFault-clause-read_fault : goal.returns-in-ReadFault-clause-read_fault

@@ -27,11 +27,11 @@ returns c =
     let P = problem_of fraction_of c.args.ground.now in
     let played = c.play_bytes-played.ensures.played in
     record {
-      judged = if_ok c.sum_up.result (SumsUp N P c.play_bytes-played.new.feed.run c.play_bytes-played.result) (λ (j : Judgement). JudgesText d p c.args.happenings c.args.bytes.now j.judged)
+      judged = if_ok c.sum_up-judgement.result (SumsUp N P c.play_bytes-played.new.feed.run c.play_bytes-played.result) (λ (j : Judgement). JudgesText d p c.args.happenings c.args.bytes.now j.judged)
           (λ (j : Judgement) u.
           (judged d p N P c.args.happenings c.args.bytes.now (progress [] c.in_ok-feed.feed.run) played.gone c.play_bytes-played.new.feed.run c.requires.groundable j c.play_bytes-played.result
           c.requires.expands.expands c.requires.expands.labels c.in_ok-feed.ensures.begins.begins
           (played_same _ _ N P c.in_ok-feed.ensures.begins.same c.args.bytes.now (progress [] c.in_ok-feed.feed.run) played.gone c.play_bytes-played.new.feed.run
           c.play_bytes-played.result played.out) c.play_bytes-played.ensures.fits u).judged)
-          c.sum_up.ensures.sums;
+          c.sum_up-judgement.ensures.sums;
     }
