@@ -28,11 +28,11 @@ pub returns-in-Ok-clause-answers : goal.returns-in-Ok-clause-answers
 returns-in-Ok-clause-answers g c =
     from_before _ _ c.args.files.domain.now c.args.files.problem.now c.args.files.plan.now c.in-Ok.typed.domain c.in-Ok.typed.problem _ _ _ _ _ _ _ _
     c.in-Ok.ensures.keeps.same_bytes c.in-Ok.ensures.read c.in-Ok.ensures.keeps.no_fall
-    (c.play.ensures.answers c.args.files.domain.now c.args.files.problem.now)
+    (c.play-status.ensures.answers c.args.files.domain.now c.args.files.problem.now)
 
 pub returns-in-Ok-clause-keeps : goal.returns-in-Ok-clause-keeps
-returns-in-Ok-clause-keeps g c = KeepsFiles-trans _ _ _ c.in-Ok.ensures.keeps c.play.ensures.keeps
+returns-in-Ok-clause-keeps g c = KeepsFiles-trans _ _ _ c.in-Ok.ensures.keeps c.play-status.ensures.keeps
 
 pub returns-in-Ok-clause-reads : goal.returns-in-Ok-clause-reads
 returns-in-Ok-clause-reads g c =
-    each_then _ _ _ _ _ (c.args.files.domain.now ∷ c.args.files.problem.now ∷ []) (c.args.files.plan.now ∷ []) _ _ _ c.in-Ok.ensures.both c.play.ensures.reads
+    each_then _ _ _ _ _ (c.args.files.domain.now ∷ c.args.files.problem.now ∷ []) (c.args.files.plan.now ∷ []) _ _ _ c.in-Ok.ensures.both c.play-status.ensures.reads

@@ -8,14 +8,14 @@ use Rattle.plus_run.proofs.ShowLemmas.{shown, shown_in_part, not_shown, not_show
 use Rattle.plus_run.proofs.AnswerLemmas.{text_answer, line_answer}
 use Rattle.plus_run.proofs.show.show_problem.Goals as goal
 
-pub returns-in-Ok-problem_text-clause-answers : goal.returns-in-Ok-problem_text-clause-answers
-returns-in-Ok-problem_text-clause-answers g c =
+pub returns-in-Ok-shown-clause-answers : goal.returns-in-Ok-shown-clause-answers
+returns-in-Ok-shown-clause-answers g c =
     let old = g.O.Sink.taken c.args.out.now in
     let new = g.O.Sink.taken c.tell.new.out in
     let before = g.O.Sink.faults c.args.out.now in
     let now = g.O.Sink.faults c.tell.new.out in
     let bytes = g.S.Shelf.bytes c.args.shelf.now c.args.name.now in
-    let text = subst (λ t. Writes t s.Valid old new before now c.tell.result) (c.deref.ensures.value ∙ c.in-Ok-problem_text.ensures) c.tell.ensures.writes in
+    let text = subst (λ t. Writes t s.Valid old new before now c.tell.result) (c.deref.ensures.value ∙ c.in-Ok-shown.ensures) c.tell.ensures.writes in
     text_answer _ _ _ _ _ _ _ _ _ _ text
     (shown (IsProblemText depth_limit) problem_text bytes c.in-Ok.problem old new before now c.tell.result c.in-Ok.ensures.read text)
     (shown_in_part (IsProblemText depth_limit) problem_text ProblemRefused bytes c.in-Ok.problem old new before now c.tell.result c.in-Ok.ensures.read text)
