@@ -1,11 +1,7 @@
 //! Rows of `lift`.
 
-use crate::tests::shelf_of;
-use plus_io::MemSink;
+use crate::tests::{Files, expect_words};
 use plus_reply::status::Status;
-use plus_run::run::run;
-use std::alloc::Global;
-use std::process::Abort;
 use std::test::Fail;
 
 const TANK: &str =
@@ -24,7 +20,7 @@ struct Row {
     output: &'static str,
 }
 
-const ROWS: [Row; 6] = [
+static ROWS: [Row; 6] = [
     Row {
         interval: "1/2",
         problem: FILLED,
@@ -70,25 +66,16 @@ const ROWS: [Row; 6] = [
     },
 ];
 
-// Runs one row.
-fn expect_row(rt: &impl Abort, alloc: Global, row: &Row) -> Result<(), Fail> {
-    let mut shelf = shelf_of(alloc, TANK, row.problem, row.plan)?;
-    let mut said = Vec::new(alloc);
-    for word in ["lift", row.interval, "d", "p", "l"] {
-        said.push(String::from_str(alloc, word)?)?;
-    }
-    let mut out = MemSink::new(alloc, 64);
-    let answer = run(alloc, &said, &mut shelf, &mut out);
-    assert_eq!(rt; out.bytes(), row.output.as_bytes());
-    assert_eq!(rt; answer, row.status);
-    Ok(())
-}
-
 #[test]
 fn rows_of_lift(rt: HostRuntime) -> Result<(), Fail> {
-    let alloc = rt.alloc();
-    for row in ROWS {
-        expect_row(&rt, alloc, &row)?;
+    for row in &ROWS {
+        let files = Files {
+            domain: TANK,
+            problem: row.problem,
+            plan: row.plan,
+        };
+        let words = ["lift", row.interval, "d", "p", "l"];
+        expect_words(&rt, &words, files, row.status, row.output)?;
     }
     Ok(())
 }

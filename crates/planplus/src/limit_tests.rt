@@ -1,14 +1,15 @@
 //! Both sides of each limit: a text at the limit is read, and one past it is refused, with its place.
 
-use crate::tests::{D1, DOOR, OPENED, OPENED_REPORT, check_words, expect_run, shelf_of};
+use crate::tests::{
+    CHECK, D1, DOOR, Files, OPENED, OPENED_REPORT, door, expect_check, shelf_of, status_of,
+};
 use plus_io::MemSink;
 use plus_reply::status::Status;
-use plus_run::run::run;
 use std::alloc::Global;
 use std::process::Abort;
 use std::test::Fail;
 
-const TEXT_LIMIT: usize = 1048576;
+pub const TEXT_LIMIT: usize = 1048576;
 
 const LINE_LIMIT: usize = 4096;
 
@@ -16,8 +17,8 @@ const NAME: &str = "abcdefghijklmnopqrstuvwxyz-abcdefghijklmnopqrstuvwxyz-012345
 
 const UNLOCKED: &str = "at 0\n  run\nat 1\n  act (unlock)\n    - (locked)\ninvalid: goal\n";
 
-// Plans of the door at a limit and past it, what is written, and the status.
-const TIMES: [(&str, Status, &str); 9] = [
+// Plans of the door with times at a limit and past it, the status and what is written.
+static TIMES: [(&str, Status, &str); 9] = [
     (
         "0000000000000000001.000000000: (unlock)",
         Status::Invalid,
@@ -88,67 +89,83 @@ fn nested(alloc: Global, depth: usize) -> Result<String, Fail> {
 
 // A domain with a predicate of this name.
 fn named(alloc: Global, name: &str, more: &str) -> Result<String, Fail> {
-    let mut text = String::from_str(alloc, "(define (domain n) (:predicates (")?;
-    text.push_str(name)?;
-    text.push_str(more)?;
-    text.push_str(")))")?;
-    Ok(text)
+    Ok(format!(in alloc; "(define (domain n) (:predicates ({name}{more})))")?)
 }
 
 const EMPTY: &str = "(define (problem q) (:domain n) (:init) (:goal (and)))";
 
+const ACCEPTED: &str = "at 0\nvalid\n";
+
+// What is written of the door's plan where its text goes on until it is too long.
+pub const LONG_REPORT: &str =
+    "at 0\n  run\nat 1\n  act (unlock)\n    - (locked)\n  run\nat 3\n  act (open-door)\n    - (closed)\nbeyond: plan text over 1048576 bytes\n";
+
 #[test]
 fn times(rt: HostRuntime) -> Result<(), Fail> {
-    let alloc = rt.alloc();
-    for (plan, status, output) in TIMES {
-        let shelf = shelf_of(alloc, DOOR, D1, plan)?;
-        expect_run(&rt, alloc, shelf, MemSink::new(alloc, 64), status, output)?;
+    for &(plan, status, output) in &TIMES {
+        expect_check(&rt, door(plan), status, output)?;
     }
     Ok(())
 }
 
 #[test]
-fn lengths_of_texts(rt: HostRuntime) -> Result<(), Fail> {
-    let alloc = rt.alloc();
-    let (longest, longer) = (TEXT_LIMIT, TEXT_LIMIT + 1);
+fn lengths_of_domains(rt: HostRuntime) -> Result<(), Fail> {
     for (size, status, output) in [
-        (longest, Status::Valid, OPENED_REPORT),
+        (TEXT_LIMIT, Status::Valid, OPENED_REPORT),
         (
-            longer,
+            TEXT_LIMIT + 1,
             Status::Beyond,
             "beyond: domain text over 1048576 bytes\n",
         ),
     ] {
-        let text = filled(alloc, DOOR, " ", size)?;
-        let shelf = shelf_of(alloc, &text, D1, OPENED)?;
-        expect_run(&rt, alloc, shelf, MemSink::new(alloc, 64), status, output)?;
-    }
-    for (size, status, output) in [
-        (longest, Status::Valid, OPENED_REPORT),
-        (
-            longer,
-            Status::Beyond,
-            "beyond: problem text over 1048576 bytes\n",
-        ),
-    ] {
-        let text = filled(alloc, D1, " ", size)?;
-        let shelf = shelf_of(alloc, DOOR, &text, OPENED)?;
-        expect_run(&rt, alloc, shelf, MemSink::new(alloc, 64), status, output)?;
+        let domain = filled(rt.alloc(), DOOR, " ", size)?;
+        let files = Files {
+            domain: &domain,
+            ..door(OPENED)
+        };
+        expect_check(&rt, files, status, output)?;
     }
     Ok(())
 }
 
 #[test]
-fn lengths_of_plans(rt: HostRuntime) -> Result<(), Fail> {
-    let alloc = rt.alloc();
-    for (piece, size, status, output) in [
-        ("\n", TEXT_LIMIT, Status::Valid, OPENED_REPORT),
+fn lengths_of_problems(rt: HostRuntime) -> Result<(), Fail> {
+    for (size, status, output) in [
+        (TEXT_LIMIT, Status::Valid, OPENED_REPORT),
         (
-            "\n",
             TEXT_LIMIT + 1,
             Status::Beyond,
-            "at 0\n  run\nat 1\n  act (unlock)\n    - (locked)\n  run\nat 3\n  act (open-door)\n    - (closed)\nbeyond: plan text over 1048576 bytes\n",
+            "beyond: problem text over 1048576 bytes\n",
         ),
+    ] {
+        let problem = filled(rt.alloc(), D1, " ", size)?;
+        let files = Files {
+            problem: &problem,
+            ..door(OPENED)
+        };
+        expect_check(&rt, files, status, output)?;
+    }
+    Ok(())
+}
+
+// Runs `check` over the door with a plan that is filled up with a piece until it has so many bytes.
+fn expect_filled(
+    rt: &(impl Abort + AllocGlobal),
+    plan: &str,
+    piece: &str,
+    size: usize,
+    status: Status,
+    output: &str,
+) -> Result<(), Fail> {
+    let plan = filled(rt.alloc(), plan, piece, size)?;
+    expect_check(rt, door(&plan), status, output)
+}
+
+#[test]
+fn lengths_of_plans(rt: HostRuntime) -> Result<(), Fail> {
+    for (piece, size, status, output) in [
+        ("\n", TEXT_LIMIT, Status::Valid, OPENED_REPORT),
+        ("\n", TEXT_LIMIT + 1, Status::Beyond, LONG_REPORT),
         (
             " ",
             TEXT_LIMIT + 1,
@@ -156,10 +173,13 @@ fn lengths_of_plans(rt: HostRuntime) -> Result<(), Fail> {
             "at 0\n  run\nat 1\n  act (unlock)\n    - (locked)\n  run\nat 3\n  act (open-door)\n    - (closed)\nbeyond: line 3 over 4096 bytes\n",
         ),
     ] {
-        let text = filled(alloc, OPENED, piece, size)?;
-        let shelf = shelf_of(alloc, DOOR, D1, &text)?;
-        expect_run(&rt, alloc, shelf, MemSink::new(alloc, 64), status, output)?;
+        expect_filled(&rt, OPENED, piece, size, status, output)?;
     }
+    Ok(())
+}
+
+#[test]
+fn lengths_of_lines(rt: HostRuntime) -> Result<(), Fail> {
     for (size, status, output) in [
         (LINE_LIMIT, Status::Invalid, UNLOCKED),
         (
@@ -168,31 +188,46 @@ fn lengths_of_plans(rt: HostRuntime) -> Result<(), Fail> {
             "at 0\nbeyond: line 1 over 4096 bytes\n",
         ),
     ] {
-        let text = filled(alloc, "1: (unlock)", " ", size)?;
-        let shelf = shelf_of(alloc, DOOR, D1, &text)?;
-        expect_run(&rt, alloc, shelf, MemSink::new(alloc, 64), status, output)?;
+        expect_filled(&rt, "1: (unlock)", " ", size, status, output)?;
+    }
+    Ok(())
+}
+
+// Runs `check` over a domain that an empty problem and an empty plan go with.
+fn expect_domain(
+    rt: &(impl Abort + AllocGlobal),
+    domain: &str,
+    status: Status,
+    output: &str,
+) -> Result<(), Fail> {
+    let files = Files {
+        domain,
+        problem: EMPTY,
+        plan: "",
+    };
+    expect_check(rt, files, status, output)
+}
+
+#[test]
+fn depths(rt: HostRuntime) -> Result<(), Fail> {
+    for (depth, status, output) in [
+        (64, Status::Valid, ACCEPTED),
+        (65, Status::Beyond, "beyond: depth 64 in domain at 286\n"),
+    ] {
+        let domain = nested(rt.alloc(), depth)?;
+        expect_domain(&rt, &domain, status, output)?;
     }
     Ok(())
 }
 
 #[test]
-fn depths_and_names(rt: HostRuntime) -> Result<(), Fail> {
-    let alloc = rt.alloc();
-    for (depth, status, output) in [
-        (64, Status::Valid, "at 0\nvalid\n"),
-        (65, Status::Beyond, "beyond: depth 64 in domain at 286\n"),
-    ] {
-        let text = nested(alloc, depth)?;
-        let shelf = shelf_of(alloc, &text, EMPTY, "")?;
-        expect_run(&rt, alloc, shelf, MemSink::new(alloc, 64), status, output)?;
-    }
+fn lengths_of_names(rt: HostRuntime) -> Result<(), Fail> {
     for (more, status, output) in [
-        ("", Status::Valid, "at 0\nvalid\n"),
+        ("", Status::Valid, ACCEPTED),
         ("x", Status::BadText, "bad text: domain 33-34: long\n"),
     ] {
-        let text = named(alloc, NAME, more)?;
-        let shelf = shelf_of(alloc, &text, EMPTY, "")?;
-        expect_run(&rt, alloc, shelf, MemSink::new(alloc, 64), status, output)?;
+        let domain = named(rt.alloc(), NAME, more)?;
+        expect_domain(&rt, &domain, status, output)?;
     }
     Ok(())
 }
@@ -207,21 +242,25 @@ fn moments(alloc: Global, count: u32) -> Result<String, Fail> {
     Ok(text)
 }
 
-// Runs the words over a plan that comes to so many moments, and compares the status and the end of
-// what was written.
+// Carries out the words over a plan that comes to so many moments, and compares the status and the end
+// of what was written.
 fn expect_end(
-    rt: &impl Abort,
-    alloc: Global,
-    words: &[String],
+    rt: &(impl Abort + AllocGlobal),
+    words: &[&str],
     count: u32,
     status: Status,
     end: &str,
 ) -> Result<(), Fail> {
-    let domain = "(define (domain n) (:action note))";
+    let alloc = rt.alloc();
     let plan = moments(alloc, count)?;
-    let mut shelf = shelf_of(alloc, domain, EMPTY, &plan)?;
+    let files = Files {
+        domain: "(define (domain n) (:action note))",
+        problem: EMPTY,
+        plan: &plan,
+    };
+    let mut shelf = shelf_of(alloc, files)?;
     let mut out = MemSink::new(alloc, 4096);
-    let answer = run(alloc, words, &mut shelf, &mut out);
+    let answer = status_of(alloc, words, &mut shelf, &mut out)?;
     assert_eq!(rt; answer, status);
     let from = out.bytes().len().saturating_sub(end.len());
     assert_eq!(rt; &out.bytes()[from..], end.as_bytes(), "{end}");
@@ -230,8 +269,6 @@ fn expect_end(
 
 #[test]
 fn happenings(rt: HostRuntime) -> Result<(), Fail> {
-    let alloc = rt.alloc();
-    let words = check_words(alloc)?;
     for (count, status, end) in [
         (10000, Status::Valid, "\nat 9999\n  act (note)\nvalid\n"),
         (
@@ -240,32 +277,34 @@ fn happenings(rt: HostRuntime) -> Result<(), Fail> {
             "\nat 9999\n  act (note)\nbeyond: happenings 10000\n",
         ),
     ] {
-        expect_end(&rt, alloc, &words, count, status, end)?;
+        expect_end(&rt, &CHECK, count, status, end)?;
     }
     Ok(())
 }
 
 #[test]
 fn more_happenings(rt: HostRuntime) -> Result<(), Fail> {
-    let alloc = rt.alloc();
-    let mut words = check_words(alloc)?;
-    words.push(String::from_str(alloc, "--happenings")?)?;
-    words.push(String::from_str(alloc, "10001")?)?;
+    let words = ["check", "d", "p", "l", "--happenings", "10001"];
     let end = "\nat 10000\n  act (note)\nvalid\n";
-    expect_end(&rt, alloc, &words, 10001, Status::Valid, end)
+    expect_end(&rt, &words, 10001, Status::Valid, end)
+}
+
+// The names of so many objects.
+fn objects(alloc: Global, count: u32) -> Result<String, Fail> {
+    let mut names = String::new(alloc);
+    for number in 0..count {
+        let name = format!(in alloc; " o{number}")?;
+        names.push_str(&name)?;
+    }
+    Ok(names)
 }
 
 // A problem over so many objects.
 pub fn peopled(alloc: Global, count: u32, goal: &str) -> Result<String, Fail> {
-    let mut text = String::from_str(alloc, "(define (problem q) (:domain n) (:objects")?;
-    for number in 0..count {
-        let object = format!(in alloc; " o{number}")?;
-        text.push_str(&object)?;
-    }
-    text.push_str(") (:init) (:goal ")?;
-    text.push_str(goal)?;
-    text.push_str("))")?;
-    Ok(text)
+    let objects = objects(alloc, count)?;
+    Ok(format!(in alloc;
+        "(define (problem q) (:domain n) (:objects{objects}) (:init) (:goal {goal}))"
+    )?)
 }
 
 // A goal that has 1001 nodes for each object, and one more.
@@ -278,97 +317,112 @@ pub fn wide(alloc: Global) -> Result<String, Fail> {
     Ok(goal)
 }
 
-const ACCEPTED: &str = "at 0\nvalid\n";
-
-#[test]
-fn counts(rt: HostRuntime) -> Result<(), Fail> {
-    let alloc = rt.alloc();
-    let atoms = "(define (domain n) (:predicates (p ?a ?b)))";
-    let fluents = "(define (domain n) (:functions (f ?a ?b)))";
-    for (domain, count, status, output) in [
-        ("(define (domain n))", 10000, Status::Valid, ACCEPTED),
-        (
-            "(define (domain n))",
-            10001,
-            Status::Beyond,
-            "beyond: more than 10000 objects\n",
-        ),
-        (atoms, 447, Status::Valid, ACCEPTED),
-        (
-            atoms,
-            448,
-            Status::Beyond,
-            "beyond: more than 200000 atoms\n",
-        ),
-        (fluents, 223, Status::Valid, ACCEPTED),
-        (
-            fluents,
-            224,
-            Status::Beyond,
-            "beyond: more than 50000 fluents\n",
-        ),
-    ] {
-        let problem = peopled(alloc, count, "(and)")?;
-        let shelf = shelf_of(alloc, domain, &problem, "")?;
-        expect_run(&rt, alloc, shelf, MemSink::new(alloc, 64), status, output)?;
-    }
-    let domain = "(define (domain n) (:predicates (p)))";
+// The same goal with one node more.
+fn wider(alloc: Global) -> Result<String, Fail> {
     let goal = wide(alloc)?;
-    let more = format!(in alloc; "(and {goal})")?;
-    for (goal, status, output) in [
-        (goal.as_str(), Status::Valid, ACCEPTED),
-        (
-            more.as_str(),
-            Status::Beyond,
-            "beyond: more than 1000000 nodes\n",
-        ),
-    ] {
-        let problem = peopled(alloc, 999, goal)?;
-        let shelf = shelf_of(alloc, domain, &problem, "")?;
-        expect_run(&rt, alloc, shelf, MemSink::new(alloc, 64), status, output)?;
+    Ok(format!(in alloc; "(and {goal})")?)
+}
+
+// Runs `check` over a problem of so many objects.
+fn expect_peopled(
+    rt: &(impl Abort + AllocGlobal),
+    domain: &str,
+    count: u32,
+    goal: &str,
+    status: Status,
+    output: &str,
+) -> Result<(), Fail> {
+    let problem = peopled(rt.alloc(), count, goal)?;
+    let files = Files {
+        domain,
+        problem: &problem,
+        plan: "",
+    };
+    expect_check(rt, files, status, output)
+}
+
+const BARE: &str = "(define (domain n))";
+
+const ATOMS: &str = "(define (domain n) (:predicates (p ?a ?b)))";
+
+const FLUENTS: &str = "(define (domain n) (:functions (f ?a ?b)))";
+
+// Domains, numbers of objects at a limit and past it, the status and what is written.
+static COUNTS: [(&str, u32, Status, &str); 6] = [
+    (BARE, 10000, Status::Valid, ACCEPTED),
+    (
+        BARE,
+        10001,
+        Status::Beyond,
+        "beyond: more than 10000 objects\n",
+    ),
+    (ATOMS, 447, Status::Valid, ACCEPTED),
+    (
+        ATOMS,
+        448,
+        Status::Beyond,
+        "beyond: more than 200000 atoms\n",
+    ),
+    (FLUENTS, 223, Status::Valid, ACCEPTED),
+    (
+        FLUENTS,
+        224,
+        Status::Beyond,
+        "beyond: more than 50000 fluents\n",
+    ),
+];
+
+#[test]
+fn objects_atoms_and_fluents(rt: HostRuntime) -> Result<(), Fail> {
+    for &(domain, count, status, output) in &COUNTS {
+        expect_peopled(&rt, domain, count, "(and)", status, output)?;
     }
     Ok(())
 }
 
-// A domain with one action, which has this condition.
-fn conditioned(alloc: Global, condition: &str) -> Result<String, Fail> {
-    let mut text = String::from_str(
-        alloc,
-        "(define (domain n) (:predicates (p)) (:action a :precondition ",
-    )?;
-    text.push_str(condition)?;
-    text.push_str("))")?;
-    Ok(text)
+const SWITCH: &str = "(define (domain n) (:predicates (p)))";
+
+#[test]
+fn as_many_nodes_as_a_goal_may_have(rt: HostRuntime) -> Result<(), Fail> {
+    let goal = wide(rt.alloc())?;
+    expect_peopled(&rt, SWITCH, 999, &goal, Status::Valid, ACCEPTED)
 }
 
 #[test]
-fn instances(rt: HostRuntime) -> Result<(), Fail> {
-    let alloc = rt.alloc();
-    let wide = wide(alloc)?;
-    let condition = format!(in alloc; "(and {wide})")?;
-    let domain = conditioned(alloc, &condition)?;
-    let problem = peopled(alloc, 999, "(and)")?;
-    let shelf = shelf_of(alloc, &domain, &problem, "1: (a)")?;
+fn more_nodes_than_a_goal_may_have(rt: HostRuntime) -> Result<(), Fail> {
+    let goal = wider(rt.alloc())?;
+    let output = "beyond: more than 1000000 nodes\n";
+    expect_peopled(&rt, SWITCH, 999, &goal, Status::Beyond, output)
+}
+
+// A domain with one action, whose condition has more nodes than one may have.
+fn wide_action(alloc: Global) -> Result<String, Fail> {
+    let condition = wider(alloc)?;
+    Ok(format!(in alloc;
+        "(define (domain n) (:predicates (p)) (:action a :precondition {condition}))"
+    )?)
+}
+
+#[test]
+fn nodes_of_an_instance(rt: HostRuntime) -> Result<(), Fail> {
+    let domain = wide_action(rt.alloc())?;
+    let problem = peopled(rt.alloc(), 999, "(and)")?;
+    let files = Files {
+        domain: &domain,
+        problem: &problem,
+        plan: "1: (a)",
+    };
     let output = "at 0\n  run\nat 1\nbeyond: more than 1000000 nodes\n";
-    expect_run(
-        &rt,
-        alloc,
-        shelf,
-        MemSink::new(alloc, 64),
-        Status::Beyond,
-        output,
-    )?;
-    let domain =
-        "(define (domain n) (:functions (f)) (:action a :effect (assign (f) 9223372036854775808)))";
-    let shelf = shelf_of(alloc, domain, EMPTY, "1: (a)")?;
+    expect_check(&rt, files, Status::Beyond, output)
+}
+
+#[test]
+fn a_literal_of_an_instance(rt: HostRuntime) -> Result<(), Fail> {
+    let files = Files {
+        domain: "(define (domain n) (:functions (f)) (:action a :effect (assign (f) 9223372036854775808)))",
+        problem: EMPTY,
+        plan: "1: (a)",
+    };
     let output = "at 0\n  run\nat 1\nbeyond: literal in domain 67-86\n";
-    expect_run(
-        &rt,
-        alloc,
-        shelf,
-        MemSink::new(alloc, 64),
-        Status::Beyond,
-        output,
-    )?;
-    Ok(())
+    expect_check(&rt, files, Status::Beyond, output)
 }

@@ -1,12 +1,10 @@
 //! A world that moves: a tank that an event closes, with a valve that a timetable opens, a cascade without an end and a
 //! ramp whose event has no first moment.
 
-use crate::tests::{check_words, expect_run, shelf_of};
-use plus_io::{MemSink, QuietShelf, QuietSink};
+use crate::tests::{CHECK, Row, expect_rows, status_of};
+use plus_io::{QuietShelf, QuietSink};
 use plus_reply::status::Status;
-use plus_run::run::run;
 use std::alloc::Global;
-use std::process::Abort;
 use std::test::Fail;
 
 const TANK: &str = "(define (domain tank) (:predicates (open)) (:functions (level))
@@ -36,8 +34,7 @@ const RAMP: &str = "(define (domain ramp) (:functions (x))
 
 const LOW: &str = "(define (problem l) (:domain ramp) (:init (= (x) 0)) (:goal ()))";
 
-// A domain, a problem, a plan, the status and what is written.
-const ROWS: [(&str, &str, &str, Status, &str); 4] = [
+static ROWS: [Row; 4] = [
     (TANK, EMPTY, FILLED, Status::Valid, FILLED_REPORT),
     (
         TANK,
@@ -64,25 +61,24 @@ const ROWS: [(&str, &str, &str, Status, &str); 4] = [
 
 #[test]
 fn moving_worlds(rt: HostRuntime) -> Result<(), Fail> {
-    let alloc = rt.alloc();
-    for (domain, problem, plan, status, output) in ROWS {
-        let shelf = shelf_of(alloc, domain, problem, plan)?;
-        expect_run(&rt, alloc, shelf, MemSink::new(alloc, 64), status, output)?;
-    }
-    Ok(())
+    expect_rows(&rt, &CHECK, &ROWS)
+}
+
+// The files of the tank on a shelf that tells nothing and never fails.
+fn quiet_shelf(alloc: Global) -> Result<QuietShelf, Fail> {
+    let mut shelf = QuietShelf::new(alloc);
+    shelf.put("d", TANK.as_bytes())?;
+    shelf.put("p", EMPTY.as_bytes())?;
+    shelf.put("l", FILLED.as_bytes())?;
+    Ok(shelf)
 }
 
 // The tank over a shelf and a sink that tell nothing and never fail.
 #[test]
 fn in_silence(rt: HostRuntime) -> Result<(), Fail> {
-    let alloc = rt.alloc();
-    let words = check_words(alloc)?;
-    let mut shelf = QuietShelf::new(alloc);
-    shelf.put("d", TANK.as_bytes())?;
-    shelf.put("p", EMPTY.as_bytes())?;
-    shelf.put("l", FILLED.as_bytes())?;
+    let mut shelf = quiet_shelf(rt.alloc())?;
     let mut out = QuietSink::new();
-    let answer = run(alloc, &words, &mut shelf, &mut out);
+    let answer = status_of(rt.alloc(), &CHECK, &mut shelf, &mut out)?;
     assert_eq!(rt; answer, Status::Valid);
     assert_eq!(rt; out.count(), FILLED_REPORT.len() as u64);
     Ok(())

@@ -1,13 +1,13 @@
 //! Plans without time: what is beyond them, an action whose effects read the state before it, the translation of a tank, and what a
 //! refused line leaves unread.
 
-use crate::tests::shelf_of;
+use crate::tests::{Files, Row, expect_rows, expect_run, shelf_of};
 use plus_io::{MemShelf, MemSink};
 use plus_reply::status::Status;
-use plus_run::run::run;
 use std::alloc::Global;
-use std::process::Abort;
 use std::test::Fail;
+
+const NUMERIC: [&str; 4] = ["numeric", "d", "p", "l"];
 
 const GOAL: &str = "(define (problem q) (:domain d) (:init) (:goal (and)))";
 
@@ -26,8 +26,7 @@ const FILLED: &str =
 const FIVE_STEPS: &str =
     "(open-valve)\n(pp-step)\n(pp-step)\n(pp-step)\n(pp-step)\n(pp-step)\n(pp-fire)\n";
 
-// A domain, a problem, a plan, the status and what is written.
-const ROWS: [(&str, &str, &str, Status, &str); 12] = [
+static ROWS: [Row; 12] = [
     (
         "(define (domain d) (:event e))",
         GOAL,
@@ -102,42 +101,31 @@ const ROWS: [(&str, &str, &str, Status, &str); 12] = [
     ),
 ];
 
-fn numeric_words(alloc: Global) -> Result<Vec<String>, Fail> {
-    let mut words = Vec::new(alloc);
-    for word in ["numeric", "d", "p", "l"] {
-        words.push(String::from_str(alloc, word)?)?;
-    }
-    Ok(words)
+#[test]
+fn plans_without_time(rt: HostRuntime) -> Result<(), Fail> {
+    expect_rows(&rt, &NUMERIC, &ROWS)
 }
 
-fn expect_numeric(
-    rt: &impl Abort,
-    alloc: Global,
-    mut shelf: MemShelf,
-    status: Status,
-    output: &str,
-) -> Result<(), Fail> {
-    let mut sink = MemSink::new(alloc, 64);
-    let words = numeric_words(alloc)?;
-    assert_eq!(rt; run(alloc, &words, &mut shelf, &mut sink), status);
-    assert_eq!(rt; sink.bytes(), output.as_bytes());
-    Ok(())
+// A shelf with the files that reads byte by byte.
+fn bytewise(alloc: Global, files: Files<'_>) -> Result<MemShelf, Fail> {
+    let mut shelf = shelf_of(alloc, files)?;
+    shelf.pieces(1);
+    Ok(shelf)
 }
 
 #[test]
-fn plans_without_time(rt: HostRuntime) -> Result<(), Fail> {
-    let alloc = rt.alloc();
-    for (domain, problem, plan, status, output) in ROWS {
-        expect_numeric(
-            &rt,
-            alloc,
-            shelf_of(alloc, domain, problem, plan)?,
-            status,
-            output,
+fn plans_without_time_byte_by_byte(rt: HostRuntime) -> Result<(), Fail> {
+    for &(domain, problem, plan, status, output) in &ROWS {
+        let mut shelf = bytewise(
+            rt.alloc(),
+            Files {
+                domain,
+                problem,
+                plan,
+            },
         )?;
-        let mut shelf = shelf_of(alloc, domain, problem, plan)?;
-        shelf.pieces(1);
-        expect_numeric(&rt, alloc, shelf, status, output)?;
+        let mut out = MemSink::new(rt.alloc(), 64);
+        expect_run(&rt, &NUMERIC, &mut shelf, &mut out, status, output)?;
     }
     Ok(())
 }
@@ -145,19 +133,24 @@ fn plans_without_time(rt: HostRuntime) -> Result<(), Fail> {
 // A read that fails leaves nothing written; a line that is refused before it is told.
 #[test]
 fn a_read_that_fails(rt: HostRuntime) -> Result<(), Fail> {
-    let alloc = rt.alloc();
-    let mut shelf = shelf_of(alloc, MIX, MIXED, "(mix)\n")?;
-    shelf.pieces(1);
-    shelf.fail("l", 4)?;
-    expect_numeric(&rt, alloc, shelf, Status::ReadFault, "")?;
-    let mut refused = shelf_of(alloc, MIX, MIXED, "(shut)\n(mix)\n")?;
-    refused.pieces(1);
-    refused.fail("l", 9)?;
-    expect_numeric(
-        &rt,
-        alloc,
-        refused,
-        Status::Invalid,
-        "invalid: line 1: unknown action shut\n",
-    )
+    for (plan, call, status, output) in [
+        ("(mix)\n", 4, Status::ReadFault, ""),
+        (
+            "(shut)\n(mix)\n",
+            9,
+            Status::Invalid,
+            "invalid: line 1: unknown action shut\n",
+        ),
+    ] {
+        let files = Files {
+            domain: MIX,
+            problem: MIXED,
+            plan,
+        };
+        let mut shelf = bytewise(rt.alloc(), files)?;
+        shelf.fail("l", call)?;
+        let mut out = MemSink::new(rt.alloc(), 64);
+        expect_run(&rt, &NUMERIC, &mut shelf, &mut out, status, output)?;
+    }
+    Ok(())
 }

@@ -1,11 +1,7 @@
 //! Rows of `plan`.
 
-use crate::tests::{expect_run, shelf_of};
-use plus_io::MemSink;
+use crate::tests::{Files, USAGE, expect_check, expect_words};
 use plus_reply::status::Status;
-use plus_run::run::run;
-use std::alloc::Global;
-use std::process::Abort;
 use std::test::Fail;
 
 const TANK: &str =
@@ -33,7 +29,7 @@ struct Row {
     output: &'static str,
 }
 
-const ROWS: [Row; 10] = [
+static ROWS: [Row; 10] = [
     Row {
         interval: "1",
         decisions: "2",
@@ -116,7 +112,7 @@ const ROWS: [Row; 10] = [
         domain: TANK,
         problem: TANK1,
         status: Status::Usage,
-        output: "usage: planplus COMMAND ARGUMENTS\n",
+        output: USAGE,
     },
     Row {
         interval: "0",
@@ -125,29 +121,20 @@ const ROWS: [Row; 10] = [
         domain: TANK,
         problem: TANK1,
         status: Status::Usage,
-        output: "usage: planplus COMMAND ARGUMENTS\n",
+        output: USAGE,
     },
 ];
 
-// Runs one row.
-fn expect_row(rt: &impl Abort, alloc: Global, row: &Row) -> Result<(), Fail> {
-    let mut shelf = shelf_of(alloc, row.domain, row.problem, "")?;
-    let mut said = Vec::new(alloc);
-    for word in ["plan", row.interval, row.decisions, row.tries, "d", "p"] {
-        said.push(String::from_str(alloc, word)?)?;
-    }
-    let mut out = MemSink::new(alloc, 64);
-    let answer = run(alloc, &said, &mut shelf, &mut out);
-    assert_eq!(rt; out.bytes(), row.output.as_bytes());
-    assert_eq!(rt; answer, row.status);
-    Ok(())
-}
-
 #[test]
 fn rows_of_plan(rt: HostRuntime) -> Result<(), Fail> {
-    let alloc = rt.alloc();
-    for row in ROWS {
-        expect_row(&rt, alloc, &row)?;
+    for row in &ROWS {
+        let files = Files {
+            domain: row.domain,
+            problem: row.problem,
+            plan: "",
+        };
+        let words = ["plan", row.interval, row.decisions, row.tries, "d", "p"];
+        expect_words(&rt, &words, files, row.status, row.output)?;
     }
     Ok(())
 }
@@ -155,15 +142,12 @@ fn rows_of_plan(rt: HostRuntime) -> Result<(), Fail> {
 // `check` accepts what `plan` writes.
 #[test]
 fn check_accepts_a_plan(rt: HostRuntime) -> Result<(), Fail> {
-    let alloc = rt.alloc();
-    let shelf = shelf_of(alloc, TANK, TANK1, "0: (open-valve)\n3: @end\n")?;
-    let out = MemSink::new(alloc, 64);
-    expect_run(
-        &rt,
-        alloc,
-        shelf,
-        out,
-        Status::Valid,
-        "at 0\n  act (open-valve)\n    + (open)\n  run (fill)\nat 5/2\n  (level) = 5\n  events (full)\n    - (open)\n  run\nat 3\nvalid\n",
-    )
+    let files = Files {
+        domain: TANK,
+        problem: TANK1,
+        plan: "0: (open-valve)\n3: @end\n",
+    };
+    let output =
+        "at 0\n  act (open-valve)\n    + (open)\n  run (fill)\nat 5/2\n  (level) = 5\n  events (full)\n    - (open)\n  run\nat 3\nvalid\n";
+    expect_check(&rt, files, Status::Valid, output)
 }

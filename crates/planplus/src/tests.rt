@@ -1,12 +1,33 @@
 //! Rows over shelves and sinks in memory: whole outputs with their statuses, worked by hand from the
 //! rules of time and of the texts.
 
-use plus_io::{MemShelf, MemSink};
+use plus_io::{MemShelf, MemSink, Shelf, Sink};
 use plus_reply::status::Status;
 use plus_run::run::run;
 use std::alloc::Global;
 use std::process::Abort;
 use std::test::Fail;
+
+// The texts of the files `d`, `p` and `l`.
+#[derive(Clone, Copy)]
+pub struct Files<'a> {
+    pub domain: &'a str,
+    pub problem: &'a str,
+    pub plan: &'a str,
+}
+
+// A domain, a problem, a plan, the status and what is written.
+pub type Row = (
+    &'static str,
+    &'static str,
+    &'static str,
+    Status,
+    &'static str,
+);
+
+pub const CHECK: [&str; 4] = ["check", "d", "p", "l"];
+
+pub const USAGE: &str = "usage: planplus COMMAND ARGUMENTS\n";
 
 pub const DOOR: &str = "(define (domain door) (:predicates (closed) (locked))
  (:action unlock :parameters () :precondition (locked) :effect (not (locked)))
@@ -21,8 +42,8 @@ pub const OPENED: &str = "1: (unlock)\n3: (open-door)\n";
 pub const OPENED_REPORT: &str =
     "at 0\n  run\nat 1\n  act (unlock)\n    - (locked)\n  run\nat 3\n  act (open-door)\n    - (closed)\nvalid\n";
 
-// Plans for the door, what is written, and the status.
-const DOOR_ROWS: [(&str, Status, &str); 9] = [
+// Plans for the door, the status and what is written.
+static DOOR_ROWS: [(&str, Status, &str); 9] = [
     (OPENED, Status::Valid, OPENED_REPORT),
     (
         "3: (open-door)\n",
@@ -66,8 +87,8 @@ const DOOR_ROWS: [(&str, Status, &str); 9] = [
     ),
 ];
 
-// Domains and problems that are refused, what is written, and the status.
-const PAIR_ROWS: [(&str, &str, Status, &str); 5] = [
+// Domains and problems that are refused, the status and what is written.
+static PAIR_ROWS: [(&str, &str, Status, &str); 5] = [
     (
         "(define (domain a)",
         D1,
@@ -120,8 +141,8 @@ const SUMS: &str =
 const GREATEST: &str =
     "(define (problem q) (:domain sums) (:init (= (x) 9223372036854775807)) (:goal (and)))";
 
-// Domains with objects and numbers, problems, plans, what is written, and the status.
-const WORLD_ROWS: [(&str, &str, &str, Status, &str); 8] = [
+// Domains with objects and numbers.
+static WORLD_ROWS: [Row; 8] = [
     (
         TOYS,
         LAMPS,
@@ -180,59 +201,130 @@ const WORLD_ROWS: [(&str, &str, &str, Status, &str); 8] = [
     ),
 ];
 
-pub fn check_words(alloc: Global) -> Result<Vec<String>, Fail> {
-    let mut words = Vec::new(alloc);
-    for word in ["check", "d", "p", "l"] {
-        words.push(String::from_str(alloc, word)?)?;
+fn words_of(alloc: Global, words: &[&str]) -> Result<Vec<String>, Fail> {
+    let mut owned = Vec::new(alloc);
+    for word in words {
+        owned.push(String::from_str(alloc, word)?)?;
     }
-    Ok(words)
+    Ok(owned)
 }
 
-pub fn shelf_of(alloc: Global, domain: &str, problem: &str, plan: &str) -> Result<MemShelf, Fail> {
+pub fn shelf_of(alloc: Global, files: Files<'_>) -> Result<MemShelf, Fail> {
     let mut shelf = MemShelf::new(alloc);
-    shelf.put("d", domain.as_bytes())?;
-    shelf.put("p", problem.as_bytes())?;
-    shelf.put("l", plan.as_bytes())?;
+    shelf.put("d", files.domain.as_bytes())?;
+    shelf.put("p", files.problem.as_bytes())?;
+    shelf.put("l", files.plan.as_bytes())?;
     Ok(shelf)
 }
 
-// Runs `check` over a shelf and a sink in memory, and compares what was written and the status.
-pub fn expect_run(
-    rt: &impl Abort,
+// The files of the door, with this plan.
+pub fn door(plan: &str) -> Files<'_> {
+    Files {
+        domain: DOOR,
+        problem: D1,
+        plan,
+    }
+}
+
+// The status in which the words end over a shelf and a sink.
+pub fn status_of<S: Shelf, O: Sink>(
     alloc: Global,
-    mut shelf: MemShelf,
-    mut out: MemSink,
+    words: &[&str],
+    shelf: &mut S,
+    out: &mut O,
+) -> Result<Status, Fail> {
+    let words = words_of(alloc, words)?;
+    Ok(run(alloc, &words, shelf, out))
+}
+
+// Carries out the words over a shelf and a sink in memory, and compares what was written and the status.
+pub fn expect_run(
+    rt: &(impl Abort + AllocGlobal),
+    words: &[&str],
+    shelf: &mut MemShelf,
+    out: &mut MemSink,
     status: Status,
     output: &str,
 ) -> Result<(), Fail> {
-    let words = check_words(alloc)?;
-    let answer = run(alloc, &words, &mut shelf, &mut out);
-    assert_eq!(rt; out.bytes(), output.as_bytes(), "{output}");
-    assert_eq!(rt; answer, status, "{output}");
+    let answer = status_of(rt.alloc(), words, shelf, out)?;
+    assert_eq!(rt; out.bytes(), output.as_bytes(), "{words:?}: {output}");
+    assert_eq!(rt; answer, status, "{words:?}: {output}");
+    Ok(())
+}
+
+// Carries out the words over the files.
+pub fn expect_words(
+    rt: &(impl Abort + AllocGlobal),
+    words: &[&str],
+    files: Files<'_>,
+    status: Status,
+    output: &str,
+) -> Result<(), Fail> {
+    let mut shelf = shelf_of(rt.alloc(), files)?;
+    let mut out = MemSink::new(rt.alloc(), 64);
+    expect_run(rt, words, &mut shelf, &mut out, status, output)
+}
+
+// Runs `check` over the files.
+pub fn expect_check(
+    rt: &(impl Abort + AllocGlobal),
+    files: Files<'_>,
+    status: Status,
+    output: &str,
+) -> Result<(), Fail> {
+    expect_words(rt, &CHECK, files, status, output)
+}
+
+// Carries out the words over the files of each row.
+pub fn expect_rows(
+    rt: &(impl Abort + AllocGlobal),
+    words: &[&str],
+    rows: &[Row],
+) -> Result<(), Fail> {
+    for &(domain, problem, plan, status, output) in rows {
+        let files = Files {
+            domain,
+            problem,
+            plan,
+        };
+        expect_words(rt, words, files, status, output)?;
+    }
+    Ok(())
+}
+
+// The files are read byte by byte.
+#[test]
+fn plans_of_the_door(rt: HostRuntime) -> Result<(), Fail> {
+    for &(plan, status, output) in &DOOR_ROWS {
+        let mut shelf = shelf_of(rt.alloc(), door(plan))?;
+        shelf.pieces(1);
+        let mut out = MemSink::new(rt.alloc(), 7);
+        expect_run(&rt, &CHECK, &mut shelf, &mut out, status, output)?;
+    }
     Ok(())
 }
 
 #[test]
-fn plans_and_pairs(rt: HostRuntime) -> Result<(), Fail> {
-    let alloc = rt.alloc();
-    for (plan, status, output) in DOOR_ROWS {
-        let mut shelf = shelf_of(alloc, DOOR, D1, plan)?;
-        shelf.pieces(1);
-        expect_run(&rt, alloc, shelf, MemSink::new(alloc, 7), status, output)?;
-    }
-    for (domain, problem, status, output) in PAIR_ROWS {
-        let shelf = shelf_of(alloc, domain, problem, OPENED)?;
-        expect_run(&rt, alloc, shelf, MemSink::new(alloc, 64), status, output)?;
-    }
-    for (domain, problem, plan, status, output) in WORLD_ROWS {
-        let shelf = shelf_of(alloc, domain, problem, plan)?;
-        expect_run(&rt, alloc, shelf, MemSink::new(alloc, 64), status, output)?;
+fn refused_pairs(rt: HostRuntime) -> Result<(), Fail> {
+    let plan = OPENED;
+    for &(domain, problem, status, output) in &PAIR_ROWS {
+        let files = Files {
+            domain,
+            problem,
+            plan,
+        };
+        expect_check(&rt, files, status, output)?;
     }
     Ok(())
 }
 
+#[test]
+fn objects_and_numbers(rt: HostRuntime) -> Result<(), Fail> {
+    expect_rows(&rt, &CHECK, &WORLD_ROWS)
+}
+
 // A kind of text, a text of that kind, and its canonical text.
-const SHOWN: [(&str, &str, &str); 2] = [
+static SHOWN: [(&str, &str, &str); 2] = [
     (
         "domain",
         "(define (domain D) (:functions (X)) (:action A :effect (increase (X) 0.50)))",
@@ -247,43 +339,45 @@ const SHOWN: [(&str, &str, &str); 2] = [
 
 #[test]
 fn canonical_text(rt: HostRuntime) -> Result<(), Fail> {
-    let alloc = rt.alloc();
-    for (kind, text, canonical) in SHOWN {
-        let mut words = Vec::new(alloc);
-        for word in ["show", kind, "file"] {
-            words.push(String::from_str(alloc, word)?)?;
-        }
-        let mut shelf = MemShelf::new(alloc);
+    for &(kind, text, canonical) in &SHOWN {
+        let mut shelf = MemShelf::new(rt.alloc());
         shelf.put("file", text.as_bytes())?;
-        let mut out = MemSink::new(alloc, 64);
-        let answer = run(alloc, &words, &mut shelf, &mut out);
-        assert_eq!(rt; answer, Status::Valid);
-        assert_eq!(rt; out.bytes(), canonical.as_bytes());
+        let words = ["show", kind, "file"];
+        let mut out = MemSink::new(rt.alloc(), 64);
+        expect_run(&rt, &words, &mut shelf, &mut out, Status::Valid, canonical)?;
     }
     Ok(())
 }
 
 #[test]
-fn faults(rt: HostRuntime) -> Result<(), Fail> {
-    let alloc = rt.alloc();
+fn faults_of_the_shelf(rt: HostRuntime) -> Result<(), Fail> {
     for (name, call, output) in [("d", 0, ""), ("p", 0, ""), ("l", 0, ""), ("l", 1, "at 0\n")] {
-        let mut shelf = shelf_of(alloc, DOOR, D1, OPENED)?;
+        let mut shelf = shelf_of(rt.alloc(), door(OPENED))?;
         shelf.fail(name, call)?;
-        let out = MemSink::new(alloc, 64);
-        expect_run(&rt, alloc, shelf, out, Status::ReadFault, output)?;
+        let mut out = MemSink::new(rt.alloc(), 64);
+        expect_run(&rt, &CHECK, &mut shelf, &mut out, Status::ReadFault, output)?;
     }
-    let mut out = MemSink::new(alloc, 8);
-    out.fail(2)?;
-    let shelf = shelf_of(alloc, DOOR, D1, OPENED)?;
-    expect_run(&rt, alloc, shelf, out, Status::WriteFault, "at 0\n")?;
-
-    let mut out = MemSink::new(alloc, 64);
-    let words = Vec::new(alloc);
-    let answer = run(alloc, &words, &mut MemShelf::new(alloc), &mut out);
-    assert_eq!(rt; answer, Status::Usage);
-    assert_eq!(rt;
-        out.bytes(),
-        b"usage: planplus COMMAND ARGUMENTS\n".as_slice()
-    );
     Ok(())
+}
+
+#[test]
+fn a_fault_of_the_sink(rt: HostRuntime) -> Result<(), Fail> {
+    let mut shelf = shelf_of(rt.alloc(), door(OPENED))?;
+    let mut out = MemSink::new(rt.alloc(), 8);
+    out.fail(2)?;
+    expect_run(
+        &rt,
+        &CHECK,
+        &mut shelf,
+        &mut out,
+        Status::WriteFault,
+        "at 0\n",
+    )
+}
+
+#[test]
+fn no_words(rt: HostRuntime) -> Result<(), Fail> {
+    let mut shelf = MemShelf::new(rt.alloc());
+    let mut out = MemSink::new(rt.alloc(), 64);
+    expect_run(&rt, &[], &mut shelf, &mut out, Status::Usage, USAGE)
 }

@@ -1,11 +1,7 @@
 //! Rows of `translate`.
 
-use crate::tests::shelf_of;
-use plus_io::MemSink;
+use crate::tests::{Files, expect_words};
 use plus_reply::status::Status;
-use plus_run::run::run;
-use std::alloc::Global;
-use std::process::Abort;
 use std::test::Fail;
 
 const TANK: &str =
@@ -22,7 +18,7 @@ struct Row {
     output: &'static str,
 }
 
-const ROWS: [Row; 6] = [
+static ROWS: [Row; 6] = [
     Row {
         half: "domain",
         interval: "1/2",
@@ -73,25 +69,16 @@ const ROWS: [Row; 6] = [
     },
 ];
 
-// Runs one row.
-fn expect_row(rt: &impl Abort, alloc: Global, row: &Row) -> Result<(), Fail> {
-    let mut shelf = shelf_of(alloc, row.domain, row.problem, "")?;
-    let mut said = Vec::new(alloc);
-    for word in ["translate", row.half, row.interval, "d", "p"] {
-        said.push(String::from_str(alloc, word)?)?;
-    }
-    let mut out = MemSink::new(alloc, 64);
-    let answer = run(alloc, &said, &mut shelf, &mut out);
-    assert_eq!(rt; out.bytes(), row.output.as_bytes());
-    assert_eq!(rt; answer, row.status);
-    Ok(())
-}
-
 #[test]
 fn rows_of_translate(rt: HostRuntime) -> Result<(), Fail> {
-    let alloc = rt.alloc();
-    for row in ROWS {
-        expect_row(&rt, alloc, &row)?;
+    for row in &ROWS {
+        let files = Files {
+            domain: row.domain,
+            problem: row.problem,
+            plan: "",
+        };
+        let words = ["translate", row.half, row.interval, "d", "p"];
+        expect_words(&rt, &words, files, row.status, row.output)?;
     }
     Ok(())
 }

@@ -1,34 +1,25 @@
 //! Trials: farms of few tanks, one of a thousand, and words that are no number of tanks.
 
+use crate::tests::{USAGE, expect_run};
 use plus_io::{MemShelf, MemSink};
 use plus_reply::status::Status;
-use plus_run::run::run;
-use std::alloc::Global;
 use std::process::Abort;
 use std::test::Fail;
 
-const USAGE: &str = "usage: planplus COMMAND ARGUMENTS\n";
-
+// Runs `trial` over no files.
 fn expect_trial(
-    rt: &impl Abort,
-    alloc: Global,
+    rt: &(impl Abort + AllocGlobal),
     number: &str,
     status: Status,
     output: &str,
 ) -> Result<(), Fail> {
-    let mut words = Vec::new(alloc);
-    words.push(String::from_str(alloc, "trial")?)?;
-    words.push(String::from_str(alloc, number)?)?;
-    let mut shelf = MemShelf::new(alloc);
-    let mut sink = MemSink::new(alloc, 64);
-    let answer = run(alloc, &words, &mut shelf, &mut sink);
-    assert_eq!(rt; sink.bytes(), output.as_bytes(), "{number}");
-    assert_eq!(rt; answer, status, "{number}");
-    Ok(())
+    let mut shelf = MemShelf::new(rt.alloc());
+    let mut out = MemSink::new(rt.alloc(), 64);
+    expect_run(rt, &["trial", number], &mut shelf, &mut out, status, output)
 }
 
 // Numbers of tanks, and what is written.
-const FARMS: [(&str, &str); 4] = [
+static FARMS: [(&str, &str); 4] = [
     ("1", "trial 1: valid, 4 happenings, 1 events\n"),
     ("2", "trial 2: valid, 5 happenings, 2 events\n"),
     ("3", "trial 3: valid, 6 happenings, 3 events\n"),
@@ -36,16 +27,20 @@ const FARMS: [(&str, &str); 4] = [
 ];
 
 // Words that are no number of tanks.
-const NO_NUMBERS: [&str; 7] = ["", "0", "0000", "1001", "00003", "+3", "3.0"];
+static NO_NUMBERS: [&str; 7] = ["", "0", "0000", "1001", "00003", "+3", "3.0"];
 
 #[test]
 fn farms(rt: HostRuntime) -> Result<(), Fail> {
-    let alloc = rt.alloc();
-    for (number, output) in FARMS {
-        expect_trial(&rt, alloc, number, Status::Valid, output)?;
+    for &(number, output) in &FARMS {
+        expect_trial(&rt, number, Status::Valid, output)?;
     }
-    for number in NO_NUMBERS {
-        expect_trial(&rt, alloc, number, Status::Usage, USAGE)?;
+    Ok(())
+}
+
+#[test]
+fn no_numbers_of_tanks(rt: HostRuntime) -> Result<(), Fail> {
+    for number in &NO_NUMBERS {
+        expect_trial(&rt, number, Status::Usage, USAGE)?;
     }
     Ok(())
 }
@@ -55,7 +50,6 @@ fn farms(rt: HostRuntime) -> Result<(), Fail> {
 fn a_thousand_tanks(rt: HostRuntime) -> Result<(), Fail> {
     expect_trial(
         &rt,
-        rt.alloc(),
         "1000",
         Status::Valid,
         "trial 1000: valid, 1470 happenings, 1000 events\n",

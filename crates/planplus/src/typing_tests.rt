@@ -1,7 +1,6 @@
 //! Each word of typing with its place, and pairs with subtypes and numbers that are played.
 
-use crate::tests::{expect_run, shelf_of};
-use plus_io::MemSink;
+use crate::tests::{CHECK, Files, Row, expect_check, expect_rows};
 use plus_reply::status::Status;
 use std::test::Fail;
 
@@ -14,7 +13,7 @@ const THINGS: &str =
 const BARE: &str = "(define (problem q) (:domain d) (:init) (:goal (and)))";
 
 // Domains and problems that are refused, and what is written. The place is that of the form or the name.
-const FAULTS: [(&str, &str, &str); 39] = [
+static FAULTS: [(&str, &str, &str); 39] = [
     (
         "(define (domain d) (:durative-action))",
         BARE,
@@ -232,8 +231,7 @@ const MOVED: &str =
     "(define (problem m) (:domain move) (:objects a b - place v - van) (:init (at v a)) (:goal (and (at v b) (exists (?p - place) (seen ?p)))))
 ";
 
-// Domains, problems and plans, what is written, and the status.
-const PLAYED: [(&str, &str, &str, Status, &str); 3] = [
+static PLAYED: [Row; 3] = [
     (
         MOVE,
         MOVED,
@@ -259,27 +257,19 @@ const PLAYED: [(&str, &str, &str, Status, &str); 3] = [
 
 #[test]
 fn words_of_typing(rt: HostRuntime) -> Result<(), Fail> {
-    let alloc = rt.alloc();
-    for (domain, problem, output) in FAULTS {
-        let shelf = shelf_of(alloc, domain, problem, "")?;
-        expect_run(
-            &rt,
-            alloc,
-            shelf,
-            MemSink::new(alloc, 64),
-            Status::BadText,
-            output,
-        )?;
+    let plan = "";
+    for &(domain, problem, output) in &FAULTS {
+        let files = Files {
+            domain,
+            problem,
+            plan,
+        };
+        expect_check(&rt, files, Status::BadText, output)?;
     }
     Ok(())
 }
 
 #[test]
 fn subtypes_and_numbers(rt: HostRuntime) -> Result<(), Fail> {
-    let alloc = rt.alloc();
-    for (domain, problem, plan, status, output) in PLAYED {
-        let shelf = shelf_of(alloc, domain, problem, plan)?;
-        expect_run(&rt, alloc, shelf, MemSink::new(alloc, 64), status, output)?;
-    }
-    Ok(())
+    expect_rows(&rt, &CHECK, &PLAYED)
 }

@@ -1,38 +1,26 @@
 //! Words that are a command, and words that are none.
 
-use crate::tests::{D1, DOOR, OPENED, OPENED_REPORT, shelf_of};
+use crate::tests::{DOOR, OPENED, OPENED_REPORT, USAGE, door, expect_run, shelf_of};
 use plus_io::MemSink;
 use plus_reply::status::Status;
-use plus_run::run::run;
-use std::alloc::Global;
 use std::process::Abort;
 use std::test::Fail;
 
-const USAGE: &str = "usage: planplus COMMAND ARGUMENTS\n";
-
-// Runs the words over the files of the door, and compares what was written and the status.
-fn expect_words(
-    rt: &impl Abort,
-    alloc: Global,
+// Carries out the words over the files of the door.
+fn expect_said(
+    rt: &(impl Abort + AllocGlobal),
     words: &[&str],
     status: Status,
     output: &str,
 ) -> Result<(), Fail> {
-    let mut shelf = shelf_of(alloc, DOOR, D1, OPENED)?;
+    let mut shelf = shelf_of(rt.alloc(), door(OPENED))?;
     shelf.put("--happenings", DOOR.as_bytes())?;
-    let mut said = Vec::new(alloc);
-    for word in words {
-        said.push(String::from_str(alloc, word)?)?;
-    }
-    let mut out = MemSink::new(alloc, 64);
-    let answer = run(alloc, &said, &mut shelf, &mut out);
-    assert_eq!(rt; out.bytes(), output.as_bytes(), "{words:?}");
-    assert_eq!(rt; answer, status, "{words:?}");
-    Ok(())
+    let mut out = MemSink::new(rt.alloc(), 64);
+    expect_run(rt, words, &mut shelf, &mut out, status, output)
 }
 
-// Numbers of happenings, what is written, and the status. The door's plan enters three moments.
-const NUMBERS: [(&str, Status, &str); 6] = [
+// Numbers of happenings, the status and what is written. The door's plan enters three moments.
+static NUMBERS: [(&str, Status, &str); 6] = [
     ("3", Status::Valid, OPENED_REPORT),
     ("0000003", Status::Valid, OPENED_REPORT),
     ("1000000", Status::Valid, OPENED_REPORT),
@@ -46,27 +34,31 @@ const NUMBERS: [(&str, Status, &str); 6] = [
 ];
 
 // Words that are no number of happenings.
-const NO_NUMBERS: [&str; 18] = [
+static NO_NUMBERS: [&str; 18] = [
     "", "0", "0000000", "1000001", "9999999", "00000003", "10000000", "+3", "-3", "3.0", "3/1",
     " 3", "3 ", "3\n", "x", "0x3", "1e3", "٣",
 ];
 
 #[test]
 fn numbers_of_happenings(rt: HostRuntime) -> Result<(), Fail> {
-    let alloc = rt.alloc();
-    for (number, status, output) in NUMBERS {
+    for &(number, status, output) in &NUMBERS {
         let words = ["check", "d", "p", "l", "--happenings", number];
-        expect_words(&rt, alloc, &words, status, output)?;
+        expect_said(&rt, &words, status, output)?;
     }
-    for number in NO_NUMBERS {
+    Ok(())
+}
+
+#[test]
+fn no_numbers_of_happenings(rt: HostRuntime) -> Result<(), Fail> {
+    for number in &NO_NUMBERS {
         let words = ["check", "d", "p", "l", "--happenings", number];
-        expect_words(&rt, alloc, &words, Status::Usage, USAGE)?;
+        expect_said(&rt, &words, Status::Usage, USAGE)?;
     }
     Ok(())
 }
 
 // Lists of words that are none of the commands.
-const NO_COMMANDS: [&[&str]; 15] = [
+static NO_COMMANDS: [&[&str]; 15] = [
     &[],
     &["check"],
     &["check", "d", "p"],
@@ -86,12 +78,15 @@ const NO_COMMANDS: [&[&str]; 15] = [
 
 #[test]
 fn lists_of_words(rt: HostRuntime) -> Result<(), Fail> {
-    let alloc = rt.alloc();
-    for words in NO_COMMANDS {
-        expect_words(&rt, alloc, words, Status::Usage, USAGE)?;
+    for words in &NO_COMMANDS {
+        expect_said(&rt, words, Status::Usage, USAGE)?;
     }
-    // a file may have any name
-    let words = ["check", "--happenings", "p", "l"];
-    expect_words(&rt, alloc, &words, Status::Valid, OPENED_REPORT)?;
     Ok(())
+}
+
+// A file may have any name.
+#[test]
+fn a_file_named_as_a_word(rt: HostRuntime) -> Result<(), Fail> {
+    let words = ["check", "--happenings", "p", "l"];
+    expect_said(&rt, &words, Status::Valid, OPENED_REPORT)
 }
