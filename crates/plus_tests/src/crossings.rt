@@ -4,10 +4,13 @@ ghost use Rattle.plus_fraction.specs.Fraction.{whole, ◌≤ℚ◌};
 ghost use Rattle.plus_state.specs.View.{condition_of, expression_of};
 ghost use Rattle.plus_state.specs.Fits.{Fits, IsIn, comparisons};
 
-use plus_crossing::{PieceStop, Rates, just_after, moved, moved_changes, next_crossing, piece};
+use plus_crossing::{
+    CondStop, PieceStop, Rates, just_after, moved, moved_changes, next_crossing, piece,
+};
 use plus_number::consts::{one, zero};
 use plus_number::exact::Exact;
 use plus_number::frac::Frac64;
+use plus_state::changes::Changes;
 use plus_state::{Cond, Expr, FluentId, State, Test};
 use std::alloc::{AllocError, Global};
 use std::cmp::Ordering;
@@ -19,22 +22,24 @@ fn fraction(n: i64, d: i64) -> Frac64
     Frac64::ratio(n, d).unwrap_or(zero())
 }
 
-// A state in which (x) has this value.
-fn with_value(alloc: Global, value: Frac64) -> Result<State<Frac64>, AllocError>
-    ensures atoms { IfOk result (λ s. length s.atoms ≡ 0) }
-    ensures fluents { IfOk result (λ s. length s.fluents ≡ 1) }
-{
-    let mut state = State::new(alloc, 0, 1)?;
-    state.give(FluentId(0), Some(value));
-    Ok(state)
+// A state with one fluent, which is (x), and its rate.
+#[derive(Drop)]
+struct World {
+    state: State<Frac64>,
+    rates: Rates<Frac64>,
 }
 
-fn with_rate(alloc: Global, rate: Frac64) -> Result<Rates<Frac64>, AllocError>
-    ensures { IfOk result (λ r. length r ≡ 1) }
+// The world in which (x) has this value, and moves at this rate.
+fn moving(alloc: Global, value: Frac64, rate: i64) -> Result<World, AllocError>
+    ensures atoms { IfOk result (λ w. length w.state.atoms ≡ 0) }
+    ensures fluents { IfOk result (λ w. length w.state.fluents ≡ 1) }
+    ensures rates { IfOk result (λ w. length w.rates ≡ 1) }
 {
     let mut rates = Rates::zero(alloc, 1);
-    rates.set(FluentId(0), rate)?;
-    Ok(rates)
+    rates.set(FluentId(0), fraction(rate, 1))?;
+    let mut state = State::new(alloc, 0, 1)?;
+    state.give(FluentId(0), Some(value));
+    Ok(World { state, rates })
 }
 
 fn x() -> Expr<Frac64>
@@ -91,7 +96,15 @@ fn third() -> Frac64
     }
 }
 
-// The root of the condition between two moments, where (x) has the value 0 and moves at this rate.
+fn parts_of(root: Result<Option<Frac64>, CondStop<Frac64>>) -> Result<Option<(i64, i64)>, Fail> {
+    match root {
+        Err(_) => Err(Fail::new("refused")),
+        Ok(None) => Ok(None),
+        Ok(Some(root)) => Ok(Some(root.parts())),
+    }
+}
+
+// The root of a comparison between two moments, where (x) has the value 0 and moves at this rate.
 fn root_between(
     alloc: Global,
     cond: &Cond<Frac64>,
@@ -103,96 +116,161 @@ fn root_between(
     requires few { comparisons (condition_of ⟦<Frac64 as Exact>⟧.value cond.now) < 2 ^ 32 }
     requires after { whole (pos 0) ≤ℚ ⟦<Frac64 as Exact>⟧.value after }
 {
-    let state = with_value(alloc, zero())?;
-    let rates = with_rate(alloc, fraction(rate, 1))?;
-    match next_crossing(cond, &state, &rates, after, fraction(until, 1)) {
-        Err(_) => Err(Fail::new("refused")),
-        Ok(None) => Ok(None),
-        Ok(Some(root)) => Ok(Some(root.parts())),
+    let world = moving(alloc, zero(), rate)?;
+    parts_of(next_crossing(cond, &world.state, &world.rates, after, fraction(until, 1)))
+}
+
+// When (x) reaches 1 after a moment and not after 1, from 0 at the rate 3.
+fn reaches_one(alloc: Global, after: Frac64) -> Result<Option<(i64, i64)>, Fail>
+    requires { whole (pos 0) ≤ℚ ⟦<Frac64 as Exact>⟧.value after }
+{
+    let cond = compare(Test::AtLeast, x(), number(1), true);
+    root_between(alloc, &cond, 3, after, 1)
+}
+
+#[test]
+fn a_root_is_met_once(rt: HostRuntime) -> Result<(), Fail> {
+    assert_eq!(rt; reaches_one(rt.alloc(), zero())?, Some((1, 3)));
+    assert_eq!(rt; reaches_one(rt.alloc(), third())?, None);
+    Ok(())
+}
+
+// That twice (x) is (x) and 5.
+fn meets(alloc: Global) -> Result<Cond<Frac64>, AllocError>
+    ensures fits { IfOk result (λ c. Fits 0 1 (condition_of ⟦<Frac64 as Exact>⟧.value c)) }
+    ensures few { IfOk result (λ c. comparisons (condition_of ⟦<Frac64 as Exact>⟧.value c) < 2 ^ 32) }
+{
+    let twice = product(alloc, number(2), x())?;
+    let more = sum(alloc, x(), number(5))?;
+    Ok(compare(Test::Equal, twice, more, true))
+}
+
+#[test]
+fn both_sides_move(rt: HostRuntime) -> Result<(), Fail> {
+    let meets = meets(rt.alloc())?;
+    let root = root_between(rt.alloc(), &meets, 1, zero(), 8)?;
+    assert_eq!(rt; root, Some((5, 1)));
+    Ok(())
+}
+
+// Whether (x) compares so with 5 just after, where it has the value 5 and moves at this rate, if that is known.
+fn holds_after_five(
+    alloc: Global,
+    test: Test,
+    positive: bool,
+    rate: i64,
+) -> Result<Option<bool>, Fail> {
+    let world = moving(alloc, fraction(5, 1), rate)?;
+    let cond = compare(test, x(), number(5), positive);
+    Ok(just_after(&cond, &world.state, &world.rates).ok())
+}
+
+#[test]
+fn a_limit_is_left(rt: HostRuntime) -> Result<(), Fail> {
+    // the comparison with 5, whether it is positive, the rate, whether it holds just after
+    for (test, positive, rate, holds) in [
+        (Test::AtMost, true, 1, false),
+        (Test::AtMost, true, 0, true),
+        (Test::AtLeast, false, -1, true),
+    ] {
+        let after = holds_after_five(rt.alloc(), test, positive, rate)?;
+        assert_eq!(rt; after, Some(holds));
+    }
+    Ok(())
+}
+
+// The value and the slope of the square of (x), where (x) is 2 and moves at this rate, if that is a line.
+fn square_from_two(alloc: Global, rate: i64) -> Result<Option<((i64, i64), (i64, i64))>, Fail> {
+    let square = product(alloc, x(), x())?;
+    let world = moving(alloc, fraction(2, 1), rate)?;
+    match piece(&square, &world.state, &world.rates) {
+        Ok(Some(line)) => Ok(Some((line.value.parts(), line.slope.parts()))),
+        Err(PieceStop::Nonlinear) => Ok(None),
+        _ => Err(Fail::new("refused")),
     }
 }
 
-// Whether the condition holds just after, where (x) has the value 5 and moves at this rate.
-fn holds_after_five(alloc: Global, cond: &Cond<Frac64>, rate: i64) -> Result<bool, Fail>
-    requires cond { Fits 0 1 (condition_of ⟦<Frac64 as Exact>⟧.value cond.now) }
-    requires few { comparisons (condition_of ⟦<Frac64 as Exact>⟧.value cond.now) < 2 ^ 32 }
+#[test]
+fn a_square_is_no_line_while_it_moves(rt: HostRuntime) -> Result<(), Fail> {
+    assert_eq!(rt; square_from_two(rt.alloc(), 1)?, None);
+    assert_eq!(rt; square_from_two(rt.alloc(), 0)?, Some(((4, 1), (0, 1))));
+    Ok(())
+}
+
+// The value of (x).
+fn value_of(state: &State<Frac64>) -> Option<(i64, i64)>
+    requires { length state.now.fluents ≡ 1 }
 {
-    let state = with_value(alloc, fraction(5, 1))?;
-    let rates = with_rate(alloc, fraction(rate, 1))?;
-    let holds = just_after(cond, &state, &rates).ok().ok_or("refused")?;
-    Ok(holds)
+    match state.fluent(FluentId(0)) {
+        None => None,
+        Some(value) => Some(value.parts()),
+    }
 }
 
 // The value that (x) has, from 0, after so much time at this rate.
 fn moved_from_zero(alloc: Global, rate: i64, delay: Frac64) -> Result<Option<(i64, i64)>, Fail> {
-    let state = with_value(alloc, zero())?;
-    let rates = with_rate(alloc, fraction(rate, 1))?;
-    let later = moved(alloc, &state, &rates, delay).ok().ok_or("refused")?;
-    match later.fluent(FluentId(0)) {
-        None => Ok(None),
-        Some(value) => Ok(Some(value.parts())),
+    let world = moving(alloc, zero(), rate)?;
+    match &moved(alloc, &world.state, &world.rates, delay) {
+        Err(_) => Err(Fail::new("refused")),
+        Ok(later) => Ok(value_of(later)),
     }
 }
 
 #[test]
-fn vectors(rt: HostRuntime) -> Result<(), Fail> {
-    let alloc = rt.alloc();
-    let reaches_one = compare(Test::AtLeast, x(), number(1), true);
-    assert_eq!(rt;
-        root_between(alloc, &reaches_one, 3, zero(), 1)?,
-        Some((1, 3))
-    );
-    assert_eq!(rt; root_between(alloc, &reaches_one, 3, third(), 1)?, None);
-    let twice = product(alloc, number(2), x())?;
-    let meets = compare(Test::Equal, twice, sum(alloc, x(), number(5))?, true);
-    assert_eq!(rt; root_between(alloc, &meets, 1, zero(), 8)?, Some((5, 1)));
-
-    let at_most_five = compare(Test::AtMost, x(), number(5), true);
-    assert_eq!(rt; holds_after_five(alloc, &at_most_five, 1)?, false);
-    assert_eq!(rt; holds_after_five(alloc, &at_most_five, 0)?, true);
-    let below_five = compare(Test::AtLeast, x(), number(5), false);
-    assert_eq!(rt; holds_after_five(alloc, &below_five, -1)?, true);
-
-    let square = product(alloc, x(), x())?;
-    let state = with_value(alloc, fraction(2, 1))?;
-    let moving = with_rate(alloc, one())?;
-    assert!(rt; matches!(piece(&square, &state, &moving), Err(PieceStop::Nonlinear)));
-    let still = with_rate(alloc, zero())?;
-    let line = piece(&square, &state, &still)
-        .unwrap_or(None)
-        .ok_or("no piece")?;
-    assert_eq!(rt; line.value.parts(), (4, 1));
-    assert_eq!(rt; line.slope.parts(), (0, 1));
-
-    assert_eq!(rt; moved_from_zero(alloc, 2, fraction(5, 2))?, Some((5, 1)));
+fn a_value_moves(rt: HostRuntime) -> Result<(), Fail> {
+    let value = moved_from_zero(rt.alloc(), 2, fraction(5, 2))?;
+    assert_eq!(rt; value, Some((5, 1)));
     Ok(())
 }
 
-// Of four fluents the last is given a rate first, then the first, and the second one that is 0.
-#[test]
-fn those_that_move(rt: HostRuntime) -> Result<(), Fail> {
-    let alloc = rt.alloc();
-    let mut state = State::new(alloc, 0, 4)?;
-    state.give(FluentId(3), Some(one()));
+// The rates of four fluents: the last is given one first, then the first, and the second one that is 0.
+fn rates_of_four(alloc: Global) -> Result<Rates<Frac64>, AllocError>
+    ensures { IfOk result (λ r. length r ≡ 4) }
+{
     let mut rates = Rates::zero(alloc, 4);
     rates.set(FluentId(3), fraction(1, 2))?;
     rates.set(FluentId(0), fraction(7, 1))?;
     rates.set(FluentId(3), fraction(3, 2))?;
     rates.set(FluentId(1), zero())?;
-    let mut moving = Vec::new(alloc);
+    Ok(rates)
+}
+
+#[test]
+fn those_that_move(rt: HostRuntime) -> Result<(), Fail> {
+    let rates = rates_of_four(rt.alloc())?;
+    let mut moving = Vec::new(rt.alloc());
     rates.moving_into(&mut moving)?;
     assert_eq!(rt; moving.as_slice(), [FluentId(0), FluentId(3)].as_slice());
     assert!(rt; rates.moves_just(&moving));
-    assert!(rt; !rates.moves_just(&moving[1..]));
-    assert!(rt; !rates.moves_just(&moving[..1]));
+    assert!(rt; !rates.moves_just(&moving[1..]) && !rates.moves_just(&moving[..1]));
+    Ok(())
+}
 
-    let changes = moved_changes(alloc, &state, &rates, fraction(2, 1))
-        .ok()
-        .ok_or("refused")?;
-    assert_eq!(rt; changes.fluents.len(), 2);
-    assert_eq!(rt; changes.fluents[0].fluent, FluentId(0));
-    assert!(rt; changes.fluents[0].value.is_none());
-    let last = changes.fluents[1].value.ok_or("no value")?;
-    assert_eq!(rt; last.parts(), (4, 1));
+// What these rates change in two units of time, where the last of the fluents alone has a value.
+fn changes_of_four(alloc: Global) -> Result<Changes<Frac64>, Fail> {
+    let rates = rates_of_four(alloc)?;
+    let mut state = State::new(alloc, 0, 4)?;
+    state.give(FluentId(3), Some(one()));
+    match moved_changes(alloc, &state, &rates, fraction(2, 1)) {
+        Err(_) => Err(Fail::new("refused")),
+        Ok(changes) => Ok(changes),
+    }
+}
+
+// The fluent of a change, and its new value.
+fn change_at(changes: &Changes<Frac64>, at: usize) -> Option<(FluentId, Option<(i64, i64)>)> {
+    let change = changes.fluents.get(at)?;
+    match change.value {
+        None => Some((change.fluent, None)),
+        Some(value) => Some((change.fluent, Some(value.parts()))),
+    }
+}
+
+#[test]
+fn those_that_move_are_changed(rt: HostRuntime) -> Result<(), Fail> {
+    let changes = changes_of_four(rt.alloc())?;
+    assert_eq!(rt; change_at(&changes, 0), Some((FluentId(0), None)));
+    assert_eq!(rt; change_at(&changes, 1), Some((FluentId(3), Some((4, 1)))));
+    assert_eq!(rt; change_at(&changes, 2), None);
     Ok(())
 }

@@ -2,6 +2,7 @@
 use plus_number::consts::is_zero;
 use plus_number::{Exact, Frac64, Outside, Ticks, widen};
 use std::cmp::Ordering;
+use std::process::Abort;
 
 #[derive(Clone, Copy)]
 enum Call {
@@ -495,28 +496,39 @@ fn compared<Q: Exact>(left: Pair, right: Pair) -> Option<Ordering> {
     Some(x.order(y))
 }
 
+fn expect_worked<Q: Exact>(rt: &impl Abort, rows: &[Row]) {
+    for &(call, left, right, want) in rows {
+        assert!(rt;
+            worked::<Q>(call, left, right) == Some(want),
+            "{left:?} {right:?}"
+        );
+    }
+}
+
 #[test]
-fn outside_vectors(rt: HostRuntime) {
-    for &(call, left, right, want) in &WIDE {
-        assert!(rt;
-            worked::<Frac64>(call, left, right) == Some(want),
-            "{left:?} {right:?}"
-        );
-    }
-    for &(call, left, right, want) in &MILLIONTHS {
-        assert!(rt;
-            worked::<Ticks>(call, left, right) == Some(want),
-            "{left:?} {right:?}"
-        );
-    }
+fn calls(rt: HostRuntime) {
+    expect_worked::<Frac64>(&rt, &WIDE);
+    expect_worked::<Ticks>(&rt, &MILLIONTHS);
+}
+
+#[test]
+fn ratios(rt: HostRuntime) {
     for &(pair, want) in &RATIOS {
         assert!(rt; parts_of(made::<Frac64>(pair)) == want, "{pair:?}");
     }
+}
+
+#[test]
+fn ratios_in_millionths(rt: HostRuntime) {
     for &(pair, want) in &MILLIONTH_RATIOS {
         let ticks = made::<Ticks>(pair);
         assert!(rt; parts_of(ticks) == want, "{pair:?}");
         assert!(rt; ticks.ok().map(|t| widen(t).parts()) == want, "{pair:?}");
     }
+}
+
+#[test]
+fn orders(rt: HostRuntime) {
     for &(left, right, want) in &ORDERS {
         assert!(rt;
             compared::<Frac64>(left, right) == Some(want),

@@ -1,5 +1,6 @@
 //! The printed texts, and what a fault leaves of one.
 ghost use Rattle.std.specs.Prelude.{◌≡◌, ◌<◌, ◌^◌, ◌<ℤ◌, pos, IfOk, length, All};
+ghost use Rattle.plus_model.specs.Terms.{Problem};
 ghost use Rattle.plus_state.specs.View.{condition_of, event_of, process_of, problem_of};
 ghost use Rattle.plus_state.specs.Fits.{Fits, EventFits, ProcessFits, StateFits, comparisons};
 ghost use Rattle.plus_report.specs.Verdicts.{VerdictFits};
@@ -163,90 +164,47 @@ fn each_form_of_refusal_has_its_line(rt: HostRuntime) -> Result<(), Fail> {
     Ok(())
 }
 
-fn writes(alloc: Global, ground: &Ground<Frac64>, verdict: Verdict<Frac64>, line: &str) -> bool
-    requires { VerdictFits (problem_of ⟦<Frac64 as Exact>⟧.value ground.now) verdict }
+// Whether a verdict on the tank is written as this line.
+fn writes(alloc: Global, verdict: Verdict<Frac64>, line: &str) -> Result<bool, Fail>
+    requires { (P : Problem) → P.fluents ≡ 1 → length P.processes ≡ 1 → length P.events ≡ 1 → VerdictFits P verdict }
 {
+    let ground = tank(alloc)?;
     let mut out = MemSink::new(alloc, 8);
-    write_verdict(&mut out, ground, &verdict).is_ok() && out.bytes() == line.as_bytes()
+    Ok(write_verdict(&mut out, &ground, &verdict).is_ok() && out.bytes() == line.as_bytes())
 }
 
 #[test]
 fn a_breach_has_its_line(rt: HostRuntime) -> Result<(), Fail> {
     let alloc = rt.alloc();
-    let ground = tank(alloc)?;
     let name = Label::new(alloc, b"shut")?;
-    let unknown = Breach::UnknownAction { line: 1, name };
-    assert!(rt;
-        writes(
-            alloc,
-            &ground,
-            Verdict::Invalid(unknown),
-            "invalid: line 1: unknown action shut\n"
-        )
-    );
+    let unknown = Verdict::Invalid(Breach::UnknownAction { line: 1, name });
+    assert!(rt; writes(alloc, unknown, "invalid: line 1: unknown action shut\n")?);
     let label = Label::new(alloc, b"(shut)")?;
-    let early = Breach::Precondition { line: 10, label };
-    assert!(rt;
-        writes(
-            alloc,
-            &ground,
-            Verdict::Invalid(early),
-            "invalid: line 10: precondition of (shut)\n"
-        )
-    );
-    assert!(rt;
-        writes(
-            alloc,
-            &ground,
-            Verdict::Invalid(Breach::Goal),
-            "invalid: goal\n"
-        )
-    );
+    let early = Verdict::Invalid(Breach::Precondition { line: 10, label });
+    assert!(rt; writes(alloc, early, "invalid: line 10: precondition of (shut)\n")?);
+    let goal = Verdict::Invalid(Breach::Goal);
+    assert!(rt; writes(alloc, goal, "invalid: goal\n")?);
     Ok(())
 }
 
 #[test]
 fn a_breach_of_a_ground_thing_has_its_line(rt: HostRuntime) -> Result<(), Fail> {
     let alloc = rt.alloc();
-    let ground = tank(alloc)?;
     let fluent = FluentId(0);
     let process = ProcessId(0);
     let event = EventId(0);
-    let conflict = Breach::Conflict { fluent };
-    assert!(rt;
-        writes(
-            alloc,
-            &ground,
-            Verdict::Invalid(conflict),
-            "invalid: conflict on (level)\n"
-        )
-    );
-    let coupled = Breach::Coupled { process, fluent };
-    assert!(rt;
-        writes(
-            alloc,
-            &ground,
-            Verdict::Invalid(coupled),
-            "invalid: (fill) reads moving (level)\n"
-        )
-    );
+    let conflict = Verdict::Invalid(Breach::Conflict { fluent });
+    assert!(rt; writes(alloc, conflict, "invalid: conflict on (level)\n")?);
+    let coupled = Verdict::Invalid(Breach::Coupled { process, fluent });
+    assert!(rt; writes(alloc, coupled, "invalid: (fill) reads moving (level)\n")?);
     let time = fraction(-7, 2);
-    let late = Breach::NoFirstMoment { event, time };
-    assert!(rt;
-        writes(
-            alloc,
-            &ground,
-            Verdict::Invalid(late),
-            "invalid: (full) has no first moment at -7/2\n"
-        )
-    );
+    let late = Verdict::Invalid(Breach::NoFirstMoment { event, time });
+    assert!(rt; writes(alloc, late, "invalid: (full) has no first moment at -7/2\n")?);
     Ok(())
 }
 
 #[test]
-fn a_limit_has_its_line(rt: HostRuntime) -> Result<(), Fail> {
-    let alloc = rt.alloc();
-    let ground = tank(alloc)?;
+fn a_number_has_its_line(rt: HostRuntime) -> Result<(), Fail> {
     let left = fraction(1, 9223372036854775806);
     let right = fraction(9223372036854775807, 1);
     for (sign, line) in [
@@ -259,32 +217,23 @@ fn a_limit_has_its_line(rt: HostRuntime) -> Result<(), Fail> {
             "beyond: number 1/9223372036854775806 / 9223372036854775807\n",
         ),
     ] {
-        let number = Limit::Number(Overflow { sign, left, right });
-        assert!(rt; writes(alloc, &ground, Verdict::Beyond(number), line));
+        let number = Verdict::Beyond(Limit::Number(Overflow { sign, left, right }));
+        assert!(rt; writes(rt.alloc(), number, line)?);
     }
-    let owner = Owner::Event(EventId(0));
-    let event = Limit::Nonlinear {
-        owner,
+    Ok(())
+}
+
+#[test]
+fn a_limit_has_its_line(rt: HostRuntime) -> Result<(), Fail> {
+    let alloc = rt.alloc();
+    let event = Verdict::Beyond(Limit::Nonlinear {
+        owner: Owner::Event(EventId(0)),
         comparison: 1,
-    };
-    assert!(rt;
-        writes(
-            alloc,
-            &ground,
-            Verdict::Beyond(event),
-            "beyond: nonlinear in (full), comparison 1\n"
-        )
-    );
-    assert!(rt; writes(alloc, &ground, Verdict::Valid, "valid\n"));
-    let out = Early::DepthOut;
-    assert!(rt;
-        writes(
-            alloc,
-            &ground,
-            Verdict::Other(out),
-            "beyond: depth 64 in translation\n"
-        )
-    );
+    });
+    assert!(rt; writes(alloc, event, "beyond: nonlinear in (full), comparison 1\n")?);
+    assert!(rt; writes(alloc, Verdict::Valid, "valid\n")?);
+    let out = Verdict::Other(Early::DepthOut);
+    assert!(rt; writes(alloc, out, "beyond: depth 64 in translation\n")?);
     Ok(())
 }
 
@@ -301,18 +250,26 @@ fn a_fault_leaves_the_bytes_before_it(rt: HostRuntime) -> Result<(), Fail> {
     Ok(())
 }
 
+// An action that may not be done, whose label has 600 bytes.
+fn unmet(alloc: Global) -> Result<Verdict<Frac64>, Fail>
+    ensures { IfOk result (λ verdict. (P : Problem) → VerdictFits P verdict) }
+{
+    let bytes = vec![in alloc; b'a'; 600]?;
+    let label = Label::new(alloc, &bytes)?;
+    Ok(Verdict::Invalid(Breach::Precondition { line: 1, label }))
+}
+
+// How that is written over a sink that takes 100 bytes at once, and how many it has then.
+fn written_of_unmet(alloc: Global) -> Result<(Result<(), Failed>, usize), Fail> {
+    let unmet = unmet(alloc)?;
+    let ground = tank(alloc)?;
+    let mut out = MemSink::new(alloc, 100);
+    let done = write_verdict(&mut out, &ground, &unmet);
+    Ok((done, out.bytes().len()))
+}
+
 #[test]
 fn a_long_label_is_written_whole(rt: HostRuntime) -> Result<(), Fail> {
-    let alloc = rt.alloc();
-    let ground = tank(alloc)?;
-    let long = vec![in alloc; b'a'; 600]?;
-    let label = Label::new(alloc, &long)?;
-    let unmet = Breach::Precondition { line: 1, label };
-    let mut out = MemSink::new(alloc, 100);
-    assert_eq!(rt;
-        write_verdict(&mut out, &ground, &Verdict::Invalid(unmet)),
-        Ok(())
-    );
-    assert_eq!(rt; out.bytes().len(), 634);
+    assert_eq!(rt; written_of_unmet(rt.alloc())?, (Ok(()), 634));
     Ok(())
 }
