@@ -15,7 +15,7 @@ use Rattle.plus_tree.specs.declared.trees.LeafNode.TheVariants.{Increase}
 use Rattle.plus_tree.specs.Expr.{x_number}
 use Rattle.plus_translation.specs.Renamed.{nowhere, spelled}
 use Rattle.plus_translation.specs.Translated.{Due, natural, writes, leaf, clock_use, is_later, due_effect, clock_effects, set_at_once, cleared_at_once, stays_in_init, init_translated}
-use Rattle.plus_translate.specs.Parts.{constants_of, functions_of}
+use Rattle.plus_translate.specs.Parts.{constants_of, functions_of, beginning_of, clock_start}
 use Rattle.std.specs.Prelude.{codes}
 
 chosen : {A : Type 0} (b : Bool) (xs ys : List A) → b ≡ true → (if b then xs else ys) ≡ xs
@@ -58,28 +58,17 @@ clock_some due e = chosen (list_any is_later due) _ [] e
 
 pub ruleset ticking = (clock_none, clock_some, append-nil, append_assoc)
 
-pub init_none : (due : List Due) (init : List Init) → list_any is_later due ≡ false
-    → init_translated due init ≡ filter (stays_in_init (set_at_once [] due) (cleared_at_once due)) init ++ map Holds (set_at_once [] due)
-init_none due init e =
-    ap (λ xs. filter (stays_in_init (set_at_once [] due) (cleared_at_once due)) init ++ (map Holds (set_at_once [] due) ++ xs)) (other (list_any is_later due) _ [] e)
-    ∙ ap (λ xs. filter (stays_in_init (set_at_once [] due) (cleared_at_once due)) init ++ xs) (append-nil (map Holds (set_at_once [] due)))
+pub start_none : (due : List Due) → list_any is_later due ≡ false → clock_start due ≡ []
+start_none due e = other (list_any is_later due) _ [] e
 
-pub init_some : (due : List Due) (init : List Init) → list_any is_later due ≡ true
-    → init_translated due init ≡ (filter (stays_in_init (set_at_once [] due) (cleared_at_once due)) init ++ map Holds (set_at_once [] due)) ++ Value clock_use (natural 0) nowhere ∷ []
-init_some due init e =
-    ap (λ xs. filter (stays_in_init (set_at_once [] due) (cleared_at_once due)) init ++ (map Holds (set_at_once [] due) ++ xs)) (chosen (list_any is_later due) _ [] e)
-    ∙ sym (append_assoc (filter (stays_in_init (set_at_once [] due) (cleared_at_once due)) init) (map Holds (set_at_once [] due)) (Value clock_use (natural 0) nowhere ∷ []))
+pub start_some : (due : List Due) → list_any is_later due ≡ true → clock_start due ≡ Value clock_use (natural 0) nowhere ∷ []
+start_some due e = chosen (list_any is_later due) _ [] e
 
-pub ruleset beginning = (init_none, init_some, append_assoc)
+pub ruleset starting = (start_none, start_some, append-nil)
 
 -- the initial state with its clock, put piece by piece
-pub init_put : (due : List Due) (init : List Init) (set cleared atoms : List Use) (begin first second last : List Init) (clock : Use) (start : Literal) → list_any is_later due ≡ true
-    → set ≡ set_at_once [] due → cleared ≡ cleared_at_once due → atoms ≡ set → begin ≡ [] → first ≡ begin ++ filter (stays_in_init set cleared) init → second ≡ first ++ map Holds atoms
-    → clock ≡ clock_use → start ≡ natural 0 → last ≡ second ++ Value clock start nowhere ∷ [] → last ≡ init_translated due init
-init_put due init set cleared atoms begin first second last clock start l s c a b f g u n h =
-    h ∙ ap (λ x. second ++ Value x start nowhere ∷ []) u ∙ ap (λ x. second ++ Value clock_use x nowhere ∷ []) n
-    ∙ ap (λ xs. xs ++ Value clock_use (natural 0) nowhere ∷ [])
-    (g ∙ ap (λ xs. xs ++ map Holds atoms) (f ∙ ap (λ xs. xs ++ filter (stays_in_init set cleared) init) b) ∙ ap (λ xs. filter (stays_in_init set cleared) init ++ map Holds xs) (a ∙ s)
-    ∙ ap (λ xs. filter (stays_in_init xs cleared) init ++ map Holds (set_at_once [] due)) s
-    ∙ ap (λ xs. filter (stays_in_init (set_at_once [] due) xs) init ++ map Holds (set_at_once [] due)) c)
-    ∙ sym (init_some due init l)
+pub init_parts : (due : List Due) (init : List Init) → beginning_of due init ++ clock_start due ≡ init_translated due init
+init_parts due init =
+    append_assoc (filter (stays_in_init (set_at_once [] due) (cleared_at_once due)) init) (map Holds (set_at_once [] due)) (clock_start due)
+
+pub ruleset beginning = (init_parts, append_assoc)

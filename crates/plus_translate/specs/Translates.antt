@@ -29,3 +29,10 @@ NoTranslation q d p (NameTaken file place) = slice_get (names_taken d p) 0 ≡ S
 NoTranslation q d p (OffGrid place) = (names_taken d p ≡ []) × IsFirstOff q (times_of p) place
 NoTranslation q d p TooDeep = HasTranslation q d p × (pair_within (translated_domain q d p) (translated_problem q d p) ≡ false)
 NoTranslation q d p Memory = Unit {0}
+
+-- a pair that is too deep is refused; want of memory is free
+abbrev pub NotShallow : Domain → Problem → TransFault → Type 0
+NotShallow d p (NameTaken file place) = ⊥
+NotShallow d p (OffGrid place) = ⊥
+NotShallow d p TooDeep = pair_within d p ≡ false
+NotShallow d p Memory = Unit {0}

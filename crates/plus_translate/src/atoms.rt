@@ -12,7 +12,6 @@ use std::alloc::{AllocError, Global};
 use std::marker::Model;
 
 /// Atoms that are lent. Contracts see the list of them.
-#[derive(Drop)]
 pub struct Atoms<'a> {
     list: Vec<&'a Use>,
     table: IndexSet<Vec<&'a [u8]>>,
@@ -28,6 +27,14 @@ impl<'a> Model for Atoms<'a> {
     ghost view = { λ a. atoms_of a.list.items };
 
     ghost invariant = { λ a. IsTableOf a.table.keys (atoms_of a.list.items) };
+}
+
+impl Drop for Atoms<'_> {
+    fn drop(self) {
+        let Atoms { list, table } = self;
+        drop(list);
+        drop(table);
+    }
 }
 
 // The bytes of the name of a term.

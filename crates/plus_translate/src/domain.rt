@@ -1,10 +1,10 @@
 //! The translated domain and problem.
 
-ghost use Rattle.std.specs.Prelude.{◌≡◌, ◌++◌, map, IfOk, OnOk};
+ghost use Rattle.std.specs.Prelude.{◌≡◌, ◌∷◌, ◌++◌, map, IfOk, OnOk};
 ghost use Rattle.plus_number.specs.Frac.{fraction_of};
-ghost use Rattle.plus_translation.specs.Translated.{mark_heads, none_hold, clears, length_of_step, old_translated, without_params, domain_translated, problem_translated};
+ghost use Rattle.plus_translation.specs.Translated.{mark_heads, none_hold, clears, length_of_step, old_translated, without_params, init_translated, domain_translated, problem_translated};
 ghost use Rattle.plus_translate.specs.Dues.{due_of};
-ghost use Rattle.plus_translate.specs.Parts.{step_of, objects_of, fire_of, constants_of, functions_of, requirements_of};
+ghost use Rattle.plus_translate.specs.Parts.{step_of, objects_of, fire_of, new_actions_of, constants_of, functions_of, requirements_of};
 
 use crate::due::{Due, has_later, put_clock};
 use crate::fires::put_fires;
@@ -15,18 +15,31 @@ use crate::pieces::{NOWHERE, both, everything, word};
 use plus_number::frac::Frac64;
 use plus_renaming::copies;
 use plus_tree::{
-    CondNode, CondTree, Domain, EffectTree, Head, Members, Problem, Schema, Spelled, TypedName,
+    CondNode, CondTree, Domain, EffectTree, Head, Init, Members, Problem, Schema, Spelled,
+    TypedName,
 };
 use std::alloc::{AllocError, Global};
+
+// A condition, and that no event holds.
+fn besides_none(
+    alloc: Global,
+    events: &[Schema],
+    cond: &CondTree,
+) -> Result<Vec<CondTree>, AllocError>
+    ensures { IfOk result (λ conds. conds.items ≡ cond.now ∷ none_hold events.now) }
+{
+    let mut conds = Vec::with_capacity(alloc, 1)?;
+    conds.push(copies::condition(alloc, cond)?)?;
+    put_none(alloc, events, &mut conds)?;
+    Ok(conds)
+}
 
 // An old action: where no event holds, and marks go.
 fn old_action(alloc: Global, events: &[Schema], action: &Schema) -> Result<Schema, AllocError>
     ensures { IfOk result (λ translated. translated
         ≡ old_translated (none_hold events.now) (clears 1 events.now) action.now) }
 {
-    let mut conds = Vec::with_capacity(alloc, 1)?;
-    conds.push(copies::condition(alloc, &action.condition)?)?;
-    put_none(alloc, events, &mut conds)?;
+    let conds = besides_none(alloc, events, &action.condition)?;
     let mut effects = Vec::with_capacity(alloc, 1)?;
     effects.push(copies::effect(alloc, &action.effect)?)?;
     put_clears(alloc, events, &mut effects)?;
@@ -182,6 +195,108 @@ pub fn functions(alloc: Global, dues: &[Due<'_>], old: &[Head]) -> Result<Member
     Ok(heads)
 }
 
+// Appends the actions of a step and of a round.
+fn put_new_actions(
+    alloc: Global,
+    interval: Frac64,
+    events: &[Schema],
+    dues: &[Due<'_>],
+    processes: &[Schema],
+    into: &mut Members<Schema>,
+) -> Result<(), AllocError>
+    ensures { OnOk result (into.new ≡ into.old
+        ++ new_actions_of (length_of_step (fraction_of interval)) events.now (map due_of dues.now) processes.now) }
+{
+    into.push(step(alloc, interval, events, dues, processes)?)?;
+    into.push(fire(alloc, events)?)
+}
+
+// The old actions, and those of a step and of a round.
+fn actions(
+    alloc: Global,
+    interval: Frac64,
+    events: &[Schema],
+    dues: &[Due<'_>],
+    domain: &Domain,
+) -> Result<Members<Schema>, AllocError>
+    ensures { IfOk result (λ actions. actions
+        ≡ map (old_translated (none_hold events.now) (clears 1 events.now)) domain.now.actions
+        ++ new_actions_of (length_of_step (fraction_of interval)) events.now (map due_of dues.now) domain.now.processes) }
+{
+    let mut actions = Members::new(alloc);
+    put_actions(alloc, events, domain.actions.as_slice(), &mut actions)?;
+    put_new_actions(
+        alloc,
+        interval,
+        events,
+        dues,
+        domain.processes.as_slice(),
+        &mut actions,
+    )?;
+    Ok(actions)
+}
+
+// The predicates and the functions.
+fn heads(
+    alloc: Global,
+    events: &[Schema],
+    dues: &[Due<'_>],
+    domain: &Domain,
+) -> Result<(Members<Head>, Members<Head>), AllocError>
+    ensures { IfOk result (λ heads. (heads.0 ≡ domain.now.predicates ++ mark_heads 1 events.now)
+        × (heads.1 ≡ functions_of (map due_of dues.now) domain.now.functions)) }
+{
+    let predicates = predicates(alloc, events, domain.predicates.as_slice())?;
+    let functions = functions(alloc, dues, domain.functions.as_slice())?;
+    Ok((predicates, functions))
+}
+
+// The types and the constants.
+fn names(
+    alloc: Global,
+    dues: &[Due<'_>],
+    domain: &Domain,
+    problem: &Problem,
+) -> Result<(Members<TypedName>, Members<TypedName>), AllocError>
+    ensures { IfOk result (λ names. (names.0 ≡ domain.now.types)
+        × (names.1 ≡ constants_of (map due_of dues.now) domain.now problem.now)) }
+{
+    let types = copies::typed_names(alloc, domain.types.as_slice())?;
+    let constants = constants(alloc, dues, domain, problem)?;
+    Ok((types, constants))
+}
+
+// The types and the constants, and the predicates and the functions.
+fn declared(
+    alloc: Global,
+    events: &[Schema],
+    dues: &[Due<'_>],
+    domain: &Domain,
+    problem: &Problem,
+) -> Result<
+    (
+        (Members<TypedName>, Members<TypedName>),
+        (Members<Head>, Members<Head>),
+    ),
+    AllocError,
+>
+    ensures { IfOk result (λ declared. (declared.0.0 ≡ domain.now.types)
+        × (declared.0.1 ≡ constants_of (map due_of dues.now) domain.now problem.now)
+        × (declared.1.0 ≡ domain.now.predicates ++ mark_heads 1 events.now)
+        × (declared.1.1 ≡ functions_of (map due_of dues.now) domain.now.functions)) }
+{
+    let names = names(alloc, dues, domain, problem)?;
+    Ok((names, heads(alloc, events, dues, domain)?))
+}
+
+// The name and the requirements.
+fn title(alloc: Global, domain: &Domain) -> Result<(Spelled, Members<Spelled>), AllocError>
+    ensures { IfOk result (λ title. (title.0 ≡ domain.now.name) × (title.1 ≡ requirements_of)) }
+{
+    let name = copies::spelled(alloc, &domain.name)?;
+    Ok((name, requirements(alloc)?))
+}
+
 /// The translated domain, by its renamed events and its literals.
 pub fn domain_translated(
     alloc: Global,
@@ -194,17 +309,18 @@ pub fn domain_translated(
     ensures { IfOk result (λ translated. translated
         ≡ domain_translated (fraction_of interval) events.now (map due_of dues.now) domain.now problem.now) }
 {
-    let mut actions = Members::new(alloc);
-    put_actions(alloc, events, domain.actions.as_slice(), &mut actions)?;
-    actions.push(step(alloc, interval, events, dues, domain.processes.as_slice())?)?;
-    actions.push(fire(alloc, events)?)?;
+    let actions = actions(alloc, interval, events, dues, domain)?;
+    let ((types, constants), (predicates, functions)) = declared(
+        alloc, events, dues, domain, problem,
+    )?;
+    let (name, requirements) = title(alloc, domain)?;
     Ok(Domain {
-        name: copies::spelled(alloc, &domain.name)?,
-        requirements: requirements(alloc)?,
-        types: copies::typed_names(alloc, domain.types.as_slice())?,
-        constants: constants(alloc, dues, domain, problem)?,
-        predicates: predicates(alloc, events, domain.predicates.as_slice())?,
-        functions: functions(alloc, dues, domain.functions.as_slice())?,
+        name,
+        requirements,
+        types,
+        constants,
+        predicates,
+        functions,
         actions,
         processes: Members::new(alloc),
         events: Members::new(alloc),
@@ -227,6 +343,28 @@ fn objects(
     }
 }
 
+// The objects, where they are not constants, and the initial state.
+fn beginning(
+    alloc: Global,
+    dues: &[Due<'_>],
+    problem: &Problem,
+) -> Result<(Members<TypedName>, Members<Init>), AllocError>
+    ensures { IfOk result (λ begin. (begin.0 ≡ objects_of (map due_of dues.now) problem.now)
+        × (begin.1 ≡ init_translated (map due_of dues.now) problem.now.init)) }
+{
+    let objects = objects(alloc, dues, problem)?;
+    let init = init_translated(alloc, dues, problem.init.as_slice())?;
+    Ok((objects, init))
+}
+
+// The name of the problem, and that of its domain.
+fn problem_names(alloc: Global, problem: &Problem) -> Result<(Spelled, Spelled), AllocError>
+    ensures { IfOk result (λ names. (names.0 ≡ problem.now.name) × (names.1 ≡ problem.now.domain)) }
+{
+    let name = copies::spelled(alloc, &problem.name)?;
+    Ok((name, copies::spelled(alloc, &problem.domain)?))
+}
+
 /// The translated problem, by the renamed events of its domain and its literals.
 pub fn problem_translated(
     alloc: Global,
@@ -237,15 +375,15 @@ pub fn problem_translated(
     ensures { IfOk result (λ translated. translated
         ≡ problem_translated events.now (map due_of dues.now) problem.now) }
 {
-    let mut conds = Vec::with_capacity(alloc, 1)?;
-    conds.push(copies::condition(alloc, &problem.goal)?)?;
-    put_none(alloc, events, &mut conds)?;
+    let (objects, init) = beginning(alloc, dues, problem)?;
+    let conds = besides_none(alloc, events, &problem.goal)?;
+    let (name, domain) = problem_names(alloc, problem)?;
     Ok(Problem {
-        name: copies::spelled(alloc, &problem.name)?,
-        domain: copies::spelled(alloc, &problem.domain)?,
+        name,
+        domain,
         requirements: Members::new(alloc),
-        objects: objects(alloc, dues, problem)?,
-        init: init_translated(alloc, dues, problem.init.as_slice())?,
+        objects,
+        init,
         goal: both(conds),
         span: NOWHERE,
     })

@@ -14,19 +14,31 @@ use plus_renaming::copies;
 use plus_tree::{CondTree, EffectTree, LeafNode, Schema};
 use std::alloc::{AllocError, Global};
 
+// Appends a copy of a condition.
+fn put_copy(alloc: Global, cond: &CondTree, into: &mut Vec<CondTree>) -> Result<(), AllocError>
+    ensures { OnOk result (into.new.items ≡ into.old.items ++ cond.now ∷ []) }
+{
+    into.push(copies::condition(alloc, cond)?)?;
+    Ok(())
+}
+
+// The condition of an event and the guard of a `when`.
+fn with_guard(alloc: Global, cond: &CondTree, guard: &CondTree) -> Result<CondTree, AllocError>
+    ensures { IfOk result (λ piece. piece ≡ event_guard cond.now (guard.now ∷ [])) }
+{
+    let mut conds = Vec::with_capacity(alloc, 2)?;
+    put_copy(alloc, cond, &mut conds)?;
+    put_copy(alloc, guard, &mut conds)?;
+    Ok(both(conds))
+}
+
 // The condition of an event, before the guard of a `when`.
 fn guarded(alloc: Global, cond: &CondTree, guard: Option<&CondTree>) -> Result<CondTree, AllocError>
     ensures { IfOk result (λ piece. piece ≡ event_guard cond.now (guards_of guard.entry)) }
 {
-    let cond = copies::condition(alloc, cond)?;
     match guard {
-        None => Ok(cond),
-        Some(guard) => {
-            let mut conds = Vec::with_capacity(alloc, 2)?;
-            conds.push(cond)?;
-            conds.push(copies::condition(alloc, guard)?)?;
-            Ok(both(conds))
-        }
+        None => copies::condition(alloc, cond),
+        Some(guard) => with_guard(alloc, cond, guard),
     }
 }
 

@@ -16,7 +16,7 @@ use crate::placed::{Placed, writes_of};
 use plus_number::exact::Exact;
 use plus_number::frac::Frac64;
 use plus_renaming::copies;
-use plus_tree::{CondTree, EffectTree, ExprNode, ExprTree, LeafNode, Schema};
+use plus_tree::{CondTree, EffectTree, ExprNode, ExprTree, LeafNode, Schema, Use};
 use std::alloc::{AllocError, Global};
 
 /// A whole number as an expression.
@@ -82,18 +82,31 @@ fn amount(alloc: Global, step: &ExprTree, rate: &ExprTree) -> Result<ExprTree, A
     }
 }
 
+// A fluent with the amount of its rate, for a whole step.
+fn parts(
+    alloc: Global,
+    step: &ExprTree,
+    fluent: &Use,
+    rate: &ExprTree,
+) -> Result<(Use, ExprTree), AllocError>
+    ensures { IfOk result (λ parts. (parts.0 ≡ fluent.now) × (parts.1 ≡ flow_amount step.now rate.now)) }
+{
+    let fluent = copies::used(alloc, fluent)?;
+    Ok((fluent, amount(alloc, step, rate)?))
+}
+
 // A rate, for a whole step.
 fn flow(alloc: Global, step: &ExprTree, node: &LeafNode) -> Result<LeafNode, AllocError>
     ensures { IfOk result (λ flow. flow ≡ flow_node step.now node.now) }
 {
     match node {
         LeafNode::Increase(fluent, rate) => {
-            let fluent = copies::used(alloc, fluent)?;
-            Ok(LeafNode::Increase(fluent, amount(alloc, step, rate)?))
+            let (fluent, amount) = parts(alloc, step, fluent, rate)?;
+            Ok(LeafNode::Increase(fluent, amount))
         }
         LeafNode::Decrease(fluent, rate) => {
-            let fluent = copies::used(alloc, fluent)?;
-            Ok(LeafNode::Decrease(fluent, amount(alloc, step, rate)?))
+            let (fluent, amount) = parts(alloc, step, fluent, rate)?;
+            Ok(LeafNode::Decrease(fluent, amount))
         }
         _ => copies::node(alloc, node),
     }

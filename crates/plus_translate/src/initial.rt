@@ -7,6 +7,7 @@ ghost use Rattle.plus_translation.specs.Renamed.{nowhere};
 ghost use Rattle.plus_translation.specs.Translated.{natural, clock_use, is_later, same_atom, set_at_once, cleared_at_once, stays_in_init, init_translated};
 ghost use Rattle.plus_translate.specs.Dues.{due_of};
 ghost use Rattle.plus_translate.specs.Atoms.{atoms_of};
+ghost use Rattle.plus_translate.specs.Parts.{beginning_of, clock_start};
 
 use crate::atoms::Atoms;
 use crate::due::{Due, clock_use, has_later};
@@ -116,6 +117,50 @@ fn put_atoms(alloc: Global, set: &[&Use], into: &mut Members<Init>) -> Result<()
     Ok(())
 }
 
+// Appends the old members that stay, where these atoms are set.
+fn put_old<'a>(
+    alloc: Global,
+    dues: &[Due<'a>],
+    set: &Atoms<'a>,
+    init: &'a [Init],
+    into: &mut Members<Init>,
+) -> Result<(), AllocError>
+    ensures { OnOk result (into.new ≡ into.old
+        ++ filter (stays_in_init set.now (cleared_at_once (map due_of dues.now))) init.now) }
+{
+    let cleared = cleared_at_once(alloc, dues)?;
+    put_staying(alloc, set, &cleared, init, into)
+}
+
+// Appends the old state after the literals of time 0.
+fn put_beginning<'a>(
+    alloc: Global,
+    dues: &[Due<'a>],
+    init: &'a [Init],
+    into: &mut Members<Init>,
+) -> Result<(), AllocError>
+    ensures { OnOk result (into.new ≡ into.old ++ beginning_of (map due_of dues.now) init.now) }
+{
+    let set = set_at_once(alloc, dues)?;
+    put_old(alloc, dues, &set, init, into)?;
+    put_atoms(alloc, set.list(), into)
+}
+
+// Appends the value of the clock, where it is needed.
+#[tactic(auto, using(crate::proofs::PartLemmas::starting))]
+fn put_clock_start(
+    alloc: Global,
+    dues: &[Due<'_>],
+    into: &mut Members<Init>,
+) -> Result<(), AllocError>
+    ensures { OnOk result (into.new ≡ into.old ++ clock_start (map due_of dues.now)) }
+{
+    if !has_later(dues) {
+        return Ok(());
+    }
+    into.push(Init::Value(clock_use(alloc)?, natural(0), NOWHERE))
+}
+
 /// The initial state: the old one after the literals of time 0, and the clock where it is needed.
 #[tactic(auto, using(crate::proofs::PartLemmas::beginning))]
 pub fn init_translated<'a>(
@@ -126,14 +171,8 @@ pub fn init_translated<'a>(
     ensures { IfOk result (λ translated. translated
         ≡ init_translated (map due_of dues.now) init.now) }
 {
-    let set = set_at_once(alloc, dues)?;
-    let cleared = cleared_at_once(alloc, dues)?;
     let mut translated = Members::new(alloc);
-    put_staying(alloc, &set, &cleared, init, &mut translated)?;
-    put_atoms(alloc, set.list(), &mut translated)?;
-    if !has_later(dues) {
-        return Ok(translated);
-    }
-    translated.push(Init::Value(clock_use(alloc)?, natural(0), NOWHERE))?;
+    put_beginning(alloc, dues, init, &mut translated)?;
+    put_clock_start(alloc, dues, &mut translated)?;
     Ok(translated)
 }

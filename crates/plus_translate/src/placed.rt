@@ -37,6 +37,25 @@ fn put_guarded<'a>(
     Ok(())
 }
 
+// Appends a write without a `when`.
+#[tactic(auto, using(crate::proofs::PlacedLemmas::placing))]
+fn put_alone<'a>(
+    alloc: Global,
+    lists: &[&'a [TypedName]],
+    leaf: &'a Leaf,
+    into: &mut Vec<Placed<'a>>,
+) -> Result<(), AllocError>
+    ensures { OnOk result (map shown into.new.items ≡ map shown into.old.items
+        ++ record { lists = lists_of lists.now; guards = []; leaf = leaf.now } ∷ []) }
+{
+    into.push(Placed {
+        lists: Vec::from_slice(alloc, lists)?,
+        guard: None,
+        leaf,
+    })?;
+    Ok(())
+}
+
 // Appends the writes of an effect that stands inside these lists.
 #[tactic(auto, using(crate::proofs::PlacedLemmas::placing))]
 fn put<'a>(
@@ -69,14 +88,7 @@ fn put<'a>(
             writes.as_slice(),
             into,
         ),
-        EffectNode::Leaf(leaf) => {
-            into.push(Placed {
-                lists: Vec::from_slice(alloc, lists)?,
-                guard: None,
-                leaf,
-            })?;
-            Ok(())
-        }
+        EffectNode::Leaf(leaf) => put_alone(alloc, lists, leaf, into),
     }
 }
 

@@ -18,7 +18,7 @@ use Rattle.plus_translation.specs.Translated.{Due, length_of_step, due_by, time_
 use Rattle.plus_translate.specs.Grid.{StandsOnGrid}
 use Rattle.plus_translate.specs.declared.fault.TransFault.TheVariants.{TooDeep}
 use Rattle.plus_translate.specs.Translates.{NoTranslation}
-use Rattle.plus_translate.proofs.TranslateLemmas.{is_translation, too_deep}
+use Rattle.plus_translate.proofs.TranslateLemmas.{is_translation, not_shallow}
 use Rattle.plus_translation_printer.specs.Woven.{opening_text, own_parts, woven}
 use Rattle.plus_translation_printer.specs.Frame.{frame_of, BeginsWithStep, spliced_within}
 use Rattle.plus_translation_printer.specs.Printed.{half_text, IsTextOfHalf, IsPrinted}
@@ -51,7 +51,8 @@ module _ (file : File) (q : Fraction) (d d' : Domain) (p p' : Problem) (domain :
       → IsPrinted file (translated_domain q d' p') (translated_problem q d' p') found → NoTranslation q d p TooDeep
   none_of_half found e h =
       let is = subst (IsPrinted file (translated_domain q d' p') (translated_problem q d' p')) e h in
-      too_deep q d p (translated_domain q d' p') (translated_problem q d' p') names times same_domain same_problem is
+      not_shallow q d p TooDeep names times
+      (sym (ap (λ x. pair_within x (translated_problem q d' p')) same_domain ∙ ap (pair_within (translated_domain q d p)) same_problem) ∙ is)
 
 -- ---- one half
 
