@@ -116,14 +116,12 @@ fn bytewise(alloc: Global, files: Files<'_>) -> Result<MemShelf, Fail> {
 #[test]
 fn plans_without_time_byte_by_byte(rt: HostRuntime) -> Result<(), Fail> {
     for &(domain, problem, plan, status, output) in &ROWS {
-        let mut shelf = bytewise(
-            rt.alloc(),
-            Files {
-                domain,
-                problem,
-                plan,
-            },
-        )?;
+        let files = Files {
+            domain,
+            problem,
+            plan,
+        };
+        let mut shelf = bytewise(rt.alloc(), files)?;
         let mut out = MemSink::new(rt.alloc(), 64);
         expect_run(&rt, &NUMERIC, &mut shelf, &mut out, status, output)?;
     }

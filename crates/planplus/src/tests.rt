@@ -201,6 +201,7 @@ static WORLD_ROWS: [Row; 8] = [
     ),
 ];
 
+// The words, as a program is given them.
 fn words_of(alloc: Global, words: &[&str]) -> Result<Vec<String>, Fail> {
     let mut owned = Vec::new(alloc);
     for word in words {
@@ -209,6 +210,7 @@ fn words_of(alloc: Global, words: &[&str]) -> Result<Vec<String>, Fail> {
     Ok(owned)
 }
 
+// A shelf with the files.
 pub fn shelf_of(alloc: Global, files: Files<'_>) -> Result<MemShelf, Fail> {
     let mut shelf = MemShelf::new(alloc);
     shelf.put("d", files.domain.as_bytes())?;
@@ -226,7 +228,7 @@ pub fn door(plan: &str) -> Files<'_> {
     }
 }
 
-// The status in which the words end over a shelf and a sink.
+// Carries out the words over a shelf and a sink, and answers the status.
 pub fn status_of<S: Shelf, O: Sink>(
     alloc: Global,
     words: &[&str],

@@ -96,6 +96,7 @@ fn third() -> Frac64
     }
 }
 
+// The parts of a root, if there is one.
 fn parts_of(root: Result<Option<Frac64>, CondStop<Frac64>>) -> Result<Option<(i64, i64)>, Fail> {
     match root {
         Err(_) => Err(Fail::new("refused")),
@@ -135,7 +136,7 @@ fn a_root_is_met_once(rt: HostRuntime) -> Result<(), Fail> {
     Ok(())
 }
 
-// That twice (x) is (x) and 5.
+// The condition that twice (x) is (x) and 5.
 fn meets(alloc: Global) -> Result<Cond<Frac64>, AllocError>
     ensures fits { IfOk result (λ c. Fits 0 1 (condition_of ⟦<Frac64 as Exact>⟧.value c)) }
     ensures few { IfOk result (λ c. comparisons (condition_of ⟦<Frac64 as Exact>⟧.value c) < 2 ^ 32) }
@@ -153,7 +154,7 @@ fn both_sides_move(rt: HostRuntime) -> Result<(), Fail> {
     Ok(())
 }
 
-// Whether (x) compares so with 5 just after, where it has the value 5 and moves at this rate, if that is known.
+// Whether (x) compares so with 5 just after, where it has the value 5 and moves at this rate; none where it is refused.
 fn holds_after_five(
     alloc: Global,
     test: Test,
@@ -179,7 +180,7 @@ fn a_limit_is_left(rt: HostRuntime) -> Result<(), Fail> {
     Ok(())
 }
 
-// The value and the slope of the square of (x), where (x) is 2 and moves at this rate, if that is a line.
+// The value and the slope of the square of (x), where (x) is 2 and moves at this rate; none where it is no line.
 fn square_from_two(alloc: Global, rate: i64) -> Result<Option<((i64, i64), (i64, i64))>, Fail> {
     let square = product(alloc, x(), x())?;
     let world = moving(alloc, fraction(2, 1), rate)?;
@@ -257,7 +258,7 @@ fn changes_of_four(alloc: Global) -> Result<Changes<Frac64>, Fail> {
     }
 }
 
-// The fluent of a change, and its new value.
+// The fluent of the change at a place, and its new value.
 fn change_at(changes: &Changes<Frac64>, at: usize) -> Option<(FluentId, Option<(i64, i64)>)> {
     let change = changes.fluents.get(at)?;
     match change.value {

@@ -496,6 +496,7 @@ fn compared<Q: Exact>(left: Pair, right: Pair) -> Option<Ordering> {
     Some(x.order(y))
 }
 
+// Works the calls of the rows, and compares the parts of the results.
 fn expect_worked<Q: Exact>(rt: &impl Abort, rows: &[Row]) {
     for &(call, left, right, want) in rows {
         assert!(rt;

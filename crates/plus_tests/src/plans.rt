@@ -169,6 +169,7 @@ fn untimed_lines(rt: HostRuntime) {
     }
 }
 
+// Where the line behind a line begins: at the end of the text, where there is none, it is the offset itself.
 fn offset_behind(
     got: &Result<Option<(Line, usize)>, PlanFault>,
     from: usize,
@@ -180,7 +181,7 @@ fn offset_behind(
     }
 }
 
-// Where the line behind the one at an offset begins.
+// Where the line behind the one at an offset begins, whose number is given.
 fn next_offset(alloc: Global, text: &[u8], from: usize, line: u32) -> Result<usize, PlanFault>
     requires { from ≤ length text.now }
 {
@@ -253,7 +254,7 @@ fn values_of_times(rt: HostRuntime) {
     }
 }
 
-// What a reader gives: a line of a form, with its number, or none.
+// What a reader gives: nothing, a line with its number, or why it refuses.
 #[derive(Clone, Copy, Debug, PartialEq, Eq)]
 enum Given {
     Nothing,
@@ -263,6 +264,7 @@ enum Given {
     Refused(PlanFault),
 }
 
+// The form and the number of what was given.
 fn given_by(got: &Result<Option<Line>, PlanFault>) -> Given {
     match got {
         Ok(None) => Given::Nothing,
@@ -273,6 +275,7 @@ fn given_by(got: &Result<Option<Line>, PlanFault>) -> Given {
     }
 }
 
+// What a reader gives next.
 fn next_given(reader: &mut PlanReader) -> Given {
     given_by(&reader.next_line())
 }
