@@ -24,6 +24,7 @@ ghost use Rattle.plus_timeline.specs.Advance.{IsAhead, EntersAt, AdvanceTold};
 ghost use Rattle.plus_timeline.specs.Forked.{forked, CanRefork};
 ghost use Rattle.plus_timeline.specs.Closing.{CanClose, IsReachedBy};
 
+use crate::copies::{copied_cascade, copied_last};
 use crate::effect::action_changes_in;
 use crate::entry::{EntryStates, Reached};
 use crate::literals::{are_there, bound, literal_changes};
@@ -122,35 +123,6 @@ fn is_earlier<Q: Exact>(time: Q, other: Q) -> bool
         Ordering::Equal => false,
         Ordering::Greater => false,
     }
-}
-
-// The events that have fired in a cascade, as an equal set and in order.
-fn copied_cascade(
-    alloc: Global,
-    cascade: &Cascade,
-    fired: &[EventId],
-) -> Result<(Cascade, Vec<EventId>), AllocError>
-    ensures cascade { IfOk result (λ r. r.0 ≡ cascade.now) }
-    ensures fired { IfOk result (λ r. r.1.items ≡ fired.now) }
-{
-    let cascade = cascade.copy(alloc)?;
-    let fired = Vec::from_slice(alloc, fired)?;
-    Ok((cascade, fired))
-}
-
-// The events of the last round, and an equal running set.
-fn copied_last<Q: Exact>(
-    alloc: Global,
-    events: &[EventId],
-    running: &Running<Q>,
-) -> Result<(Vec<EventId>, Running<Q>), AllocError>
-    ensures events { IfOk result (λ r. r.0.items ≡ events.now) }
-    ensures members { IfOk result (λ r. r.1.members.items ≡ running.now.members.items) }
-    ensures rates { IfOk result (λ r. r.1.rates ≡ running.now.rates) }
-{
-    let events = Vec::from_slice(alloc, events)?;
-    let running = running.copy(alloc)?;
-    Ok((events, running))
 }
 
 impl<Q: Exact> Timeline<Q> {
