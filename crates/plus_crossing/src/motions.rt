@@ -12,7 +12,6 @@ use crate::rates::Rates;
 use plus_number::consts::size;
 use plus_number::exact::Exact;
 use plus_state::evaluation::is_zero;
-use plus_state::motion::Motion;
 use plus_state::states::State;
 use plus_state::term::FluentId;
 
@@ -78,7 +77,7 @@ fn drift<Q: Exact>(ahead: &mut State<Q>, fluent: FluentId, from: Option<Q>, rate
     }
     match from {
         None => ahead.give(fluent, None),
-        Some(value) => ahead.set_motion(fluent, Motion::new(value, rate, delay)),
+        Some(value) => ahead.set_motion(fluent, value, rate, delay),
     }
 }
 

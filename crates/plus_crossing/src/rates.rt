@@ -57,11 +57,15 @@ fn stands_at<Q: Exact>(given: &[(u32, Q)], place: usize, fluent: u32) -> bool
     place < given.len() && given[place].0 == fluent
 }
 
-// The place of this fluent, if none is left out from the first one up to it.
-fn place_from_first<Q: Exact>(given: &[(u32, Q)], fluent: u32) -> usize {
+// The place of this fluent, if those that have a place lie evenly between the first and the last one.
+fn place_between<Q: Exact>(given: &[(u32, Q)], fluent: u32) -> usize {
     match given {
-        [] => 0,
-        [first, ..] => fluent.saturating_sub(first.0) as usize,
+        [first, .., last] => {
+            let reach = last.0.saturating_sub(first.0) as usize;
+            let way = fluent.saturating_sub(first.0) as usize;
+            way.saturating_mul(given.len()) / (reach + 1)
+        }
+        _ => 0,
     }
 }
 
@@ -83,7 +87,7 @@ fn search<Q: Exact>(given: &[(u32, Q)], fluent: u32) -> Result<usize, usize>
     }
 }
 
-// The same. Most fluents stand in a row, so two places are tried first.
+// The same. Most fluents stand in a row or lie evenly, so two places are tried first.
 fn place_of<Q: Exact>(given: &[(u32, Q)], fluent: u32, below: usize) -> Result<usize, usize>
     requires { Rises given.now }
     ensures { IsFoundAt fluent given.now result }
@@ -92,9 +96,9 @@ fn place_of<Q: Exact>(given: &[(u32, Q)], fluent: u32, below: usize) -> Result<u
     if stands_at(given, late, fluent) {
         return Ok(late);
     }
-    let early = place_from_first(given, fluent);
-    if stands_at(given, early, fluent) {
-        return Ok(early);
+    let even = place_between(given, fluent);
+    if stands_at(given, even, fluent) {
+        return Ok(even);
     }
     search(given, fluent)
 }

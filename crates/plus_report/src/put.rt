@@ -11,7 +11,7 @@ use plus_io::{Failed, Sink, write_all};
 use plus_number::exact::Exact;
 
 /// What is put and not yet handed to the sink.
-pub type Waiting = ArrayVec<u8, 512>;
+pub type Waiting = ArrayVec<u8, 128>;
 
 /// Hands all that waits to the sink.
 pub fn flush<O: Sink>(out: &mut O, waiting: &mut Waiting) -> Result<(), Failed>

@@ -38,6 +38,19 @@ impl<Q: Exact> Motion<Q> {
         Motion { from, rate, delay }
     }
 
+    /// Becomes what a value comes to at a rate after some time, as `new` makes it. Each part is written in its place:
+    /// a whole motion that is made first and copied then waits for its parts.
+    #[inline(always)]
+    pub fn set(&mut self, from: Q, rate: Q, delay: Q)
+        requires gain { Q.fits (Q.value rate *ℚ Q.value delay) }
+        requires sum { Q.fits (Q.value from +ℚ Q.value rate *ℚ Q.value delay) }
+        ensures { self.new ≡ Q.value from +ℚ Q.value rate *ℚ Q.value delay }
+    {
+        self.from = from;
+        self.rate = rate;
+        self.delay = delay;
+    }
+
     /// An equal motion.
     #[inline(always)]
     pub fn copy(&self) -> Motion<Q>

@@ -3,7 +3,7 @@ ghost use Rattle.std.specs.Prelude.{◌≡◌, ◌<◌, ◌^◌, Bool, false, Op
 ghost use Rattle.plus_state.specs.Changes.{patched_list, patched, AreIn, Within};
 ghost use Rattle.plus_state.specs.ChangesView.{atom_changes, fluent_changes};
 ghost use Rattle.plus_state.specs.Motions.{laid};
-ghost use Rattle.plus_fraction.specs.Fraction.{Fraction};
+ghost use Rattle.plus_fraction.specs.Fraction.{Fraction, ◌+ℚ◌, ◌*ℚ◌};
 ghost use Rattle.plus_model.specs.Terms.{State as Meant};
 ghost use Rattle.plus_model.specs.Value.{fluent_of, atom_of};
 ghost use Rattle.plus_model.specs.Codes.{coded_state};
@@ -83,16 +83,22 @@ impl<Q: Exact> State<Q> {
         Ok(())
     }
 
-    /// Gives a fluent the value that this motion comes to, and changes nothing else. It takes no memory.
+    /// Gives a fluent what a value comes to at a rate after some time, where both the gain and the sum are values of the
+    /// type, and changes nothing else. It takes no memory.
     #[inline(always)]
-    pub fn set_motion(&mut self, fluent: FluentId, motion: Motion<Q>)
-        requires { fluent.0 < length (self.old.fluents) }
-        ensures { self.new ≡ record (self.old) { fluents = slice_set (self.old.fluents) fluent.0 (Some motion) } }
+    pub fn set_motion(&mut self, fluent: FluentId, from: Q, rate: Q, delay: Q)
+        requires fluent { fluent.0 < length (self.old.fluents) }
+        requires gain { Q.fits (Q.value rate *ℚ Q.value delay) }
+        requires sum { Q.fits (Q.value from +ℚ Q.value rate *ℚ Q.value delay) }
+        ensures { self.new ≡ record (self.old) { fluents = slice_set (self.old.fluents) fluent.0 (Some (Q.value from +ℚ Q.value rate *ℚ Q.value delay)) } }
     {
         if (fluent.0 as usize) < self.motions.len() {
-            self.motions[fluent.0 as usize] = Some(motion);
+            match &mut self.motions[fluent.0 as usize] {
+                Some(motion) => motion.set(from, rate, delay),
+                place => *place = Some(Motion::new(from, rate, delay)),
+            }
         } else {
-            self.values[fluent.0 as usize] = Some(motion.value());
+            self.values[fluent.0 as usize] = Some(Motion::new(from, rate, delay).value());
         }
     }
 
