@@ -56,10 +56,12 @@ def main():
     given = [int(it) for it in sys.argv[3:]]
     runs, lines = given + [10, 20][len(given) :]
     looks, total = looks_of(program, folder, runs)
+    if not total:
+        sys.exit("perf saw nothing: is it there, with setarch, and does the program run?")
     rows = sorted(instructions_of(program), key=lambda row: -looks[row[0]])
     print(f"{total / runs / 20:.1f} milliseconds a run")
     for address, text, function in rows[:lines]:
-        print(f"{100 * looks[address] / max(total, 1):5.2f}%  {address:7x}  {text[:50]:50}  {function}")
+        print(f"{100 * looks[address] / total:5.2f}%  {address:7x}  {text[:50]:50}  {function}")
 
 
 main()
