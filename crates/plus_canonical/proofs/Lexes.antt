@@ -39,7 +39,7 @@ stops p a b c d _ at_line = b
 stops p a b c d _ at_open = c
 stops p a b c d _ at_close = d
 
-number_stops : (rest : List ℕ) → Ended rest → Ends (kinds.Number true 0 0) rest
+number_stops : (rest : List ℕ) → Ended rest → Ends kinds.Number rest
 number_stops _ at_end = inl refl
 number_stops _ at_space = inr refl
 number_stops _ at_line = inr refl
@@ -66,7 +66,7 @@ kind_stops kinds.Colon rest e = stops is_letter refl refl refl refl rest e
 kind_stops kinds.Name rest e = stops is_name_byte refl refl refl refl rest e
 kind_stops kinds.Variable rest e = stops is_name_byte refl refl refl refl rest e
 kind_stops kinds.Keyword rest e = stops is_name_byte refl refl refl refl rest e
-kind_stops (kinds.Number negative digits places) rest e = number_stops rest e
+kind_stops kinds.Number rest e = number_stops rest e
 kind_stops kinds.Clock rest e = stops is_name_byte refl refl refl refl rest e
 kind_stops kinds.End rest e = stops is_name_byte refl refl refl refl rest e
 kind_stops (kinds.Op op) rest e = op_stops op rest e

@@ -1,5 +1,5 @@
 -- Numbers read again.
-use Rattle.std.proofs.Common.{◌≡◌, ℕ, zero, suc, ◌+◌, ◌-◌, ◌*◌, ◌/◌, ◌%◌, ◌^◌, ◌<◌, ◌≤◌, Bool, true, false, cond, List, [], ◌∷◌, ◌++◌, length, take, drop, Option, Some, refl, sym, ap, ◌∙◌, subst, arith, length-append, length-take, length-drop}
+use Rattle.std.proofs.Common.{◌≡◌, ℕ, zero, suc, ◌+◌, ◌-◌, ◌*◌, ◌/◌, ◌%◌, ◌^◌, ◌<◌, ◌≤◌, Bool, true, false, cond, List, [], ◌∷◌, ◌++◌, length, take, drop, Option, Some, None, refl, sym, ap, ◌∙◌, subst, arith, length-append, length-take, length-drop}
 use Rattle.std.specs.Prelude.{replicate, nat_le, decimal, ◌==◌, ◌&&◌, not}
 use Rattle.std.specs.List.{list_all}
 use Rattle.std.proofs.lemmas.Bool.{and_parts, and_from, le-leb, leb-true}
@@ -14,8 +14,11 @@ use Rattle.plus_tokens.specs.declared.span.Span.{Span}
 use Rattle.plus_tree.specs.declared.terms.Literal.{Literal}
 use Rattle.plus_tokens.specs.Lowered.{lowered}
 use Rattle.plus_tokens.specs.Items.{Piece}
-use Rattle.plus_reading.specs.Literals.{trimmed, kind_literal}
-use Rattle.plus_reading.specs.Words.{is_time}
+use Rattle.plus_tokens.specs.declared.numeral.Numeral.{Numeral}
+use Rattle.plus_tokens.specs.Numeral.{numeral, numeral_of, piece_numeral}
+use Rattle.plus_tokens.proofs.Numerals.{spelled_lowered}
+use Rattle.plus_reading.specs.Literals.{trimmed, numeral_literal, kind_literal}
+use Rattle.plus_reading.specs.Words.{is_unsigned, kind_time}
 use Rattle.plus_reading.specs.Spells as spells
 use Rattle.plus_parser.specs.SpellsProblem.{IsTime}
 use Rattle.plus_printer.specs.Words.{word, padded, pointed, number_text, sign_text, literal_text}
@@ -132,17 +135,19 @@ spelled_good negative digits places bytes s n =
     let top : 10 ^ length ((n.first ∷ n.others) ++ n.fraction) ≤ 10 ^ (19 + places) = pow-le-pow_right {n = 10} (omega arith) long in
     trimmed_good negative s places digits n.places_within (omega (arith, lt, top, n.value))
 
-number_kind : (k : Kind) (s : Span) (bytes : List ℕ) (n : Literal) → Spells k bytes → kind_literal k s ≡ Some n → GoodLiteral n
+some_is : (a b : Literal) → ◌≡◌ {A = Option Literal} (Some a) (Some b) → a ≡ b
+some_is a b e = cc
+
+number_kind : (k : Kind) (s : Span) (bytes : List ℕ) (n : Literal) → Spells k bytes → kind_literal k (lowered bytes) s ≡ Some n → GoodLiteral n
 unfolding kind_literal
-number_kind (kinds.Number negative digits places) s bytes n spelled e =
-    let same : trimmed negative s places digits ≡ n = some_is _ n e in subst GoodLiteral same (spelled_good negative digits places bytes s spelled)
-  where
-    some_is : (a b : Literal) → ◌≡◌ {A = Option Literal} (Some a) (Some b) → a ≡ b
-    some_is a b e = cc
+number_kind kinds.Number s bytes n spelled e =
+    let read : numeral_of (lowered bytes) ≡ Some (numeral spelled.0 spelled.1 spelled.2) = spelled_lowered spelled.0 spelled.1 spelled.2 bytes spelled.3 in
+    let same : trimmed spelled.0 s spelled.2 spelled.1 ≡ n = some_is _ n (sym (ap (λ o. numeral_literal o s) read) ∙ e) in
+    subst GoodLiteral same (spelled_good spelled.0 spelled.1 spelled.2 bytes s spelled.3)
 number_kind _ s bytes n spelled e = absurd cc
 
 pub literal_good : (p : Piece) (n : Literal) → Lexical p → spells.IsNumber n p → GoodLiteral n
-literal_good p n l is = number_kind p.kind p.span l.bytes n l.spelled is
+literal_good p n l is = number_kind p.kind p.span l.bytes n l.spelled (ap (λ w. kind_literal p.kind w p.span) (sym l.word_is) ∙ is)
 
 -- ---- the canonical text of a number
 
@@ -211,24 +216,35 @@ number_spelled negative digits (suc q) ds few p =
 abbrev pub SpellsNumber : Literal → List Piece → Type 0
 SpellsNumber n ts = (p : Piece) × spells.IsNumber n p × (ts ≡ p ∷ [])
 
-again_made : (room : ℕ) (n : Literal) → GoodLiteral n → (w : List ℕ) (ts : List Piece) → IsToken (kinds.Number n.negative n.digits n.places) w ts → Again room Literal SpellsNumber bare_literal n ts
+literal_spelled : (n : Literal) → GoodLiteral n → IsNumber n.negative n.digits n.places (literal_text n)
+unfolding literal_text number_text
+literal_spelled n good =
+    number_spelled n.negative n.digits n.places (padded (suc n.places) n.digits) good.few (padded_is n.places n.digits good.few good.bound)
+
+abbrev word_of : Literal → List ℕ
+word_of n = lowered (literal_text n)
+
+-- its word spells the literal
+word_literal : (n : Literal) → GoodLiteral n → (s : Span) → kind_literal kinds.Number (word_of n) s ≡ Some (record n { span = s })
 unfolding kind_literal
-again_made room n good w ts t = record {
+word_literal n good s =
+    ap (λ o. numeral_literal o s) (spelled_lowered n.negative n.digits n.places (literal_text n) (literal_spelled n good))
+    ∙ ap (λ (m : Literal). Some m) (good.normal s)
+
+again_made : (room : ℕ) (n : Literal) → GoodLiteral n → (ts : List Piece) → IsToken kinds.Number (word_of n) ts → Again room Literal SpellsNumber bare_literal n ts
+again_made room n good ts t = record {
   again = record n { span = t.span };
-  spelled = (piece (kinds.Number n.negative n.digits n.places) w t.span, ap (λ (m : Literal). Some m) (good.normal t.span), t.whole);
-  even = even_token room (piece (kinds.Number n.negative n.digits n.places) w t.span) ts refl t.whole;
+  spelled = (piece kinds.Number (word_of n) t.span, word_literal n good t.span, t.whole);
+  even = even_token room (piece kinds.Number (word_of n) t.span) ts refl t.whole;
   same = refl;
 }
 
-literal_token : (n : Literal) → GoodLiteral n → Reads Ended (literal_text n) (IsToken (kinds.Number n.negative n.digits n.places) (lowered (literal_text n)))
-unfolding literal_text number_text
+literal_token : (n : Literal) → GoodLiteral n → Reads Ended (literal_text n) (IsToken kinds.Number (word_of n))
 literal_token n good =
-    let k : Kind = kinds.Number n.negative n.digits n.places in
-    token_reads {S = Ended} k (literal_text n) (number_spelled n.negative n.digits n.places (padded (suc n.places) n.digits) good.few (padded_is n.places n.digits good.few good.bound))
-    (λ rest ok. kind_stops k rest ok)
+    token_reads {S = Ended} kinds.Number (literal_text n) (n.negative, n.digits, n.places, literal_spelled n good) (λ rest ok. kind_stops kinds.Number rest ok)
 
 pub literal_again : (room : ℕ) (n : Literal) → GoodLiteral n → Reads Ended (literal_text n) (Again room Literal SpellsNumber bare_literal n)
-literal_again room n good = turn {after = Ended} (literal_text n) (again_made room n good (lowered (literal_text n))) (literal_token n good)
+literal_again room n good = turn {after = Ended} (literal_text n) (again_made room n good) (literal_token n good)
 
 -- ---- a time reads again
 
@@ -245,30 +261,37 @@ trimmed_unsigned s (suc p) d = by (d % 10 == 0) (trimmed_unsigned s p (d / 10))
     by true e = e
     by false e = refl
 
-kind_unsigned : (k : Kind) (s : Span) (t : Literal) → kind_literal k s ≡ Some t → is_time k ≡ true → t.negative ≡ false
-unfolding kind_literal
-kind_unsigned (kinds.Number true digits places) s t e time = absurd cc
-kind_unsigned (kinds.Number false digits places) s t e time =
-    let same : trimmed false s places digits ≡ t = some_is _ t e in subst (λ (m : Literal). m.negative ≡ false) same (trimmed_unsigned s places digits)
+literal_unsigned : (o : Option Numeral) (s : Span) (t : Literal) → numeral_literal o s ≡ Some t → is_unsigned o ≡ true → t.negative ≡ false
+literal_unsigned None s t e time = absurd cc
+literal_unsigned (Some n) s t e time = by n.negative refl
   where
-    some_is : (a b : Literal) → ◌≡◌ {A = Option Literal} (Some a) (Some b) → a ≡ b
-    some_is a b e = cc
-kind_unsigned _ s t e time = absurd cc
+    by : (b : Bool) → n.negative ≡ b → t.negative ≡ false
+    by true h = absurd (let no_time : false ≡ true = sym (ap not h) ∙ time in cc)
+    by false h =
+        let same : trimmed false s n.places n.digits ≡ t = ap (λ b. trimmed b s n.places n.digits) (sym h) ∙ some_is _ t e in
+        subst (λ (m : Literal). m.negative ≡ false) same (trimmed_unsigned s n.places n.digits)
+
+time_unsigned : (p : Piece) (t : Literal) → IsTime t p → t.negative ≡ false
+unfolding kind_literal
+time_unsigned p t is = literal_unsigned (piece_numeral p) p.span t is.0 is.1
 
 pub time_good : (p : Piece) (t : Literal) → Lexical p → IsTime t p → GoodTime t
-time_good p t l is = record { number = literal_good p t l is.0; unsigned = kind_unsigned p.kind p.span t is.0 is.1 }
+time_good p t l is = record { number = literal_good p t l is.0; unsigned = time_unsigned p t is }
 
 abbrev pub SpellsTime : Literal → List Piece → Type 0
 SpellsTime t ts = (p : Piece) × IsTime t p × (ts ≡ p ∷ [])
 
-time_made : (room : ℕ) (t : Literal) → GoodTime t → (w : List ℕ) (ts : List Piece) → IsToken (kinds.Number t.negative t.digits t.places) w ts → Again room Literal SpellsTime bare_literal t ts
-unfolding kind_literal
-time_made room t good w ts token = record {
+time_made : (room : ℕ) (t : Literal) → GoodTime t → (ts : List Piece) → IsToken kinds.Number (word_of t) ts → Again room Literal SpellsTime bare_literal t ts
+time_made room t good ts token = record {
   again = record t { span = token.span };
-  spelled = (piece (kinds.Number t.negative t.digits t.places) w token.span, (ap (λ (m : Literal). Some m) (good.number.normal token.span), ap not good.unsigned), token.whole);
-  even = even_token room (piece (kinds.Number t.negative t.digits t.places) w token.span) ts refl token.whole;
+  spelled = (piece kinds.Number (word_of t) token.span, (word_literal t good.number token.span, word_time), token.whole);
+  even = even_token room (piece kinds.Number (word_of t) token.span) ts refl token.whole;
   same = refl;
 }
+  where
+    word_time : kind_time kinds.Number (word_of t) ≡ true
+    word_time =
+        ap is_unsigned (spelled_lowered t.negative t.digits t.places (literal_text t) (literal_spelled t good.number)) ∙ ap not good.unsigned
 
 pub time_again : (room : ℕ) (t : Literal) → GoodTime t → Reads Ended (literal_text t) (Again room Literal SpellsTime bare_literal t)
-time_again room t good = turn {after = Ended} (literal_text t) (time_made room t good (lowered (literal_text t))) (literal_token t good.number)
+time_again room t good = turn {after = Ended} (literal_text t) (time_made room t good) (literal_token t good.number)

@@ -44,11 +44,11 @@ use Rattle.plus_reading.proofs.ExprForms.{expr_takes, expr_again}
 
 -- ---- comparisons
 
-number_no_term : (k : Kind) (s : Span) (n : Literal) → kind_literal k s ≡ Some n → is_term k ≡ false
+number_no_term : (k : Kind) (w : List ℕ) (s : Span) (n : Literal) → kind_literal k w s ≡ Some n → is_term k ≡ false
 unfolding kind_literal
-number_no_term kinds.Name s n e = absurd cc
-number_no_term kinds.Variable s n e = absurd cc
-number_no_term _ s n e = refl
+number_no_term kinds.Name w s n e = absurd cc
+number_no_term kinds.Variable w s n e = absurd cc
+number_no_term _ w s n e = refl
 
 same_term : (p first : Piece) (inner more ts : List Piece) → ts ≡ p ∷ more → ts ≡ first ∷ inner → is_term p.kind ≡ false → is_term first.kind ≡ false
 same_term p first inner more ts e f t =
@@ -58,7 +58,7 @@ same_term p first inner more ts e f t =
 
 -- no expression begins with a term
 expr_no_term : (x : Expr) (ts : List Piece) (first : Piece) (inner : List Piece) → SpellsExpr x ts → ts ≡ first ∷ inner → is_term first.kind ≡ false
-expr_no_term (x_number n s) ts first inner h e = same_term h.0 first inner [] ts h.3 e (number_no_term h.0.kind h.0.span n h.1)
+expr_no_term (x_number n s) ts first inner h e = same_term h.0 first inner [] ts h.3 e (number_no_term h.0.kind h.0.word h.0.span n h.1)
 expr_no_term (x_clock s) ts first inner h e = same_term h.0 first inner [] ts h.3 e (ap is_term h.1)
 expr_no_term (x_fluent u s) ts first inner h e = let w = h.1.3 in same_term w.first first inner ((h.1.0 ∷ h.1.1) ++ w.last ∷ []) ts w.whole e (ap is_term w.opens)
 expr_no_term (x_sum es s) ts first inner h e = let w = h.3 in same_term w.first first inner ((h.0 ∷ h.1) ++ w.last ∷ []) ts w.whole e (ap is_term w.opens)

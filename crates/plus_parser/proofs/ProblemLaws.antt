@@ -67,7 +67,7 @@ init_takes room s items x rest some e =
             let word = word_is (codes "at") p both.0 in
             let t = timed_takes (room - 1) s r x rest e in
             let behind = toks t.inner (tok t.last ∷ rest) in
-            let time : is_time t.time.kind ≡ true = sym (time_number (room - 1) t.time t.number behind t.is) ∙ ap (time_ahead (room - 1)) (sym t.whole) ∙ both.1 in
+            let time : is_time t.time ≡ true = sym (time_number (room - 1) t.time t.number behind t.is) ∙ ap (time_ahead (room - 1)) (sym t.whole) ∙ both.1 in
             close_took SpellsInit room (room - 1) (omega (arith, some)) x s (p ∷ t.time ∷ t.inner) t.last items rest t.closes
             (whole ∙ ap (λ (is : List Item). tok p ∷ is) t.whole)
             ((name_flat p word.0).room (room - 1) (t.time ∷ t.inner) ∙ after_flat (room - 1) t.time t.inner (number_flat t.time t.number t.is) ∙ t.even)

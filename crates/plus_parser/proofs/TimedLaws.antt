@@ -14,7 +14,7 @@ use Rattle.plus_reading.specs.declared.words.HeadWord.TheVariants.{Not, Plain}
 use Rattle.plus_reading.specs.Literals.{literal_of}
 use Rattle.plus_tokens.specs.Items.{Piece, Item, tok}
 use Rattle.plus_reading.specs.Reading.{◌>>=◌, Read, next_of, is_open}
-use Rattle.plus_reading.specs.Words.{head_of, is_time}
+use Rattle.plus_reading.specs.Words.{head_of, is_time, kind_time}
 use Rattle.plus_reading.specs.Grammar.{around, time_ahead, is_time_read, open_of, close_of, use_of, use_end, use_form}
 use Rattle.plus_reading.specs.Spells.{IsClose, IsWord, IsNumber, Wrapped, Chain, SpellsArgument, SpellsUse, room_after}
 use Rattle.plus_reading.proofs.Tokens.{toks, toks_last, bind_ok, ok_is, next_ok, next_again, open_kind, token_takes}
@@ -52,29 +52,29 @@ number_takes room items n rest e =
 pub number_again : (room : ℕ) (p : Piece) (n : Literal) (rest : List Item) → IsNumber n p → literal_next room (tok p ∷ rest) ≡ Ok (n, rest)
 unfolding literal_next
 number_again room p n rest h =
-    ap (λ (q : Read Piece). q >>= λ p. literal_or (literal_of p.0) p.0 p.1) (next_again room p rest (not_open p.kind p.span n h)) ∙ ap (λ (o : Option Literal). literal_or o p rest) h
+    ap (λ (q : Read Piece). q >>= λ p. literal_or (literal_of p.0) p.0 p.1) (next_again room p rest (not_open p.kind p.word p.span n h)) ∙ ap (λ (o : Option Literal). literal_or o p rest) h
 
 pub number_level : (p : Piece) (n : Literal) → IsNumber n p → Level (p ∷ [])
 number_level p n h = level_flat p [] (number_flat p n h) level_none
 
 -- ---- whether a time follows
 
-time_shown : (room : ℕ) (p : Piece) (rest : List Item) → is_open p.kind ≡ false → time_ahead room (tok p ∷ rest) ≡ is_time p.kind
+time_shown : (room : ℕ) (p : Piece) (rest : List Item) → is_open p.kind ≡ false → time_ahead room (tok p ∷ rest) ≡ is_time p
 time_shown room p rest e = ap is_time_read (next_again room p rest e)
 
-pub time_number : (room : ℕ) (p : Piece) (n : Literal) (rest : List Item) → IsNumber n p → time_ahead room (tok p ∷ rest) ≡ is_time p.kind
-time_number room p n rest h = time_shown room p rest (not_open p.kind p.span n h)
+pub time_number : (room : ℕ) (p : Piece) (n : Literal) (rest : List Item) → IsNumber n p → time_ahead room (tok p ∷ rest) ≡ is_time p
+time_number room p n rest h = time_shown room p rest (not_open p.kind p.word p.span n h)
 
 -- no time follows where names do, or where the form ends
 pub names_no_time : (room : ℕ) (xs : List Term) (args : List Piece) (last : Piece) (rest : List Item) → IsClose last → Chain (SpellsArgument allows.Names) xs args → time_ahead room (toks args (tok last ∷ rest)) ≡ false
 names_no_time room [] args last rest close h =
-    ap (λ (ps : List Piece). time_ahead room (toks ps (tok last ∷ rest))) h ∙ time_shown room last rest (ap is_open close) ∙ ap is_time close
+    ap (λ (ps : List Piece). time_ahead room (toks ps (tok last ∷ rest))) h ∙ time_shown room last rest (ap is_open close) ∙ ap (λ k. kind_time k last.word) close
 names_no_time room (x ∷ xs) args last rest close h =
     let one = h.2 in
     let shape : args ≡ one.0 ∷ h.1 = h.4 ∙ ap (λ (ps : List Piece). ps ++ h.1) one.3 in
     let name = name_kind one.0.kind one.1 in
     ap (λ (ps : List Piece). time_ahead room (toks ps (tok last ∷ rest))) shape
-    ∙ time_shown room one.0 (toks h.1 (tok last ∷ rest)) (ap is_open name) ∙ ap is_time name
+    ∙ time_shown room one.0 (toks h.1 (tok last ∷ rest)) (ap is_open name) ∙ ap (λ k. kind_time k one.0.word) name
 
 -- ---- what is read behind `at`
 
@@ -95,7 +95,7 @@ pub record TimedTook (room : ℕ) (x : Init) (s : Span) (items rest : List Item)
   pub closes : IsClose last
   pub whole : items ≡ tok time ∷ toks inner (tok last ∷ rest)
   pub even : Even room inner
-  pub spelled : (a : Piece) (ts : List Piece) → IsWord (codes "at") a → is_time time.kind ≡ true → Wrapped (around s last.span) (a ∷ time ∷ inner) ts → SpellsInit x ts
+  pub spelled : (a : Piece) (ts : List Piece) → IsWord (codes "at") a → is_time time ≡ true → Wrapped (around s last.span) (a ∷ time ∷ inner) ts → SpellsInit x ts
 
 -- the same for each form behind the time
 timed_took :

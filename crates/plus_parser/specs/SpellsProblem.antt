@@ -31,7 +31,7 @@ SpellsNot allowed u s ts =
 
 -- the token is this number, without a sign
 abbrev pub IsTime : Literal → Piece → Type 0
-IsTime t p = IsNumber t p × (is_time p.kind ≡ true)
+IsTime t p = IsNumber t p × (is_time p ≡ true)
 
 -- `(at 2.5 ..)`: behind the time stands what becomes true or false then
 abbrev pub SpellsTimed : Literal → Span → (List Piece → Type 0) → List Piece → Type 0

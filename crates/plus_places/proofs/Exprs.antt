@@ -24,10 +24,10 @@ use Rattle.plus_places.proofs.Goes.{room_next, Rest, taken, goes}
 use Rattle.plus_places.proofs.Follows.{bind_assoc, Follows, follows_token, follows_close, flat_room}
 use Rattle.plus_places.proofs.Turns.{after, in_turn, in_turns, then_same, past_close, not_close, no_more, goes_length, Steps, Less, until_follows, Inside, args_follow}
 
-pub lit_room : (k : Kind) (s : Span) (n : Literal) (room : ℕ) → kind_literal k s ≡ Some n → room_next k room ≡ room
+pub lit_room : (k : Kind) (w : List ℕ) (s : Span) (n : Literal) (room : ℕ) → kind_literal k w s ≡ Some n → room_next k room ≡ room
 unfolding kind_literal
-lit_room (kinds.Number negative digits places) s n room e = refl
-lit_room _ s n room e = absurd cc
+lit_room kinds.Number w s n room e = refl
+lit_room _ w s n room e = absurd cc
 
 number_follows : (room : ℕ) (kind : Kind) (p : Piece) (lit : Option Literal) (behind st : List Symbol) (rest : List Item) → ((n : Literal) → lit ≡ Some n → room_next kind room ≡ room) → taken (accept (is_some lit) behind) p (λ ks. goes (room_next kind room) (ks ++ st) rest) ≡ (number_or lit p rest >>= λ x. goes room (behind ++ st) x.1)
 number_follows room kind p (Some n) behind st rest h = ap (λ r. goes r (behind ++ st) rest) (h n refl)
@@ -42,7 +42,7 @@ module _ (room : ℕ) (nested : Former Expr) (N : Inside sy.ExprInside room nest
       at_kind : (k : Kind) → p.kind ≡ k → taken (table.expr_kind k (is_some (literal_of p)) behind) p (λ ks. goes (room_next k room) (ks ++ st) rest) ≡ (expr_kind nested p rest k >>= λ x. goes room (behind ++ st) x.1)
       at_kind kinds.Open e = N (left (ap is_open e)) p.span (behind ++ st) rest
       at_kind kinds.Clock e = refl
-      at_kind k e = number_follows room k p (literal_of p) behind st rest (λ n l. lit_room k p.span n room (ap (λ q. kind_literal q p.span) (sym e) ∙ l))
+      at_kind k e = number_follows room k p (literal_of p) behind st rest (λ n l. lit_room k p.word p.span n room (ap (λ q. kind_literal q p.word p.span) (sym e) ∙ l))
 
   from_less : (p : Piece) (r : List Item) (x : Expr) (r' : List Item) → (is_open p.kind ≡ true → 0 < room) → expr_from nested p r ≡ Ok (x, r') → length r' ≤ length r
   unfolding goes

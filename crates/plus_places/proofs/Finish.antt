@@ -3,6 +3,7 @@ use Rattle.std.proofs.Common.{◌≡◌, ℕ, Bool, true, false, cond, List, [],
 use Rattle.std.specs.Prelude.{◌&&◌, codes}
 use Rattle.plus_tokens.specs.declared.token.Kind.TheVariants as kinds
 use Rattle.plus_tokens.specs.Items.{Piece}
+use Rattle.plus_tokens.specs.Numeral.{numeral_of}
 use Rattle.plus_reading.specs.Literals.{kind_literal}
 use Rattle.plus_reading.specs.Grammar.{nowhere}
 use Rattle.plus_places.specs.declared.symbols.Met.{Met}
@@ -27,7 +28,7 @@ abbrev pub clock : Piece
 clock = record { kind = kinds.Clock; word = codes "#t"; span = nowhere }
 
 abbrev pub one : Piece
-one = record { kind = kinds.Number false 1 0; word = codes "1"; span = nowhere }
+one = record { kind = kinds.Number; word = codes "1"; span = nowhere }
 
 abbrev pub domain_part : List Piece
 domain_part = opening ∷ keyword (codes ":domain") ∷ name (codes "a") ∷ closing ∷ []
@@ -153,7 +154,7 @@ section_ends true true true true true false = sections_ends (met true true true 
 section_ends true true true true true true = refl
 
 pub ends : (s : Symbol) → run (s ∷ []) (finish s) ≡ Some []
-unfolding run kind_literal
+unfolding run kind_literal numeral_of
 ends (sy.Sections m) = sections_ends m
 ends (sy.Section m) = section_ends m.metric m.requirements m.objects m.domain m.init m.goal
 ends (sy.Compared true) = refl

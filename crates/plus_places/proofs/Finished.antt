@@ -36,18 +36,23 @@ is_clock = record { spelled = (116, refl, refl); small = refl }
 
 is_one : IsGenuine one
 is_one = record {
-  spelled = record {
-    first = 49;
-    others = [];
-    fraction = [];
-    whole_digits = refl;
-    fraction_digits = refl;
-    spelled = refl;
-    value = refl;
-    few_places = refl;
-    whole_within = lit≤ tt;
-    places_within = lit≤ tt;
-  };
+  spelled = (
+    false,
+    1,
+    0,
+    record {
+      first = 49;
+      others = [];
+      fraction = [];
+      whole_digits = refl;
+      fraction_digits = refl;
+      spelled = refl;
+      value = refl;
+      few_places = refl;
+      whole_within = lit≤ tt;
+      places_within = lit≤ tt;
+    },
+  );
   small = refl;
 }
 

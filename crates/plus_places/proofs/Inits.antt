@@ -1,8 +1,6 @@
 -- The table against the first state: atoms, values, and literals with a time.
 use Rattle.std.proofs.Common.{◌≡◌, ℕ, suc, ◌-◌, ◌<◌, Bool, true, false, cond, List, [], ◌∷◌, ◌++◌, Option, Some, None, Ok, refl, sym, ap, ◌∙◌, arith}
 use Rattle.std.specs.Prelude.{◌&&◌, is_some, codes}
-use Rattle.plus_tokens.specs.declared.token.Kind.{Kind}
-use Rattle.plus_tokens.specs.declared.token.Kind.TheVariants as kinds
 use Rattle.plus_tokens.specs.declared.span.Span.{Span}
 use Rattle.plus_tree.specs.declared.terms.Literal.{Literal}
 use Rattle.plus_tree.specs.declared.terms.Comparison.TheVariants.{Equal}
@@ -11,10 +9,12 @@ use Rattle.plus_tree.specs.declared.trees.Init.TheVariants.{Holds, Absent, Value
 use Rattle.plus_reading.specs.declared.words.Allowed.TheVariants as allows
 use Rattle.plus_reading.specs.declared.words.HeadWord.{HeadWord}
 use Rattle.plus_reading.specs.declared.words.HeadWord.TheVariants.{Nothing, Not, Compare, Plain, Other}
+use Rattle.plus_tokens.specs.declared.numeral.Numeral.{Numeral}
+use Rattle.plus_tokens.specs.Numeral.{piece_numeral}
 use Rattle.plus_tokens.specs.Items.{Piece, Item}
-use Rattle.plus_reading.specs.Literals.{kind_literal, literal_of}
+use Rattle.plus_reading.specs.Literals.{kind_literal, numeral_literal, literal_of}
 use Rattle.plus_reading.specs.Reading.{◌>>=◌, Read, next_of}
-use Rattle.plus_reading.specs.Words.{head_of, is_word, is_time, is_allowed}
+use Rattle.plus_reading.specs.Words.{head_of, is_word, is_unsigned, is_time, is_allowed}
 use Rattle.plus_reading.specs.Grammar.{around, is_time_read, time_ahead, open_of, close_of, use_end, use_form}
 use Rattle.plus_parser.specs.ReadingProblem.{literal_or, literal_next, timed_with, timed_of, plain_init, init_with, init_at}
 use Rattle.plus_places.specs.declared.symbols.Symbol.{Symbol}
@@ -32,14 +32,17 @@ number_follow room st items =
     follows_token room sy.Number st items (λ p. literal_or (literal_of p.0) p.0 p.1) (λ x. goes room st x.1) (λ p rest e. at_lit p rest (literal_of p) refl)
   where
     at_lit : (p : Piece) (rest : List Item) (lit : Option Literal) → literal_of p ≡ lit → taken (accept (is_some lit) []) p (after room p st rest) ≡ (literal_or lit p rest >>= λ x. goes room st x.1)
-    at_lit p rest (Some n) e = ap (λ r. goes r st rest) (lit_room p.kind p.span n room e)
+    at_lit p rest (Some n) e = ap (λ r. goes r st rest) (lit_room p.kind p.word p.span n room e)
     at_lit p rest None e = refl
 
 -- a time is a number
-time_lit : (k : Kind) (s : Span) → is_time k ≡ true → (n : Literal) × (kind_literal k s ≡ Some n)
+time_lit : (n : Option Numeral) (s : Span) → is_unsigned n ≡ true → (t : Literal) × (numeral_literal n s ≡ Some t)
+time_lit (Some n) s e = (_, refl)
+time_lit None s e = absurd cc
+
+piece_lit : (p : Piece) → is_time p ≡ true → (n : Literal) × (literal_of p ≡ Some n)
 unfolding kind_literal
-time_lit (kinds.Number negative digits places) s e = (_, refl)
-time_lit _ s e = absurd cc
+piece_lit p e = time_lit (piece_numeral p) p.span e
 
 module _ (room : ℕ) (front : Span) (st : List Symbol) where
   abbrev k : Init × List Item → Rest
@@ -71,10 +74,10 @@ module _ (room : ℕ) (front : Span) (st : List Symbol) where
       let read = λ (p : Piece × List Item). literal_or (literal_of p.0) p.0 p.1 in
       let more = λ (t : Literal × List Item). open_of room t.1 >>= timed_open t.0 in
       follows_token room sy.AtEnd st items (λ p. read p >>= more) k (λ p rest e.
-      let is : is_time p.kind ≡ true = sym (ap is_time_read e) ∙ t in
-      let n = time_lit p.kind p.span is in
+      let is : is_time p ≡ true = sym (ap is_time_read e) ∙ t in
+      let n = piece_lit p is in
       ap (λ b. taken (cond b (Some (sy.Timed ∷ sy.Close ∷ [])) (close_or p.kind (accept (is_allowed allows.Names p.kind) (sy.Arguments allows.Names ∷ [])))) p (after room p st rest)) is
-      ∙ ap (λ r. goes r (sy.Timed ∷ sy.Close ∷ st) rest) (lit_room p.kind p.span n.0 room n.1)
+      ∙ ap (λ r. goes r (sy.Timed ∷ sy.Close ∷ st) rest) (lit_room p.kind p.word p.span n.0 room n.1)
       ∙ follows_open room sy.Timed (sy.TimedInside ∷ []) (sy.Close ∷ st) rest (timed_open n.0) k (λ p. refl) (λ lt o rest.
       follows_token (room - 1) sy.TimedInside (sy.Close ∷ st) rest (λ p. timed_with room front n.0 o.span p.0 p.1 (head_of p.0)) k (λ p rest e. timed_head lt n.0 o.span p rest (head_of p) refl))
       ∙ ap (λ (l : Option Literal). (literal_or l p rest >>= more) >>= k) (sym n.1))
@@ -85,7 +88,7 @@ module _ (room : ℕ) (front : Span) (st : List Symbol) where
   names_follow items t =
       looks room sy.AtEnd st items
       ∙ bind_same (next_of room items) (λ p. taken (step sy.AtEnd p.0) p.0 (after room p.0 st p.1)) (λ p. taken (step (sy.Arguments allows.Names) p.0) p.0 (after room p.0 st p.1)) (λ p e.
-      let is : is_time p.0.kind ≡ false = sym (ap is_time_read e) ∙ t in
+      let is : is_time p.0 ≡ false = sym (ap is_time_read e) ∙ t in
       ap (λ b. taken (cond b (Some (sy.Timed ∷ sy.Close ∷ [])) (step (sy.Arguments allows.Names) p.0)) p.0 (after room p.0 st p.1)) is)
       ∙ sym (looks room (sy.Arguments allows.Names) st items)
 

@@ -1,35 +1,39 @@
 -- Where a token stands says nothing of what it spells.
-use Rattle.std.proofs.Common.{◌≡◌, ℕ, ◌+◌, List, [], ◌∷◌, ◌++◌, length, Some, None, refl, ap, ◌∙◌}
+use Rattle.std.proofs.Common.{◌≡◌, ℕ, ◌+◌, List, [], ◌∷◌, ◌++◌, length, Option, Some, None, refl, ap, ◌∙◌}
 use Rattle.std.specs.Prelude.{◌&&◌, is_some, if◌then◌else◌}
 use Rattle.plus_tokens.specs.declared.token.Kind.{Kind}
-use Rattle.plus_tokens.specs.declared.token.Kind.TheVariants as kinds
 use Rattle.plus_tokens.specs.declared.span.Span.{Span}
+use Rattle.plus_tokens.specs.declared.numeral.Numeral.{Numeral}
+use Rattle.plus_tokens.specs.Numeral.{kind_numeral}
 use Rattle.plus_tokens.specs.Items.{Piece}
-use Rattle.plus_reading.specs.Literals.{kind_literal}
+use Rattle.plus_reading.specs.Literals.{kind_literal, numeral_literal}
 use Rattle.plus_reading.specs.Words.{is_term}
 use Rattle.plus_places.specs.declared.symbols.Symbol.{Symbol}
 use Rattle.plus_places.specs.declared.symbols.Symbol.TheVariants as sy
 use Rattle.plus_places.specs.Table.{Wanted, accept, close_or, expr_kind, step, run_with, run}
 use Rattle.plus_places.proofs.Texts.{put, placed}
 
-number_same : (k : Kind) (a b : Span) → is_some (kind_literal k a) ≡ is_some (kind_literal k b)
-unfolding kind_literal
-number_same (kinds.Number negative digits places) a b = refl
-number_same _ a b = refl
+numeral_same : (n : Option Numeral) (a b : Span) → is_some (numeral_literal n a) ≡ is_some (numeral_literal n b)
+numeral_same (Some n) a b = refl
+numeral_same None a b = refl
 
-expr_same : (k : Kind) (a b : Span) (behind : List Symbol) → expr_kind k (is_some (kind_literal k a)) behind ≡ expr_kind k (is_some (kind_literal k b)) behind
-expr_same k a b behind = ap (λ n. expr_kind k n behind) (number_same k a b)
+number_same : (k : Kind) (w : List ℕ) (a b : Span) → is_some (kind_literal k w a) ≡ is_some (kind_literal k w b)
+unfolding kind_literal
+number_same k w a b = numeral_same (kind_numeral k w) a b
+
+expr_same : (k : Kind) (w : List ℕ) (a b : Span) (behind : List Symbol) → expr_kind k (is_some (kind_literal k w a)) behind ≡ expr_kind k (is_some (kind_literal k w b)) behind
+expr_same k w a b behind = ap (λ n. expr_kind k n behind) (number_same k w a b)
 
 abbrev piece : Kind → List ℕ → Span → Piece
 piece k w s = record { kind = k; word = w; span = s }
 
 step_same : (s : Symbol) (k : Kind) (w : List ℕ) (a b : Span) → step s (piece k w a) ≡ step s (piece k w b)
-step_same sy.Number k w a b = ap (λ n. accept n []) (number_same k a b)
-step_same sy.Expr k w a b = expr_same k a b []
-step_same sy.Exprs k w a b = ap (close_or k) (expr_same k a b (sy.Exprs ∷ []))
-step_same sy.MinusEnd k w a b = ap (close_or k) (expr_same k a b (sy.Close ∷ []))
+step_same sy.Number k w a b = ap (λ n. accept n []) (number_same k w a b)
+step_same sy.Expr k w a b = expr_same k w a b []
+step_same sy.Exprs k w a b = ap (close_or k) (expr_same k w a b (sy.Exprs ∷ []))
+step_same sy.MinusEnd k w a b = ap (close_or k) (expr_same k w a b (sy.Close ∷ []))
 step_same (sy.Compared same) k w a b =
-    ap (λ v. if same && is_term k then Some (sy.Term ∷ sy.Close ∷ []) else v) (expr_same k a b (sy.Expr ∷ sy.Close ∷ []))
+    ap (λ v. if same && is_term k then Some (sy.Term ∷ sy.Close ∷ []) else v) (expr_same k w a b (sy.Expr ∷ sy.Close ∷ []))
 step_same _ k w a b = refl
 
 pub run_placed : (ps : List Piece) (at : ℕ) (st : List Symbol) → run st (placed at ps) ≡ run st ps

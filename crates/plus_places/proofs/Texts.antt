@@ -1,5 +1,5 @@
 -- Texts that begin with the same bytes begin with the same tokens, and words behind blanks are read as tokens.
-use Rattle.std.proofs.Common.{◌≡◌, ℕ, ◌+◌, ◌-◌, ◌≤◌, Bool, true, false, List, [], ◌∷◌, ◌++◌, length, take, drop, Option, Some, None, Result, Ok, Err, refl, sym, ap, ◌∙◌, subst, arith, append_assoc, length-append, inl, inr}
+use Rattle.std.proofs.Common.{◌≡◌, ℕ, ◌+◌, ◌-◌, ◌≤◌, Bool, false, List, [], ◌∷◌, ◌++◌, length, take, drop, Option, Some, None, Result, Ok, Err, refl, sym, ap, ◌∙◌, subst, arith, append_assoc, length-append, inl, inr}
 use Rattle.std.specs.Prelude.{◌==◌, map, slice_range}
 use Rattle.std.proofs.Math.Seq.{take-append_seam}
 use Rattle.plus_tokens.specs.declared.token.Kind.{Kind}
@@ -29,7 +29,7 @@ stops : (p : ℕ → Bool) → p 32 ≡ false → (rest : List ℕ) → Ended re
 stops p e _ at_end = refl
 stops p e _ at_space = e
 
-number_stops : (rest : List ℕ) → Ended rest → Ends (kinds.Number true 0 0) rest
+number_stops : (rest : List ℕ) → Ended rest → Ends kinds.Number rest
 number_stops _ at_end = inl refl
 number_stops _ at_space = inr refl
 
@@ -45,7 +45,7 @@ kind_stops kinds.Colon rest e = stops is_letter refl rest e
 kind_stops kinds.Name rest e = stops is_name_byte refl rest e
 kind_stops kinds.Variable rest e = stops is_name_byte refl rest e
 kind_stops kinds.Keyword rest e = stops is_name_byte refl rest e
-kind_stops (kinds.Number negative digits places) rest e = number_stops rest e
+kind_stops kinds.Number rest e = number_stops rest e
 kind_stops kinds.Clock rest e = stops is_name_byte refl rest e
 kind_stops kinds.End rest e = stops is_name_byte refl rest e
 kind_stops (kinds.Op op) rest e = op_stops op rest e
@@ -58,7 +58,7 @@ same_op ops.Less b r s e = e
 same_op ops.Greater b r s e = e
 same_op _ b r s e = tt
 
-same_number : (b : ℕ) (r s : List ℕ) → Ends (kinds.Number true 0 0) (b ∷ r) → Ends (kinds.Number true 0 0) (b ∷ s)
+same_number : (b : ℕ) (r s : List ℕ) → Ends kinds.Number (b ∷ r) → Ends kinds.Number (b ∷ s)
 same_number b r s (inl e) = absurd cc
 same_number b r s (inr e) = inr e
 
@@ -67,7 +67,7 @@ same_ends kinds.Colon b r s e = e
 same_ends kinds.Name b r s e = e
 same_ends kinds.Variable b r s e = e
 same_ends kinds.Keyword b r s e = e
-same_ends (kinds.Number negative digits places) b r s e = same_number b r s e
+same_ends kinds.Number b r s e = same_number b r s e
 same_ends kinds.Clock b r s e = e
 same_ends kinds.End b r s e = e
 same_ends (kinds.Op op) b r s e = same_op op b r s e

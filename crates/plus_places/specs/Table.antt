@@ -199,7 +199,7 @@ step (sy.Compared same) p =
 step sy.Inits p = close_or p.kind (accept (is_open p.kind) (sy.InitInside ∷ sy.Inits ∷ []))
 step sy.InitInside p = init_inside p (head_of p)
 step sy.AtEnd p =
-    if is_time p.kind then Some (sy.Timed ∷ sy.Close ∷ [])
+    if is_time p then Some (sy.Timed ∷ sy.Close ∷ [])
     else close_or p.kind (accept (is_allowed allows.Names p.kind) (sy.Arguments allows.Names ∷ []))
 step sy.Timed p = accept (is_open p.kind) (sy.TimedInside ∷ [])
 step sy.TimedInside p = timed_inside (head_of p)

@@ -1,5 +1,5 @@
 -- What is spelled is read.
-use Rattle.std.proofs.Common.{arith, ◌^◌, ◌≤◌, ◌≡◌, ℕ, ◌<◌, Bool, false, List, [], ◌∷◌, ◌++◌, Ok, refl, sym, ap, ◌∙◌, ⊎_elim}
+use Rattle.std.proofs.Common.{arith, ◌^◌, ◌≤◌, ◌≡◌, ℕ, ◌<◌, List, [], ◌∷◌, ◌++◌, Ok, refl, sym, ap, ◌∙◌, ⊎_elim}
 use Rattle.std.specs.Prelude.{nat_lt, All}
 use Rattle.std.proofs.Math.Nat.{pow-le-pow_right}
 use Rattle.std.proofs.lemmas.Bool.{cond-true, lt-ltb}
@@ -16,7 +16,7 @@ use Rattle.plus_plan.specs.declared.forms.PlanForm.TheVariants.{Timed, Untimed}
 use Rattle.plus_tokens.specs.Items.{Piece, Item, tok}
 use Rattle.plus_plan.specs.Reading.{◌>>=◌, Read, next_of}
 use Rattle.plus_plan.specs.Grammar.{around, time, as_colon, colon_of, as_divisor, divisor_of, quotient_of, time_with, time_behind, time_of, as_name, name_of, with_name, args_with, args_of, call_of, end_of, as_number, number_of, as_close_square, close_square_of, duration_with, duration_of, timed_with, timed_line, untimed_with, untimed_line, line_of}
-use Rattle.plus_plan.specs.Spells.{SpellsDecimal, SpellsQuotient, SpellsTime, IsName, SpellsCall, SpellsDuration, SpellsTimed, SpellsUntimed, SpellsTokens}
+use Rattle.plus_plan.specs.Spells.{IsUnsigned, SpellsDecimal, SpellsQuotient, SpellsTime, IsName, SpellsCall, SpellsDuration, SpellsTimed, SpellsUntimed, SpellsTokens}
 use Rattle.plus_plan.proofs.Found.{toks, toks-append, words_of}
 
 -- ---- the time
@@ -25,11 +25,11 @@ colon_again : (p : Piece) (rest : List Item) → p.kind ≡ kinds.Colon → colo
 unfolding colon_of
 colon_again p rest e = ap (as_colon p.span rest) e
 
-divisor_again : (p : Piece) (rest : List Item) (d : ℕ) → p.kind ≡ kinds.Number false d 0 → 0 < d → divisor_of (tok p ∷ rest) ≡ Ok ((d, p.span), rest)
+divisor_again : (p : Piece) (rest : List Item) (d : ℕ) → IsUnsigned d 0 p → 0 < d → divisor_of (tok p ∷ rest) ≡ Ok ((d, p.span), rest)
 unfolding divisor_of
 divisor_again p rest d e lt = ap (as_divisor p.span rest) e ∙ cond-true (nat_lt 0 d) _ _ (lt-ltb 0 d lt)
 
-quotient_again : (d : ℕ) (front : Span) (q colon : Piece) (rest : List Item) (bottom : ℕ) → q.kind ≡ kinds.Number false bottom 0 → 0 < bottom → colon.kind ≡ kinds.Colon → quotient_of d front (tok q ∷ tok colon ∷ rest) ≡ Ok (time d bottom (around front q.span), rest)
+quotient_again : (d : ℕ) (front : Span) (q colon : Piece) (rest : List Item) (bottom : ℕ) → IsUnsigned bottom 0 q → 0 < bottom → colon.kind ≡ kinds.Colon → quotient_of d front (tok q ∷ tok colon ∷ rest) ≡ Ok (time d bottom (around front q.span), rest)
 unfolding quotient_of
 quotient_again d front q colon rest bottom e lt c = rw (divisor_again q (tok colon ∷ rest) bottom e lt, colon_again colon rest c) refl
 
@@ -108,9 +108,9 @@ duration_none : duration_of [] ≡ Ok (tt, [])
 unfolding duration_of
 duration_none = refl
 
-duration_some : (first p last : Piece) (negative : Bool) (digits places : ℕ) → first.kind ≡ kinds.OpenSquare → p.kind ≡ kinds.Number negative digits places → last.kind ≡ kinds.CloseSquare → duration_of (tok first ∷ tok p ∷ tok last ∷ []) ≡ Ok (tt, [])
+duration_some : (first p last : Piece) → first.kind ≡ kinds.OpenSquare → p.kind ≡ kinds.Number → last.kind ≡ kinds.CloseSquare → duration_of (tok first ∷ tok p ∷ tok last ∷ []) ≡ Ok (tt, [])
 unfolding duration_of number_of close_square_of end_of
-duration_some first p last negative digits places o n c =
+duration_some first p last o n c =
     ap (duration_with first.span (tok p ∷ tok last ∷ [])) o
     ∙ ap (λ (k : Kind). as_number p.span (tok last ∷ []) k >>= λ n. close_square_of n.1 >>= λ c. end_of c.1) n
     ∙ ap (λ (k : Kind). as_close_square last.span [] k >>= λ c. end_of c.1) c
@@ -118,7 +118,7 @@ duration_some first p last negative digits places o n c =
 duration_again : (ts : List Piece) → SpellsDuration ts → duration_of (toks ts []) ≡ Ok (tt, [])
 duration_again ts h =
     ⊎_elim (λ e. ap (λ (ps : List Piece). duration_of (toks ps [])) e ∙ duration_none)
-    (λ s. ap (λ (ps : List Piece). duration_of (toks ps [])) s.9 ∙ duration_some s.0 s.1 s.2 s.3 s.4 s.5 s.6 s.7 s.8) h
+    (λ s. ap (λ (ps : List Piece). duration_of (toks ps [])) s.6 ∙ duration_some s.0 s.1 s.2 s.3 s.4 s.5) h
 
 -- ---- the line
 

@@ -1,5 +1,5 @@
 -- What is read is spelled so.
-use Rattle.std.proofs.Common.{◌≡◌, ℕ, ◌<◌, ◌^◌, Bool, true, false, cond, List, [], ◌∷◌, ◌++◌, map, Some, Result, Ok, Err, refl, sym, ap, ◌∙◌, inl, inr, arith}
+use Rattle.std.proofs.Common.{◌≡◌, ℕ, ◌<◌, ◌^◌, Bool, true, false, cond, not, List, [], ◌∷◌, ◌++◌, map, Option, Some, None, Result, Ok, Err, refl, sym, ap, ◌∙◌, inl, inr, arith}
 use Rattle.std.specs.Prelude.{◌&&◌, ◌==◌, nat_lt, All}
 use Rattle.std.proofs.lemmas.Bool.{and_parts, ltb-true, eqb-true}
 use Rattle.std.proofs.lemmas.List.Elements.{All-nil, All-cons}
@@ -16,9 +16,11 @@ use Rattle.plus_plan.specs.declared.forms.PlanForm.TheVariants.{Timed, Untimed}
 use Rattle.plus_plan.specs.declared.reader.Refusal.{Refusal}
 use Rattle.plus_plan.specs.declared.reader.Refusal.TheVariants as refusals
 use Rattle.plus_tokens.specs.Items.{Piece, Item, tok, bad}
+use Rattle.plus_tokens.specs.declared.numeral.Numeral.{Numeral}
+use Rattle.plus_tokens.specs.Numeral.{numeral, piece_numeral}
 use Rattle.plus_plan.specs.Reading.{◌>>=◌, Read, next_of}
-use Rattle.plus_plan.specs.Grammar.{around, time, as_colon, colon_of, as_divisor, divisor_of, quotient_of, time_with, time_behind, time_of, as_name, name_of, args_with, args_of, call_of, end_of, as_number, number_of, as_close_square, close_square_of, duration_with, duration_of, timed_with, timed_from, timed_line, untimed_with, untimed_line, line_of}
-use Rattle.plus_plan.specs.Spells.{SpellsTime, IsName, SpellsCall, SpellsDuration, SpellsTokens}
+use Rattle.plus_plan.specs.Grammar.{around, time, as_colon, colon_of, as_divisor, divisor_of, quotient_of, time_with, time_rest, time_behind, time_of, as_name, name_of, args_with, args_of, call_of, end_of, as_number, number_of, as_close_square, close_square_of, duration_with, duration_of, timed_with, timed_from, timed_line, untimed_with, untimed_line, line_of}
+use Rattle.plus_plan.specs.Spells.{IsUnsigned, SpellsTime, IsName, SpellsCall, SpellsDuration, SpellsTokens}
 
 -- tokens, and then more
 abbrev pub toks : List Piece → List Item → List Item
@@ -69,40 +71,47 @@ colon_ok items rest u e =
     let b = as_colon_ok a.0.span a.1 rest u a.0.kind a.3 in
     (a.0, b.0, a.2 ∙ ap (λ r. tok a.0 ∷ r) b.1)
 
+is_false : (b : Bool) → not b ≡ true → b ≡ false
+is_false true e = sym e
+is_false false e = refl
+
+numeral_is : (n : Numeral) (negative : Bool) (digits places : ℕ) → n.negative ≡ negative → n.digits ≡ digits → n.places ≡ places → Some n ≡ Some (numeral negative digits places)
+numeral_is n negative digits places a b c = λ i. Some (record { negative = a i; digits = b i; places = c i })
+
 -- what a divisor is
-record Divisor (k : Kind) (s : Span) (r : List Item) (d : ℕ) (t : Span) (rest : List Item) : Type 0 where
-  kind : k ≡ kinds.Number false d 0
+record Divisor (n : Option Numeral) (s : Span) (r : List Item) (d : ℕ) (t : Span) (rest : List Item) : Type 0 where
+  is : n ≡ Some (numeral false d 0)
   above : 0 < d
   place : s ≡ t
   left : r ≡ rest
 
-as_divisor_ok : (s t : Span) (r rest : List Item) (d : ℕ) (k : Kind) → as_divisor s r k ≡ Ok ((d, t), rest) → Divisor k s r d t rest
-as_divisor_ok s t r rest d (kinds.Number false n places) e = at_test ((places == 0) && nat_lt 0 n) refl e
+as_divisor_ok : (s t : Span) (r rest : List Item) (d : ℕ) (o : Option Numeral) → as_divisor s r o ≡ Ok ((d, t), rest) → Divisor o s r d t rest
+as_divisor_ok s t r rest d None e = absurd cc
+as_divisor_ok s t r rest d (Some n) e = at_test ((not n.negative && (n.places == 0)) && nat_lt 0 n.digits) refl e
   where
-    at_test : (b : Bool) → ((places == 0) && nat_lt 0 n) ≡ b → cond {A = Read (ℕ × Span)} b (Ok ((n, s), r)) (Err (refusals.At s)) ≡ Ok ((d, t), rest) → Divisor (kinds.Number false n places) s r d t rest
+    at_test : (b : Bool) → ((not n.negative && (n.places == 0)) && nat_lt 0 n.digits) ≡ b → cond {A = Read (ℕ × Span)} b (Ok ((n.digits, s), r)) (Err (refusals.At s)) ≡ Ok ((d, t), rest) → Divisor (Some n) s r d t rest
     at_test true h e =
-        let both = and_parts (places == 0) (nat_lt 0 n) h in
-        let v = value_is (n, s) (d, t) r rest e in
-        let same : n ≡ d = ap (λ (z : ℕ × Span). z.0) v in
-        let none : places ≡ 0 = eqb-true places 0 both.0 in
-        let lt : 0 < n = ltb-true 0 n both.1 in
+        let both = and_parts (not n.negative && (n.places == 0)) (nat_lt 0 n.digits) h in
+        let first = and_parts (not n.negative) (n.places == 0) both.0 in
+        let v = value_is (n.digits, s) (d, t) r rest e in
+        let same : n.digits ≡ d = ap (λ (z : ℕ × Span). z.0) v in
+        let lt : 0 < n.digits = ltb-true 0 n.digits both.1 in
         record {
-          kind = ap (λ m. kinds.Number false m places) same ∙ ap (λ m. kinds.Number false d m) none;
+          is = numeral_is n false d 0 (is_false n.negative first.0) same (eqb-true n.places 0 first.1);
           above = omega (arith, lt, same);
           place = ap (λ (z : ℕ × Span). z.1) v;
-          left = rest_is (n, s) (d, t) r rest e;
+          left = rest_is (n.digits, s) (d, t) r rest e;
         }
     at_test false h e = absurd cc
-as_divisor_ok s t r rest d _ e = absurd cc
 
-divisor_ok : (items rest : List Item) (d : ℕ) (t : Span) → divisor_of items ≡ Ok ((d, t), rest) → (p : Piece) × (p.kind ≡ kinds.Number false d 0) × (0 < d) × (p.span ≡ t) × (items ≡ tok p ∷ rest)
+divisor_ok : (items rest : List Item) (d : ℕ) (t : Span) → divisor_of items ≡ Ok ((d, t), rest) → (p : Piece) × IsUnsigned d 0 p × (0 < d) × (p.span ≡ t) × (items ≡ tok p ∷ rest)
 unfolding divisor_of
 divisor_ok items rest d t e =
-    let a = after_next items (λ (p : Piece) (r : List Item). as_divisor p.span r p.kind) ((d, t), rest) e in
-    let b = as_divisor_ok a.0.span t a.1 rest d a.0.kind a.3 in
-    (a.0, b.kind, b.above, b.place, a.2 ∙ ap (λ r. tok a.0 ∷ r) b.left)
+    let a = after_next items (λ (p : Piece) (r : List Item). as_divisor p.span r (piece_numeral p)) ((d, t), rest) e in
+    let b = as_divisor_ok a.0.span t a.1 rest d (piece_numeral a.0) a.3 in
+    (a.0, b.is, b.above, b.place, a.2 ∙ ap (λ r. tok a.0 ∷ r) b.left)
 
-quotient_ok : (d : ℕ) (front : Span) (items rest : List Item) (t : Time) → quotient_of d front items ≡ Ok (t, rest) → (q : Piece) × (colon : Piece) × (bottom : ℕ) × (q.kind ≡ kinds.Number false bottom 0) × (0 < bottom) × (colon.kind ≡ kinds.Colon) × (t ≡ time d bottom (around front q.span)) × (items ≡ tok q ∷ tok colon ∷ rest)
+quotient_ok : (d : ℕ) (front : Span) (items rest : List Item) (t : Time) → quotient_of d front items ≡ Ok (t, rest) → (q : Piece) × (colon : Piece) × (bottom : ℕ) × IsUnsigned bottom 0 q × (0 < bottom) × (colon.kind ≡ kinds.Colon) × (t ≡ time d bottom (around front q.span)) × (items ≡ tok q ∷ tok colon ∷ rest)
 unfolding quotient_of
 quotient_ok d front items rest t e =
     let a = bind_ok (divisor_of items) (λ q. colon_of q.1 >>= λ c. Ok (time d q.0.0 (around front q.0.1), c.1)) (t, rest) e in
@@ -129,7 +138,7 @@ pub record TookTime (p : Piece) (t : Time) (items rest : List Item) : Type 0 whe
   pub is : colon.kind ≡ kinds.Colon
   pub whole : items ≡ toks inner (tok colon ∷ rest)
 
-time_with_ok : (p q : Piece) (d k : ℕ) (r rest : List Item) (t : Time) → p.kind ≡ kinds.Number false d k → (kind : Kind) → q.kind ≡ kind → time_with d k p.span q.span r kind ≡ Ok (t, rest) → TookTime p t (tok q ∷ r) rest
+time_with_ok : (p q : Piece) (d k : ℕ) (r rest : List Item) (t : Time) → IsUnsigned d k p → (kind : Kind) → q.kind ≡ kind → time_with d k p.span q.span r kind ≡ Ok (t, rest) → TookTime p t (tok q ∷ r) rest
 time_with_ok p q d k r rest t h kinds.Colon c e =
     record {
       inner = [];
@@ -146,23 +155,30 @@ time_with_ok p q d k r rest t h (kinds.Op ops.Divide) c e = at_test (k == 0) ref
         record {
           inner = q ∷ a.0 ∷ [];
           colon = a.1;
-          spelled = inr (p, q, a.0, d, a.2, h ∙ ap (λ m. kinds.Number false d m) (eqb-true k 0 z), c, a.3, a.4, a.6, refl);
+          spelled = inr (p, q, a.0, d, a.2, h ∙ ap (λ m. Some (numeral false d m)) (eqb-true k 0 z), c, a.3, a.4, a.6, refl);
           is = a.5;
           whole = ap (λ is. tok q ∷ is) a.7;
         }
     at_test false z e = absurd cc
 time_with_ok p q d k r rest t h _ c e = absurd cc
 
-time_behind_ok : (p : Piece) (items rest : List Item) (t : Time) (kind : Kind) → p.kind ≡ kind → time_behind p.span items kind ≡ Ok (t, rest) → TookTime p t items rest
-time_behind_ok p items rest t (kinds.Number false d k) h e =
+time_rest_ok : (p : Piece) (items rest : List Item) (t : Time) (d k : ℕ) → IsUnsigned d k p → time_rest d k p.span items ≡ Ok (t, rest) → TookTime p t items rest
+time_rest_ok p items rest t d k h e =
     let a = after_next items (λ (q : Piece) (r : List Item). time_with d k p.span q.span r q.kind) (t, rest) e in
     let b = time_with_ok p a.0 d k a.1 rest t h a.0.kind refl a.3 in
     record { inner = b.inner; colon = b.colon; spelled = b.spelled; is = b.is; whole = a.2 ∙ b.whole }
-time_behind_ok p items rest t _ h e = absurd cc
+
+time_behind_ok : (p : Piece) (items rest : List Item) (t : Time) (o : Option Numeral) → piece_numeral p ≡ o → time_behind p.span items o ≡ Ok (t, rest) → TookTime p t items rest
+time_behind_ok p items rest t None h e = absurd cc
+time_behind_ok p items rest t (Some n) h e = at_sign n.negative refl e
+  where
+    at_sign : (b : Bool) → n.negative ≡ b → cond {A = Read Time} b (Err (refusals.At p.span)) (time_rest n.digits n.places p.span items) ≡ Ok (t, rest) → TookTime p t items rest
+    at_sign true s e = absurd cc
+    at_sign false s e = time_rest_ok p items rest t n.digits n.places (h ∙ numeral_is n false n.digits n.places s refl refl) e
 
 pub time_ok : (p : Piece) (items rest : List Item) (t : Time) → time_of p items ≡ Ok (t, rest) → TookTime p t items rest
 unfolding time_of
-time_ok p items rest t e = time_behind_ok p items rest t p.kind refl e
+time_ok p items rest t e = time_behind_ok p items rest t (piece_numeral p) refl e
 
 -- ---- the call
 
@@ -259,15 +275,11 @@ end_ok [] rest u e = refl
 end_ok (bad f ∷ is) rest u e = absurd cc
 end_ok (tok p ∷ is) rest u e = absurd cc
 
--- a number of any sign and with any places
-abbrev IsNumber : Kind → Type 0
-IsNumber k = (negative : Bool) × (digits : ℕ) × (places : ℕ) × (k ≡ kinds.Number negative digits places)
-
-as_number_ok : (s : Span) (r rest : List Item) (u : Unit {0}) (k : Kind) → as_number s r k ≡ Ok (u, rest) → IsNumber k × (r ≡ rest)
-as_number_ok s r rest u (kinds.Number negative d k) e = ((negative, d, k, refl), rest_is tt u r rest e)
+as_number_ok : (s : Span) (r rest : List Item) (u : Unit {0}) (k : Kind) → as_number s r k ≡ Ok (u, rest) → (k ≡ kinds.Number) × (r ≡ rest)
+as_number_ok s r rest u kinds.Number e = (refl, rest_is tt u r rest e)
 as_number_ok s r rest u _ e = absurd cc
 
-number_ok : (items rest : List Item) (u : Unit {0}) → number_of items ≡ Ok (u, rest) → (p : Piece) × IsNumber p.kind × (items ≡ tok p ∷ rest)
+number_ok : (items rest : List Item) (u : Unit {0}) → number_of items ≡ Ok (u, rest) → (p : Piece) × (p.kind ≡ kinds.Number) × (items ≡ tok p ∷ rest)
 unfolding number_of
 number_ok items rest u e =
     let a = after_next items (λ (p : Piece) (r : List Item). as_number p.span r p.kind) (u, rest) e in
@@ -300,7 +312,7 @@ duration_with_ok p r rest u kinds.OpenSquare h e =
     let z = end_ok b.0.1 rest u b.2 in
     record {
       pieces = p ∷ n.0 ∷ c.0 ∷ [];
-      spelled = inr (p, n.0, c.0, n.1.0, n.1.1, n.1.2, h, n.1.3, c.1, refl);
+      spelled = inr (p, n.0, c.0, h, n.1, c.1, refl);
       whole = ap (λ is. tok p ∷ is) (n.2 ∙ ap (λ is. tok n.0 ∷ is) (c.2 ∙ ap (λ is. tok c.0 ∷ is) z));
     }
 duration_with_ok p r rest u _ h e = absurd cc

@@ -1,5 +1,5 @@
 -- The place of a refusal, form by form.
-use Rattle.std.proofs.Common.{◌≡◌, ℕ, ◌≤◌, ◌^◌, Bool, true, false, cond, List, [], ◌∷◌, ◌++◌, length, map, Some, Result, Ok, Err, refl, sym, ap, ◌∙◌, subst, inl, inr, ⊎_elim, arith}
+use Rattle.std.proofs.Common.{◌≡◌, ℕ, ◌≤◌, ◌^◌, Bool, true, false, cond, not, List, [], ◌∷◌, ◌++◌, length, map, Option, Some, None, Result, Ok, Err, refl, sym, ap, ◌∙◌, subst, inl, inr, ⊎_elim, arith}
 use Rattle.std.specs.Prelude.{◌⊎◌, ◌&&◌, ◌==◌, nat_lt}
 use Rattle.std.proofs.lemmas.Bool.{ltb-false, ltb-true}
 use Rattle.plus_tokens.specs.declared.token.Kind.{Kind}
@@ -17,8 +17,10 @@ use Rattle.plus_plan.specs.declared.faults.PlanFault.TheVariants as faults
 use Rattle.plus_plan.specs.declared.reader.Refusal.{Refusal}
 use Rattle.plus_plan.specs.declared.reader.Refusal.TheVariants as refusals
 use Rattle.plus_tokens.specs.Items.{Piece, Item, tok, bad, items_of}
+use Rattle.plus_tokens.specs.declared.numeral.Numeral.{Numeral}
+use Rattle.plus_tokens.specs.Numeral.{piece_numeral, numeral_of}
 use Rattle.plus_plan.specs.Reading.{◌>>=◌, Read, byte_place, next_of}
-use Rattle.plus_plan.specs.Grammar.{around, time, as_colon, colon_of, as_divisor, divisor_of, quotient_of, time_with, time_behind, time_of, as_name, name_of, with_name, args_with, args_of, call_of, end_of, as_number, number_of, as_close_square, close_square_of, duration_with, duration_of, timed_with, timed_from, timed_line, untimed_with, untimed_line, line_of}
+use Rattle.plus_plan.specs.Grammar.{around, time, as_colon, colon_of, as_divisor, divisor_of, quotient_of, time_with, time_rest, time_behind, time_of, as_name, name_of, with_name, args_with, args_of, call_of, end_of, as_number, number_of, as_close_square, close_square_of, duration_with, duration_of, timed_with, timed_from, timed_line, untimed_with, untimed_line, line_of}
 use Rattle.plus_plan.specs.Spells.{SpellsTokens, line_limit}
 use Rattle.plus_plan.specs.Lines.{placed, read_line}
 use Rattle.plus_plan.specs.Place.{Begins, IsPlace, IsFault}
@@ -27,9 +29,9 @@ use Rattle.plus_plan.proofs.Found.{toks, toks-append, toks-all, TookArgs, args_o
 use Rattle.plus_plan.proofs.Again.{args_again, line_again}
 use Rattle.plus_plan.proofs.Stops.{Cause, Stopped, Taken, Fresh, Reads, Ends, Refuses, pure, bind, bind_end, token, token_end, maybe_end, map_end, err_same}
 
--- a token of this kind
+-- a token of this kind, whose word is a number
 abbrev sample : Kind → Piece
-sample k = record { kind = k; word = []; span = record { start = 0; «end» = 0 } }
+sample k = record { kind = k; word = 49 ∷ []; span = record { start = 0; «end» = 0 } }
 
 -- ---- the time
 
@@ -41,17 +43,17 @@ colon_reads : Reads colon_of
 unfolding colon_of
 colon_reads = token (λ (p : Piece) (r : List Item). as_colon p.span r p.kind) (sample kinds.Colon) (pure tt) (λ p. colon_each p p.kind)
 
-divisor_each : (p : Piece) (k : Kind) → Reads (λ (r : List Item). as_divisor p.span r k) ⊎ Refuses p (λ (r : List Item). as_divisor p.span r k)
-divisor_each p (kinds.Number false d k) = at_test ((k == 0) && nat_lt 0 d)
+divisor_each : (p : Piece) (o : Option Numeral) → Reads (λ (r : List Item). as_divisor p.span r o) ⊎ Refuses p (λ (r : List Item). as_divisor p.span r o)
+divisor_each p None = inr (λ later. refl)
+divisor_each p (Some n) = at_test ((not n.negative && (n.places == 0)) && nat_lt 0 n.digits)
   where
-    at_test : (b : Bool) → Reads (λ (r : List Item). cond {A = Read (ℕ × Span)} b (Ok ((d, p.span), r)) (Err (refusals.At p.span))) ⊎ Refuses p (λ (r : List Item). cond {A = Read (ℕ × Span)} b (Ok ((d, p.span), r)) (Err (refusals.At p.span)))
-    at_test true = inl (pure (d, p.span))
+    at_test : (b : Bool) → Reads (λ (r : List Item). cond {A = Read (ℕ × Span)} b (Ok ((n.digits, p.span), r)) (Err (refusals.At p.span))) ⊎ Refuses p (λ (r : List Item). cond {A = Read (ℕ × Span)} b (Ok ((n.digits, p.span), r)) (Err (refusals.At p.span)))
+    at_test true = inl (pure (n.digits, p.span))
     at_test false = inr (λ later. refl)
-divisor_each p _ = inr (λ later. refl)
 
 divisor_reads : Reads divisor_of
-unfolding divisor_of
-divisor_reads = token (λ (p : Piece) (r : List Item). as_divisor p.span r p.kind) (sample (kinds.Number false 1 0)) (pure (1, record { start = 0; «end» = 0 })) (λ p. divisor_each p p.kind)
+unfolding divisor_of numeral_of
+divisor_reads = token (λ (p : Piece) (r : List Item). as_divisor p.span r (piece_numeral p)) (sample kinds.Number) (pure (1, record { start = 0; «end» = 0 })) (λ p. divisor_each p (piece_numeral p))
 
 quotient_reads : (d : ℕ) (front : Span) → Reads (quotient_of d front)
 unfolding quotient_of
@@ -68,14 +70,21 @@ time_with_each d k front p (kinds.Op ops.Divide) = at_test (k == 0)
     at_test false = inr (λ later. refl)
 time_with_each d k front p _ = inr (λ later. refl)
 
-time_behind_each : (p : Piece) (kind : Kind) → Reads (λ (r : List Item). time_behind p.span r kind) ⊎ Refuses p (λ (r : List Item). time_behind p.span r kind)
-time_behind_each p (kinds.Number false d k) =
-    inl (token (λ (q : Piece) (r : List Item). time_with d k p.span q.span r q.kind) (sample kinds.Colon) (pure (time d (10 ^ k) p.span)) (λ q. time_with_each d k p.span q q.kind))
-time_behind_each p _ = inr (λ later. refl)
+time_rest_reads : (p : Piece) (d k : ℕ) → Reads (time_rest d k p.span)
+time_rest_reads p d k =
+    token (λ (q : Piece) (r : List Item). time_with d k p.span q.span r q.kind) (sample kinds.Colon) (pure (time d (10 ^ k) p.span)) (λ q. time_with_each d k p.span q q.kind)
+
+time_behind_each : (p : Piece) (o : Option Numeral) → Reads (λ (r : List Item). time_behind p.span r o) ⊎ Refuses p (λ (r : List Item). time_behind p.span r o)
+time_behind_each p None = inr (λ later. refl)
+time_behind_each p (Some n) = at_sign n.negative
+  where
+    at_sign : (b : Bool) → Reads (λ (r : List Item). cond {A = Read Time} b (Err (refusals.At p.span)) (time_rest n.digits n.places p.span r)) ⊎ Refuses p (λ (r : List Item). cond {A = Read Time} b (Err (refusals.At p.span)) (time_rest n.digits n.places p.span r))
+    at_sign true = inr (λ later. refl)
+    at_sign false = inl (time_rest_reads p n.digits n.places)
 
 time_each : (p : Piece) → Reads (time_of p) ⊎ Refuses p (time_of p)
 unfolding time_of
-time_each p = time_behind_each p p.kind
+time_each p = time_behind_each p (piece_numeral p)
 
 -- ---- the call
 
@@ -85,7 +94,7 @@ name_each p _ = inr (λ later. refl)
 
 name_reads : Reads name_of
 unfolding name_of
-name_reads = token (λ (p : Piece) (r : List Item). as_name p r p.kind) (sample kinds.Name) (pure []) (λ p. name_each p p.kind)
+name_reads = token (λ (p : Piece) (r : List Item). as_name p r p.kind) (sample kinds.Name) (pure (49 ∷ [])) (λ p. name_each p p.kind)
 
 args_fresh : Fresh args_of
 unfolding args_of
@@ -165,12 +174,12 @@ unfolding end_of
 end_ends = maybe_end end_of (tt, []) (λ (p : Piece) (r : List Item). Err (refusals.At p.span)) refl (λ s rest. refl) (λ p rest. refl) (λ p. inr (λ later. refl))
 
 number_each : (p : Piece) (k : Kind) → Reads (λ (r : List Item). as_number p.span r k) ⊎ Refuses p (λ (r : List Item). as_number p.span r k)
-number_each p (kinds.Number negative d k) = inl (pure tt)
+number_each p kinds.Number = inl (pure tt)
 number_each p _ = inr (λ later. refl)
 
 number_reads : Reads number_of
 unfolding number_of
-number_reads = token (λ (p : Piece) (r : List Item). as_number p.span r p.kind) (sample (kinds.Number false 1 0)) (pure tt) (λ p. number_each p p.kind)
+number_reads = token (λ (p : Piece) (r : List Item). as_number p.span r p.kind) (sample kinds.Number) (pure tt) (λ p. number_each p p.kind)
 
 close_square_each : (p : Piece) (k : Kind) → Reads (λ (r : List Item). as_close_square p.span r k) ⊎ Refuses p (λ (r : List Item). as_close_square p.span r k)
 close_square_each p kinds.CloseSquare = inl (pure tt)

@@ -1,5 +1,5 @@
 -- Reading a line of a plan from its tokens. Each token is refused with which no line goes on.
-use Rattle.std.specs.Prelude.{ℕ, ◌^◌, false, ◌&&◌, List, [], ◌∷◌, ◌==◌, nat_lt, if◌then◌else◌, Option, Some, None, Result, Ok, Err}
+use Rattle.std.specs.Prelude.{ℕ, ◌^◌, not, ◌&&◌, List, [], ◌∷◌, ◌==◌, nat_lt, if◌then◌else◌, Option, Some, None, Result, Ok, Err}
 use Rattle.plus_tokens.specs.declared.token.Kind.{Kind}
 use Rattle.plus_tokens.specs.declared.token.Kind.TheVariants as kinds
 use Rattle.plus_tokens.specs.declared.token.Op.TheVariants as ops
@@ -13,6 +13,8 @@ use Rattle.plus_plan.specs.declared.forms.PlanForm.TheVariants.{Timed, Untimed}
 use Rattle.plus_plan.specs.declared.reader.Refusal.{Refusal}
 use Rattle.plus_plan.specs.declared.reader.Refusal.TheVariants as refusals
 use Rattle.plus_tokens.specs.Items.{Piece, Item, tok, bad}
+use Rattle.plus_tokens.specs.declared.numeral.Numeral.{Numeral}
+use Rattle.plus_tokens.specs.Numeral.{piece_numeral}
 use Rattle.plus_plan.specs.Reading.{◌>>=◌, Read, byte_place, next_of}
 
 -- from the first byte of the one to the end of the other
@@ -32,12 +34,13 @@ unfoldable pub colon_of : List Item → Read (Unit {0})
 colon_of items = next_of items >>= λ p. as_colon p.0.span p.1 p.0.kind
 
 -- a Number without `-` and point that is not 0
-abbrev pub as_divisor : Span → List Item → Kind → Read (ℕ × Span)
-as_divisor s rest (kinds.Number false d k) = if (k == 0) && nat_lt 0 d then Ok ((d, s), rest) else Err (refusals.At s)
-as_divisor s rest _ = Err (refusals.At s)
+abbrev pub as_divisor : Span → List Item → Option Numeral → Read (ℕ × Span)
+as_divisor s rest None = Err (refusals.At s)
+as_divisor s rest (Some n) =
+    if (not n.negative && (n.places == 0)) && nat_lt 0 n.digits then Ok ((n.digits, s), rest) else Err (refusals.At s)
 
 unfoldable pub divisor_of : List Item → Read (ℕ × Span)
-divisor_of items = next_of items >>= λ p. as_divisor p.0.span p.1 p.0.kind
+divisor_of items = next_of items >>= λ p. as_divisor p.0.span p.1 (piece_numeral p.0)
 
 -- what stands behind the `/` of a time
 unfoldable pub quotient_of : ℕ → Span → List Item → Read Time
@@ -53,13 +56,14 @@ time_with d k front s rest _ = Err (refusals.At s)
 abbrev pub time_rest : ℕ → ℕ → Span → List Item → Read Time
 time_rest d k front items = next_of items >>= λ p. time_with d k front p.0.span p.1 p.0.kind
 
-abbrev pub time_behind : Span → List Item → Kind → Read Time
-time_behind front items (kinds.Number false d k) = time_rest d k front items
-time_behind front items _ = Err (refusals.At front)
+abbrev pub time_behind : Span → List Item → Option Numeral → Read Time
+time_behind front items None = Err (refusals.At front)
+time_behind front items (Some n) =
+    if n.negative then Err (refusals.At front) else time_rest n.digits n.places front items
 
 -- a time and its colon, of which this is the first token
 unfoldable pub time_of : Piece → List Item → Read Time
-time_of p items = time_behind p.span items p.kind
+time_of p items = time_behind p.span items (piece_numeral p)
 
 -- ---- the call
 
@@ -99,7 +103,7 @@ end_of (bad f ∷ rest) = Err (refusals.At (byte_place f))
 end_of (tok p ∷ rest) = Err (refusals.At p.span)
 
 abbrev pub as_number : Span → List Item → Kind → Read (Unit {0})
-as_number s rest (kinds.Number negative d k) = Ok (tt, rest)
+as_number s rest kinds.Number = Ok (tt, rest)
 as_number s rest _ = Err (refusals.At s)
 
 unfoldable pub number_of : List Item → Read (Unit {0})

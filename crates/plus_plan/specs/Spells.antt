@@ -1,5 +1,5 @@
 -- Which tokens spell a line of a plan.
-use Rattle.std.specs.Prelude.{◌≡◌, ℕ, ◌<◌, ◌≤◌, ◌^◌, ◌⊎◌, Bool, false, List, [], ◌∷◌, ◌++◌, length, map, All}
+use Rattle.std.specs.Prelude.{◌≡◌, ℕ, ◌<◌, ◌≤◌, ◌^◌, ◌⊎◌, false, List, [], ◌∷◌, ◌++◌, Some, length, map, All}
 use Rattle.plus_tokens.specs.declared.token.Kind.TheVariants as kinds
 use Rattle.plus_tokens.specs.declared.token.Op.TheVariants as ops
 use Rattle.plus_tree.specs.declared.trees.Call.{Call}
@@ -9,18 +9,23 @@ use Rattle.plus_plan.specs.declared.forms.Line.TheVariants as lines
 use Rattle.plus_plan.specs.declared.forms.PlanForm.{PlanForm}
 use Rattle.plus_plan.specs.declared.forms.PlanForm.TheVariants.{Timed, Untimed}
 use Rattle.plus_tokens.specs.Items.{Piece, tok, items_of}
+use Rattle.plus_tokens.specs.Numeral.{numeral, piece_numeral}
 use Rattle.plus_plan.specs.Grammar.{around, time}
+
+-- a Number without `-`: its digits, read as one number, and how many of them stand behind its point
+abbrev pub IsUnsigned : ℕ → ℕ → Piece → Type 0
+IsUnsigned digits places p = piece_numeral p ≡ Some (numeral false digits places)
 
 -- a decimal: a Number without `-`, which means its digits over 10 to the power of its places
 abbrev pub SpellsDecimal : Time → List Piece → Type 0
 SpellsDecimal t ts =
-    (p : Piece) × (digits : ℕ) × (places : ℕ) × (p.kind ≡ kinds.Number false digits places) × (t ≡ time digits (10 ^ places) p.span) × (ts ≡ p ∷ [])
+    (p : Piece) × (digits : ℕ) × (places : ℕ) × IsUnsigned digits places p × (t ≡ time digits (10 ^ places) p.span) × (ts ≡ p ∷ [])
 
 -- a quotient: two Numbers without `-` and point and a `/` between them, the second not 0
 abbrev pub SpellsQuotient : Time → List Piece → Type 0
 SpellsQuotient t ts =
     (p : Piece) × (slash : Piece) × (q : Piece) × (top : ℕ) × (bottom : ℕ)
-    × (p.kind ≡ kinds.Number false top 0) × (slash.kind ≡ kinds.Op ops.Divide) × (q.kind ≡ kinds.Number false bottom 0)
+    × IsUnsigned top 0 p × (slash.kind ≡ kinds.Op ops.Divide) × IsUnsigned bottom 0 q
     × (0 < bottom) × (t ≡ time top bottom (around p.span q.span)) × (ts ≡ p ∷ slash ∷ q ∷ [])
 
 -- a time, which is a decimal or a quotient
@@ -48,8 +53,8 @@ pub record SpellsCall (c : Call) (ts : List Piece) : Type 0 where
 abbrev pub SpellsDuration : List Piece → Type 0
 SpellsDuration ts =
     (ts ≡ [])
-    ⊎ ((first : Piece) × (p : Piece) × (last : Piece) × (negative : Bool) × (digits : ℕ) × (places : ℕ)
-    × (first.kind ≡ kinds.OpenSquare) × (p.kind ≡ kinds.Number negative digits places) × (last.kind ≡ kinds.CloseSquare)
+    ⊎ ((first : Piece) × (p : Piece) × (last : Piece)
+    × (first.kind ≡ kinds.OpenSquare) × (p.kind ≡ kinds.Number) × (last.kind ≡ kinds.CloseSquare)
     × (ts ≡ first ∷ p ∷ last ∷ []))
 
 -- a line of a timed plan, of this number: blank, `time : (name ..)`, perhaps with a duration, or `time : @end`

@@ -8,11 +8,11 @@ ghost use Rattle.plus_tokens.specs.Coming.{comes};
 ghost use Rattle.plus_plan.specs.Grammar.{args_of, call_of, name_of};
 ghost use Rattle.plus_plan.specs.Grammar.{brackets_of, close_square_of, duration_of, end_of, number_of};
 ghost use Rattle.plus_plan.specs.Grammar.{act_of, entry_of, last_of, step_of, timed_line, untimed_line};
-ghost use Rattle.plus_tokens.specs.Seen.{seen, HasFewPlaces};
+ghost use Rattle.plus_tokens.specs.Seen.{seen};
 
 use crate::forms::{Line, Time};
 use crate::reader::{Reader, Refusal};
-use plus_tokens::{Kind, Op, Seen};
+use plus_tokens::{Kind, Numeral, Op, Seen};
 use plus_tree::{Call, Name, NameArgs, Span};
 use std::alloc::Global;
 
@@ -41,12 +41,8 @@ fn divisor(reader: &mut Reader<'_>) -> Result<(u128, Span), Refusal>
     ensures gives { Gives (λ x. x) reader.new result (divisor_of reader.old) }
 {
     let token = reader.next()?;
-    match token.kind {
-        Kind::Number {
-            negative: false,
-            digits,
-            places,
-        } if places == 0 && digits > 0 => Ok((digits, token.span)),
+    match token.numeral() {
+        Some(n) if !n.negative && n.places == 0 && n.digits > 0 => Ok((n.digits, token.span)),
         _ => Err(Refusal::At(token.span)),
     }
 }
@@ -76,14 +72,15 @@ fn power_of_ten(places: u8) -> u128
 // A time and its colon, of which this is the first token.
 #[tactic(auto, unfolding(crate::specs::Grammar::time_of))]
 fn time(reader: &mut Reader<'_>, first: &Seen<'_>) -> Result<Time, Refusal>
-    requires { HasFewPlaces first.now.kind }
     ensures gives { Gives (λ x. x) reader.new result (time_of (seen first.now) reader.old) }
 {
-    let Kind::Number {
-        negative: false,
-        digits,
-        places,
-    } = first.kind
+    let Some(
+        Numeral {
+            negative: false,
+            digits,
+            places,
+        },
+    ) = first.numeral()
     else {
         return Err(Refusal::At(first.span));
     };
@@ -164,7 +161,7 @@ fn number(reader: &mut Reader<'_>) -> Result<(), Refusal>
 {
     let token = reader.next()?;
     match token.kind {
-        Kind::Number { .. } => Ok(()),
+        Kind::Number => Ok(()),
         _ => Err(Refusal::At(token.span)),
     }
 }

@@ -1,11 +1,11 @@
 //! A line as the tokens that are still to come.
 
-ghost use Rattle.std.specs.Prelude.{◌≡◌, ◌+◌, ◌^◌, ◌<◌, false, true, length, IfOk, IfSome, OnOk, OnErr, MatchOption};
+ghost use Rattle.std.specs.Prelude.{◌≡◌, ◌+◌, ◌^◌, ◌<◌, false, true, length, OnOk, OnErr, MatchOption};
 ghost use Rattle.plus_tokens.specs.Ahead.{is_close, is_colon, is_name, is_open};
 ghost use Rattle.plus_tokens.specs.Coming.{comes, is_done, without, word_ahead};
 ghost use Rattle.plus_tokens.specs.Items.{items_of};
 ghost use Rattle.plus_tokens.specs.Lowered.{lowered};
-ghost use Rattle.plus_tokens.specs.Seen.{HasFewPlaces, byte_of, seen, seen_or_none};
+ghost use Rattle.plus_tokens.specs.Seen.{byte_of, seen, seen_or_none};
 ghost use Rattle.plus_plan.specs.Ahead.{refusal_ahead};
 ghost use Rattle.plus_plan.specs.Reading.{Gives, byte_place, next_of};
 ghost use Rattle.plus_plan.specs.Grammar.{next_or_none};
@@ -60,7 +60,6 @@ impl<'a> Reader<'a> {
     /// The next token.
     pub fn next(&mut self) -> Result<Seen<'a>, Refusal>
         ensures gives { Gives seen self.new result (next_of self.old) }
-        ensures few { IfOk result (λ t. HasFewPlaces t.kind) }
         ensures shorter { OnOk result (length self.new < length self.old) }
         ensures unchanged { OnErr result (self.new ≡ self.old) }
     {
@@ -74,7 +73,6 @@ impl<'a> Reader<'a> {
     /// The next token, and none where the line ends.
     pub fn next_or_none(&mut self) -> Result<Option<Seen<'a>>, Refusal>
         ensures gives { Gives seen_or_none self.new result (next_or_none self.old) }
-        ensures few { IfOk result (λ o. IfSome o (λ t. HasFewPlaces t.kind)) }
     {
         match self.tokens.next() {
             Ok(token) => Ok(token),

@@ -5,9 +5,8 @@ use Rattle.std.specs.List.{list_all}
 use Rattle.std.proofs.lemmas.Bool.{and_parts, and_from, le-leb}
 use Rattle.std.proofs.lemmas.List.{append-nil}
 use Rattle.std.proofs.lemmas.Fmt.{decimal_by_steps_wide, length-decimal-le_wide}
-use Rattle.plus_tokens.specs.declared.token.Kind.TheVariants as kinds
 use Rattle.plus_tokens.specs.Bytes.{is_digit, decimal as read_decimal}
-use Rattle.plus_tokens.specs.Spelling.{Each, IsNumber, Spells}
+use Rattle.plus_tokens.specs.Spelling.{Each, IsNumber}
 
 pub each_both : (p : ℕ → Bool) (a b : List ℕ) → Each p a → Each p b → Each p (a ++ b)
 each_both p [] b x y = y
@@ -57,5 +56,5 @@ number_made n (b ∷ bs) d few = record {
 pub digits_few : (n : ℕ) → n ≤ 9223372036854775807 → length (decimal n) ≤ 19
 digits_few n le = length-decimal-le_wide 19 n (omega arith) (omega arith) (omega arith)
 
-pub number_spelled : (n : ℕ) → n ≤ 9223372036854775807 → Spells (kinds.Number false n 0) (decimal n)
+pub number_spelled : (n : ℕ) → n ≤ 9223372036854775807 → IsNumber false n 0 (decimal n)
 number_spelled n le = number_made n (decimal n) (digits_of n le) (digits_few n le)

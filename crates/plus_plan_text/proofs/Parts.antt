@@ -1,5 +1,5 @@
 -- The parts of a plan line read again: its time and its call.
-use Rattle.std.proofs.Common.{◌≡◌, ℕ, ◌^◌, ◌<◌, ◌≤◌, Bool, true, false, cond, List, [], ◌∷◌, ◌++◌, refl, sym, ap, ◌∙◌, subst, arith, inl, inr, ℤ, pos, negsuc, ◌*ℤ◌, ◌≤ℤ◌}
+use Rattle.std.proofs.Common.{◌≡◌, ℕ, ◌^◌, ◌<◌, ◌≤◌, Bool, true, false, cond, List, [], ◌∷◌, ◌++◌, Some, refl, sym, ap, ◌∙◌, subst, arith, inl, inr, ℤ, pos, negsuc, ◌*ℤ◌, ◌≤ℤ◌}
 use Rattle.std.specs.Prelude.{◌==◌, decimal, codes, map, All}
 use Rattle.std.proofs.lemmas.Int.{ints}
 use Rattle.std.specs.Fmt.{signed_decimal}
@@ -16,6 +16,8 @@ use Rattle.plus_tokens.specs.declared.token.Op.TheVariants as ops
 use Rattle.plus_tokens.specs.Bytes.{ends_number}
 use Rattle.plus_tokens.specs.Spelling.{begins}
 use Rattle.plus_tokens.specs.Lowered.{lowered}
+use Rattle.plus_tokens.specs.Numeral.{numeral, numeral_of}
+use Rattle.plus_tokens.proofs.Numerals.{spelled_lowered}
 use Rattle.plus_tree.specs.declared.trees.Call.{Call}
 use Rattle.plus_expansion.specs.Numbers.{spaced, label_of}
 use Rattle.plus_report.specs.Text.{bottom_text, fraction_text}
@@ -62,30 +64,37 @@ value_is q n d t b =
 abbrev pub IsTimeOf : Fraction → List Piece → Type 0
 IsTimeOf q ts = (t : Time) × SpellsTime t ts × (value_of t ≡ q)
 
-digits_reads : (n : ℕ) → n ≤ 9223372036854775807 → Reads EndsNumber (decimal n) (IsToken (kinds.Number false n 0) (lowered (decimal n)))
-digits_reads n few = token_reads {S = EndsNumber} (kinds.Number false n 0) (decimal n) (number_spelled n few) (λ rest ok. inr ok)
+-- the token of a number
+abbrev IsDigits : ℕ → List Piece → Type 0
+IsDigits n ts = IsToken kinds.Number (lowered (decimal n)) ts
+
+digits_reads : (n : ℕ) → n ≤ 9223372036854775807 → Reads EndsNumber (decimal n) (IsDigits n)
+digits_reads n few = token_reads {S = EndsNumber} kinds.Number (decimal n) (false, n, 0, number_spelled n few) (λ rest ok. inr ok)
+
+digits_numeral : (n : ℕ) → n ≤ 9223372036854775807 → numeral_of (lowered (decimal n)) ≡ Some (numeral false n 0)
+digits_numeral n few = spelled_lowered false n 0 (decimal n) (number_spelled n few)
 
 slash_reads : Reads Any (47 ∷ []) (IsToken (kinds.Op ops.Divide) (47 ∷ []))
 slash_reads = token_reads {S = Any} (kinds.Op ops.Divide) (47 ∷ []) refl (λ rest ok. tt)
 
-as_decimal : (q : Fraction) (n : ℕ) → q.top ≡ pos n → q.bottom ≡ 1 → (w : List ℕ) (ts : List Piece) → IsToken (kinds.Number false n 0) w ts → IsTimeOf q ts
-as_decimal q n t b w ts k =
-    (time n (10 ^ 0) k.span, inl (piece (kinds.Number false n 0) w k.span, n, 0, refl, refl, k.whole), value_is q n 1 t b)
+as_decimal : (q : Fraction) (n : ℕ) → n ≤ 9223372036854775807 → q.top ≡ pos n → q.bottom ≡ 1 → (ts : List Piece) → IsDigits n ts → IsTimeOf q ts
+as_decimal q n few t b ts k =
+    (time n (10 ^ 0) k.span, inl (piece kinds.Number (lowered (decimal n)) k.span, n, 0, digits_numeral n few, refl, k.whole), value_is q n 1 t b)
 
-as_quotient : (q : Fraction) (n d : ℕ) → q.top ≡ pos n → q.bottom ≡ d → (v w x : List ℕ) (ts : List Piece)
-    → Both (IsToken (kinds.Number false n 0) v) (Both (IsToken (kinds.Op ops.Divide) w) (IsToken (kinds.Number false d 0) x)) ts → IsTimeOf q ts
-as_quotient q n d t b v w x ts (both front _ f (both slash back s g e) e') =
+as_quotient : (q : Fraction) (n d : ℕ) → n ≤ 9223372036854775807 → d ≤ 9223372036854775807 → q.top ≡ pos n → q.bottom ≡ d → (w : List ℕ) (ts : List Piece)
+    → Both (IsDigits n) (Both (IsToken (kinds.Op ops.Divide) w) (IsDigits d)) ts → IsTimeOf q ts
+as_quotient q n d few few' t b w ts (both front _ f (both slash back s g e) e') =
     let above : 0 < d = subst (λ k. 0 < k) b q.positive in (
       time n d (around f.span g.span),
       inr (
-        piece (kinds.Number false n 0) v f.span,
+        piece kinds.Number (lowered (decimal n)) f.span,
         piece (kinds.Op ops.Divide) w s.span,
-        piece (kinds.Number false d 0) x g.span,
+        piece kinds.Number (lowered (decimal d)) g.span,
         n,
         d,
+        digits_numeral n few,
         refl,
-        refl,
-        refl,
+        digits_numeral d few',
         above,
         refl,
         e' ∙ ap (λ l. front ++ l) e ∙ cc (f.whole, s.whole, g.whole),
@@ -97,9 +106,9 @@ bottom_reads : (q : Fraction) (n d : ℕ) → q.top ≡ pos n → n ≤ 92233720
     → Reads EndsNumber (decimal n ++ cond b [] (codes "/" ++ decimal d)) (IsTimeOf q)
 bottom_reads q n d t few e few' true one =
     subst (λ bytes. Reads EndsNumber bytes (IsTimeOf q)) (sym (append-nil (decimal n)))
-    (turn {after = EndsNumber} (decimal n) (as_decimal q n t (e ∙ eqb-true d 1 one) (lowered (decimal n))) (digits_reads n few))
+    (turn {after = EndsNumber} (decimal n) (as_decimal q n few t (e ∙ eqb-true d 1 one)) (digits_reads n few))
 bottom_reads q n d t few e few' false more =
-    turn {after = EndsNumber} (decimal n ++ (47 ∷ decimal d)) (as_quotient q n d t e (lowered (decimal n)) (47 ∷ []) (lowered (decimal d)))
+    turn {after = EndsNumber} (decimal n ++ (47 ∷ decimal d)) (as_quotient q n d few few' t e (47 ∷ []))
     (join {S = EndsNumber} {T = EndsNumber} (decimal n) (47 ∷ decimal d) (digits_reads n few)
     (join {S = Any} {T = EndsNumber} (47 ∷ []) (decimal d) slash_reads (digits_reads d few') (λ rest ok. tt)) (λ rest ok. refl))
 

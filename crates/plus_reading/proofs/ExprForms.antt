@@ -138,7 +138,7 @@ module _ (room : ℕ) (read : Former Expr) where
 
   body_again : ExprAgain room read → ExprAgain (suc room) (expr_body room read)
   body_again again (x_number n s) ts first inner rest h e opens ev =
-      absurd (let no : false ≡ true = sym (not_open h.0.kind h.0.span n h.1) ∙ ap (λ (p : Piece). is_open p.kind) (same_first h.0 first inner ts h.3 e) ∙ ap is_open opens in cc)
+      absurd (let no : false ≡ true = sym (not_open h.0.kind h.0.word h.0.span n h.1) ∙ ap (λ (p : Piece). is_open p.kind) (same_first h.0 first inner ts h.3 e) ∙ ap is_open opens in cc)
   body_again again (x_clock s) ts first inner rest h e opens ev =
       absurd (let no : false ≡ true = sym (ap is_open h.1) ∙ ap (λ (p : Piece). is_open p.kind) (same_first h.0 first inner ts h.3 e) ∙ ap is_open opens in cc)
   body_again again (x_fluent u s) ts first inner rest h e opens ev =

@@ -20,21 +20,21 @@ use Rattle.plus_reading.proofs.Starts.{close_again, Opened, Started, StartTakes,
 
 -- ---- a number
 
-pub not_open : (k : Kind) (s : Span) (n : Literal) → kind_literal k s ≡ Some n → (is_open k ≡ false)
+pub not_open : (k : Kind) (w : List ℕ) (s : Span) (n : Literal) → kind_literal k w s ≡ Some n → (is_open k ≡ false)
 unfolding kind_literal
-not_open kinds.Open s n e = absurd cc
-not_open _ s n e = refl
+not_open kinds.Open w s n e = absurd cc
+not_open _ w s n e = refl
 
-not_close : (k : Kind) (s : Span) (n : Literal) → kind_literal k s ≡ Some n → (is_close k ≡ false)
+not_close : (k : Kind) (w : List ℕ) (s : Span) (n : Literal) → kind_literal k w s ≡ Some n → (is_close k ≡ false)
 unfolding kind_literal
-not_close kinds.Close s n e = absurd cc
-not_close _ s n e = refl
+not_close kinds.Close w s n e = absurd cc
+not_close _ w s n e = refl
 
-number_way : (nested : Former Expr) (p : Piece) (rest : List Item) (k : Kind) (s : Span) (n : Literal) → kind_literal k s ≡ Some n → expr_kind nested p rest k ≡ number_or (literal_of p) p rest
+number_way : (nested : Former Expr) (p : Piece) (rest : List Item) (k : Kind) (w : List ℕ) (s : Span) (n : Literal) → kind_literal k w s ≡ Some n → expr_kind nested p rest k ≡ number_or (literal_of p) p rest
 unfolding kind_literal
-number_way nested p rest kinds.Open s n e = absurd cc
-number_way nested p rest kinds.Clock s n e = absurd cc
-number_way nested p rest _ s n e = refl
+number_way nested p rest kinds.Open w s n e = absurd cc
+number_way nested p rest kinds.Clock w s n e = absurd cc
+number_way nested p rest _ w s n e = refl
 
 -- ---- lists of expressions
 
@@ -112,10 +112,10 @@ module _ (room : ℕ) (read : Former Expr) where
         first = p;
         inner = [];
         whole = h.3;
-        next = next_again room p rest (not_open p.kind p.span n h.1);
-        goes = not_close p.kind p.span n h.1;
+        next = next_again room p rest (not_open p.kind p.word p.span n h.1);
+        goes = not_close p.kind p.word p.span n h.1;
         reads =
-            number_way read p rest p.kind p.span n h.1
+            number_way read p rest p.kind p.word p.span n h.1
             ∙ ap (λ (o : Option Literal). number_or o p rest) h.1
             ∙ (λ i. Ok (x_number n (sym h.2 i), rest));
       }

@@ -105,14 +105,14 @@ level_flat p ts e l room = ⊎_elim (λ ev. inl (after_flat room p ts e ∙ ev))
 pub level_none : Level []
 level_none room = inl refl
 
-number_kind_flat : (k : Kind) (s : Span) (n : Literal) → kind_literal k s ≡ Some n → is_flat k ≡ true
+number_kind_flat : (k : Kind) (w : List ℕ) (s : Span) (n : Literal) → kind_literal k w s ≡ Some n → is_flat k ≡ true
 unfolding kind_literal
-number_kind_flat kinds.Open s n e = absurd cc
-number_kind_flat kinds.Close s n e = absurd cc
-number_kind_flat _ s n e = refl
+number_kind_flat kinds.Open w s n e = absurd cc
+number_kind_flat kinds.Close w s n e = absurd cc
+number_kind_flat _ w s n e = refl
 
 pub number_flat : (p : Piece) (n : Literal) → IsNumber n p → is_flat p.kind ≡ true
-number_flat p n e = number_kind_flat p.kind p.span n e
+number_flat p n e = number_kind_flat p.kind p.word p.span n e
 
 -- ---- arguments
 

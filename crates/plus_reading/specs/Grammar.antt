@@ -58,7 +58,7 @@ word_of w = token_of (is_word w)
 
 -- whether a time comes next, as in a timed literal
 abbrev pub is_time_read : Read Piece → Bool
-is_time_read (Ok p) = is_time p.0.kind
+is_time_read (Ok p) = is_time p.0
 is_time_read (Err e) = false
 
 abbrev pub time_ahead : ℕ → List Item → Bool

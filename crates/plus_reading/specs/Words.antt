@@ -1,5 +1,5 @@
 -- What a token begins, by its word. Words tell no case apart; here they are in small letters.
-use Rattle.std.specs.Prelude.{ℕ, Bool, true, false, not, ◌&&◌, ◌||◌, List, [], ◌∷◌, if◌then◌else◌, codes}
+use Rattle.std.specs.Prelude.{ℕ, Bool, true, false, not, ◌&&◌, ◌||◌, List, [], ◌∷◌, Option, Some, None, if◌then◌else◌, codes}
 use Rattle.std.specs.Str.{bytes_eq}
 use Rattle.plus_tokens.specs.declared.token.Kind.{Kind}
 use Rattle.plus_tokens.specs.declared.token.Kind.TheVariants as kinds
@@ -14,6 +14,8 @@ use Rattle.plus_tree.specs.declared.terms.Comparison.TheVariants as comparisons
 use Rattle.plus_reading.specs.declared.words.Allowed.{Allowed}
 use Rattle.plus_reading.specs.declared.words.Allowed.TheVariants as allows
 use Rattle.plus_tokens.specs.Items.{Piece}
+use Rattle.plus_tokens.specs.declared.numeral.Numeral.{Numeral}
+use Rattle.plus_tokens.specs.Numeral.{kind_numeral}
 
 -- ---- names
 
@@ -110,10 +112,16 @@ is_allowed allows.Terms kind = is_term kind
 is_allowed allows.Variables kind = is_variable kind
 is_allowed allows.Names kind = is_name kind
 
--- a number that is not negative
-abbrev pub is_time : Kind → Bool
-is_time (kinds.Number negative digits places) = not negative
-is_time _ = false
+abbrev pub is_unsigned : Option Numeral → Bool
+is_unsigned None = false
+is_unsigned (Some n) = not n.negative
+
+-- a token of this kind with this word is a number that is not negative
+abbrev pub kind_time : Kind → List ℕ → Bool
+kind_time kind word = is_unsigned (kind_numeral kind word)
+
+abbrev pub is_time : Piece → Bool
+is_time p = kind_time p.kind p.word
 
 -- ---- signs
 

@@ -52,14 +52,8 @@ fn trimmed(negative: bool, digits: u128, places: u8, span: Span) -> Literal
 pub fn literal_of(token: &Seen<'_>) -> Option<Literal>
     ensures { result ≡ literal_of (seen token.now) }
 {
-    match token.kind {
-        Kind::Number {
-            negative,
-            digits,
-            places,
-        } => Some(trimmed(negative, digits, places, token.span)),
-        _ => None,
-    }
+    let n = token.numeral()?;
+    Some(trimmed(n.negative, n.digits, n.places, token.span))
 }
 
 /// The expression from its first token on.

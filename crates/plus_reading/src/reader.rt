@@ -65,7 +65,7 @@ impl<'a> Reader<'a> {
         ensures { result ≡ time_ahead room self.now }
     {
         match self.tokens.peek() {
-            Ok(Some(token)) => is_time(token.kind),
+            Ok(Some(token)) => is_time(&token),
             _ => false,
         }
     }

@@ -215,12 +215,12 @@ pub fn is_term(kind: Kind) -> bool
 }
 
 /// Whether the token is a number that is not negative: a time.
-pub fn is_time(kind: Kind) -> bool
-    ensures { result ≡ is_time kind }
+pub fn is_time(token: &Seen<'_>) -> bool
+    ensures { result ≡ is_time (seen token.now) }
 {
-    match kind {
-        Kind::Number { negative, .. } => !negative,
-        _ => false,
+    match token.numeral() {
+        Some(n) => !n.negative,
+        None => false,
     }
 }
 

@@ -1,16 +1,8 @@
 //! Tokens as the table of the language has them: each kind, each fault, and both sides of each limit.
 
-use plus_tokens::{Kind, LexFault, Op, Token, next_token};
+use plus_tokens::{Kind, LexFault, Numeral, Op, Token, Tokens, next_token, numeral_of};
 use std::process::Abort;
 use std::test::Fail;
-
-fn number(negative: bool, digits: u128, places: u8) -> Kind {
-    Kind::Number {
-        negative,
-        digits,
-        places,
-    }
-}
 
 // Compares the first token of a text.
 fn expect_first(rt: &impl Abort, text: &str, kind: Kind, start: usize, end: usize) {
@@ -64,10 +56,46 @@ static NUMBERS: [(&str, bool, u128, u8, usize); 5] = [
     ("-1.5/", true, 15, 1, 4),
 ];
 
+// Compares the number that the first token of a text spells.
+fn expect_numeral(rt: &impl Abort, text: &str, numeral: Numeral) {
+    match Tokens::new(text.as_bytes()).next() {
+        Ok(Some(token)) => assert_eq!(rt; token.numeral(), Some(numeral), "in {text}"),
+        _ => assert!(rt; false, "in {text}"),
+    }
+}
+
 #[test]
 fn each_number_is_read(rt: HostRuntime) {
     for &(text, negative, digits, places, end) in &NUMBERS {
-        expect_first(&rt, text, number(negative, digits, places), 0, end);
+        expect_first(&rt, text, Kind::Number, 0, end);
+        let numeral = Numeral {
+            negative,
+            digits,
+            places,
+        };
+        expect_numeral(&rt, text, numeral);
+    }
+}
+
+// Words that spell no number.
+static NO_NUMBERS: [&str; 11] = [
+    "",
+    "-",
+    "--5",
+    "a",
+    "5a",
+    ".5",
+    "5.",
+    "1.2.3",
+    "1.-5",
+    "10000000000000000000",
+    "1.1234567890",
+];
+
+#[test]
+fn no_number_is_read_where_none_is_spelled(rt: HostRuntime) {
+    for &word in &NO_NUMBERS {
+        assert_eq!(rt; numeral_of(word.as_bytes()), None, "in {word}");
     }
 }
 
@@ -137,8 +165,13 @@ fn limits_of_numbers_are_met_and_passed(rt: HostRuntime) {
     expect_limit(&rt, "10000000000000000000", Some(0));
     expect_limit(&rt, "-1.1234567890", Some(0));
     expect_limit(&rt, "00000000000000000000x", Some(0));
-    let longest = number(false, 9999999999999999999123456789, 9);
-    expect_first(&rt, "9999999999999999999.123456789", longest, 0, 29);
+    expect_first(&rt, "9999999999999999999.123456789", Kind::Number, 0, 29);
+    let longest = Numeral {
+        negative: false,
+        digits: 9999999999999999999123456789,
+        places: 9,
+    };
+    expect_numeral(&rt, "9999999999999999999.123456789", longest);
 }
 
 #[test]

@@ -48,10 +48,10 @@ word_lacks q kind text at name e =
     let this : (start last : ℕ) → Lacks q (Ok (record { kind = kind; start = start; «end» = last })) = λ start last. record { fact = e } in
     search (rules, pick, fault, this)
 
-number_lacks : (q : Kind → Bool) → ((n : Bool) (d p : ℕ) → q (kinds.Number n d p) ≡ false) → (negative : Bool) (text : List ℕ) (at first : ℕ) → Lacks q (number_at negative text at first)
+number_lacks : (q : Kind → Bool) → q kinds.Number ≡ false → (text : List ℕ) (at first : ℕ) → Lacks q (number_at text at first)
 unfolding number_at
-number_lacks q e negative text at first =
-    let this : (d p start last : ℕ) → Lacks q (Ok (record { kind = kinds.Number negative d p; start = start; «end» = last })) = λ d p start last. record { fact = e negative d p } in
+number_lacks q e text at first =
+    let this : (start last : ℕ) → Lacks q (Ok (record { kind = kinds.Number; start = start; «end» = last })) = λ start last. record { fact = e } in
     search (rules, pick, fault, this)
 
 -- each kind but this
@@ -63,7 +63,7 @@ unfolding token_at
 no_open text at b no =
     let other : (k : Kind) → is_open k ≡ false → (n : ℕ) → Lacks is_open (sized k at n) = others is_open text at in
     let word : (k : Kind) → is_open k ≡ false → (name : ℕ) → Lacks is_open (word_at k text at name) = λ k e name. word_lacks is_open k text at name e in
-    let number : (negative : Bool) (first : ℕ) → Lacks is_open (number_at negative text at first) = λ negative first. number_lacks is_open (λ n d p. refl) negative text at first in
+    let number : (first : ℕ) → Lacks is_open (number_at text at first) = λ first. number_lacks is_open refl text at first in
     let this : (b == 40) ≡ true → Lacks is_open (sized kinds.Open at 1) = λ e. clash no e in
     search (rules, pick, fault, other, word, number, this) depth 60 fits 4000
 
@@ -72,7 +72,7 @@ unfolding token_at
 no_close text at b no =
     let other : (k : Kind) → is_close k ≡ false → (n : ℕ) → Lacks is_close (sized k at n) = others is_close text at in
     let word : (k : Kind) → is_close k ≡ false → (name : ℕ) → Lacks is_close (word_at k text at name) = λ k e name. word_lacks is_close k text at name e in
-    let number : (negative : Bool) (first : ℕ) → Lacks is_close (number_at negative text at first) = λ negative first. number_lacks is_close (λ n d p. refl) negative text at first in
+    let number : (first : ℕ) → Lacks is_close (number_at text at first) = λ first. number_lacks is_close refl text at first in
     let this : (b == 41) ≡ true → Lacks is_close (sized kinds.Close at 1) = λ e. clash no e in
     search (rules, pick, fault, other, word, number, this) depth 60 fits 4000
 
@@ -81,7 +81,7 @@ unfolding token_at
 no_colon text at b no =
     let other : (k : Kind) → is_colon k ≡ false → (n : ℕ) → Lacks is_colon (sized k at n) = others is_colon text at in
     let word : (k : Kind) → is_colon k ≡ false → (name : ℕ) → Lacks is_colon (word_at k text at name) = λ k e name. word_lacks is_colon k text at name e in
-    let number : (negative : Bool) (first : ℕ) → Lacks is_colon (number_at negative text at first) = λ negative first. number_lacks is_colon (λ n d p. refl) negative text at first in
+    let number : (first : ℕ) → Lacks is_colon (number_at text at first) = λ first. number_lacks is_colon refl text at first in
     let this : (b == 58) ≡ true → Lacks is_colon (sized kinds.Colon at 1) = λ e. clash no e in
     search (rules, pick, fault, other, word, number, this) depth 60 fits 4000
 
@@ -90,7 +90,7 @@ unfolding token_at
 not_named text at b no =
     let other : (k : Kind) → is_name k ≡ false → (n : ℕ) → Lacks is_name (sized k at n) = others is_name text at in
     let word : (k : Kind) → is_name k ≡ false → (name : ℕ) → Lacks is_name (word_at k text at name) = λ k e name. word_lacks is_name k text at name e in
-    let number : (negative : Bool) (first : ℕ) → Lacks is_name (number_at negative text at first) = λ negative first. number_lacks is_name (λ n d p. refl) negative text at first in
+    let number : (first : ℕ) → Lacks is_name (number_at text at first) = λ first. number_lacks is_name refl text at first in
     let this : is_letter b ≡ true → Lacks is_name (word_at kinds.Name text at at) = λ e. clash no e in
     search (rules, pick, fault, other, word, number, this) depth 60 fits 4000
 

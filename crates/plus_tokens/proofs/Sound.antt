@@ -1,8 +1,8 @@
--- The byte at which no token can be read stands within the text, and a Number has at most 9 places.
-use Rattle.std.proofs.Common.{◌≡◌, ℕ, ◌+◌, ◌-◌, ◌<◌, ◌≤◌, Bool, true, false, cond, List, length, get_or, drop, Option, Some, None, Result, Ok, Err, refl, sym, ap, ◌∙◌, arith, rules, ⊎_elim}
-use Rattle.std.specs.Prelude.{MatchResult, ◌&&◌, ◌||◌, not, ◌==◌, nat_lt, slice_index}
+-- The byte at which no token can be read stands within the text.
+use Rattle.std.proofs.Common.{◌≡◌, ℕ, ◌+◌, ◌-◌, ◌<◌, Bool, true, false, cond, List, length, get_or, drop, Option, None, Result, Ok, Err, refl, sym, ap, ◌∙◌, arith, rules, ⊎_elim}
+use Rattle.std.specs.Prelude.{IfErr, ◌&&◌, ◌||◌, not, ◌==◌, nat_lt, slice_index}
 use Rattle.std.specs.List.{prefix_len}
-use Rattle.std.proofs.lemmas.Bool.{cond_both, cases_lt, and_parts, ltb-true, ltb-false, false≢true}
+use Rattle.std.proofs.lemmas.Bool.{cond_both, cases_lt, and_parts, ltb-true, false≢true}
 use Rattle.std.proofs.lemmas.List.{get_or_past}
 use Rattle.std.proofs.lemmas.List.Sums.{prefix_len-drop_all}
 use Rattle.plus_tokens.specs.declared.token.Kind.{Kind}
@@ -11,18 +11,18 @@ use Rattle.plus_tokens.specs.declared.token.Token.{Token}
 use Rattle.plus_tokens.specs.declared.token.LexFault.{LexFault}
 use Rattle.plus_tokens.specs.declared.token.LexFault.TheVariants.{BadByte, TooLong}
 use Rattle.plus_tokens.specs.Bytes.{is_digit, is_name_byte, ends_number}
-use Rattle.plus_tokens.specs.First.{end_of, word_at, number_at, token_at, token_start, first_token, found, has_point, number_end, places_at, digits_at, sized}
-use Rattle.plus_tokens.specs.Seen.{HasFewPlaces, byte_of}
+use Rattle.plus_tokens.specs.First.{end_of, word_at, number_at, token_at, token_start, first_token, found, has_point, number_end, places_at, sized}
+use Rattle.plus_tokens.specs.Seen.{byte_of}
 
--- a token with few places, or a fault within the text
+-- a token, or a fault within the text
 record Sound (text : List ℕ) (r : Result Token LexFault) : Type 0 where
-  fact : MatchResult r (λ t. HasFewPlaces t.kind) (λ f. byte_of f < length text)
+  fact : IfErr r (λ f. byte_of f < length text)
 
 pick : {text : List ℕ} {b : Bool} {x y : Result Token LexFault} → (b ≡ true → Sound text x) → (b ≡ false → Sound text y) → Sound text (cond b x y)
 pick {text} {b} {x} {y} f g = cond_both b x y (Sound text) f g
 
-token : {text : List ℕ} (kind : Kind) (start last : ℕ) → HasFewPlaces kind → Sound text (Ok (record { kind = kind; start = start; «end» = last }))
-token kind start last h = record { fact = h }
+token : {text : List ℕ} (kind : Kind) (start last : ℕ) → Sound text (Ok (record { kind = kind; start = start; «end» = last }))
+token kind start last = record { fact = tt }
 
 bad_byte : {text : List ℕ} (at : ℕ) → at < length text → Sound text (Err (BadByte at))
 bad_byte at lt = record { fact = lt }
@@ -40,62 +40,51 @@ within : (p : ℕ → Bool) (text : List ℕ) (at : ℕ) → p 0 ≡ false → p
 within p text at fails e =
     ⊎_elim (λ lt. lt) (λ past. absurd (false≢true (sym fails ∙ sym (ap p (get_or_past text at 0 past)) ∙ e))) (cases_lt at (length text))
 
-word_sound : (kind : Kind) (text : List ℕ) (at name : ℕ) → HasFewPlaces kind → Sound text (word_at kind text at name)
+word_sound : (kind : Kind) (text : List ℕ) (at name : ℕ) → Sound text (word_at kind text at name)
 unfolding word_at
-word_sound kind text at name h =
+word_sound kind text at name =
     cond_both (nat_lt 64 (prefix_len is_name_byte (drop name text))) _ _ (Sound text)
     (λ e. too_long name (some_pass is_name_byte text name (let l = ltb-true 64 _ e in omega (arith, l))))
-    (λ e. token kind at (end_of is_name_byte text name) h)
+    (λ e. token kind at (end_of is_name_byte text name))
 
-number_sound : (negative : Bool) (text : List ℕ) (at first : ℕ) → at < length text → Sound text (number_at negative text at first)
+number_sound : (text : List ℕ) (at first : ℕ) → at < length text → Sound text (number_at text at first)
 unfolding number_at
-number_sound negative text at first lt =
+number_sound text at first lt =
     cond_both (nat_lt 19 (end_of is_digit text first - first) || nat_lt 9 (places_at text first)) _ _ (Sound text)
     (λ e. too_long at lt)
-    (λ few.
+    (λ _.
     cond_both (has_point text first && (places_at text first == 0)) _ _ (Sound text)
     (λ e. bad_byte (end_of is_digit text first) (within (λ b. b == 46) text (end_of is_digit text first) refl (and_parts (has_point text first) _ e).0))
     (λ _.
     cond_both (nat_lt (number_end text first) (length text) && not (ends_number (slice_index text (number_end text first)))) _ _ (Sound text)
     (λ e. bad_byte (number_end text first) (ltb-true _ _ (and_parts (nat_lt (number_end text first) (length text)) _ e).0))
-    (λ _. token (kinds.Number negative (digits_at text first) (places_at text first)) at (number_end text first) (small (nat_lt 19 (end_of is_digit text first - first)) (places_at text first) few))))
-  where
-    small : (b : Bool) (n : ℕ) → (b || nat_lt 9 n) ≡ false → n ≤ 9
-    small true n e = absurd cc
-    small false n e = let h = ltb-false 9 n e in omega (arith, h)
+    (λ _. token kinds.Number at (number_end text first))))
 
 token_sound : (text : List ℕ) (at : ℕ) → at < length text → Sound text (token_at text at (get_or text at 0))
 unfolding token_at
 token_sound text at lt =
-    let sign : (k : Kind) (n : ℕ) → HasFewPlaces k → Sound text (sized k at n) = λ k n h. token k at (at + n) h in
+    let sign : (k : Kind) (n : ℕ) → Sound text (sized k at n) = λ k n. token k at (at + n) in
     let lone : Sound text (Err (BadByte at)) = bad_byte at lt in
-    let named : (k : Kind) (name : ℕ) → HasFewPlaces k → Sound text (word_at k text at name) = λ k name h. word_sound k text at name h in
-    let numbered : (negative : Bool) (first : ℕ) → Sound text (number_at negative text at first) = λ negative first. number_sound negative text at first lt in
+    let named : (k : Kind) (name : ℕ) → Sound text (word_at k text at name) = λ k name. word_sound k text at name in
+    let numbered : (first : ℕ) → Sound text (number_at text at first) = λ first. number_sound text at first lt in
     search (rules, pick, lone, sign, named, numbered) depth 60 fits 4000
 
--- the first token has few places, and the first fault stands within the text
-pub first_sound : (text : List ℕ) (from : ℕ) → MatchResult (first_token text from) (λ o. (t : Token) → o ≡ Some t → HasFewPlaces t.kind) (λ f. byte_of f < length text)
+-- the first fault stands within the text
+first_sound : (text : List ℕ) (from : ℕ) → IfErr (first_token text from) (λ f. byte_of f < length text)
 unfolding first_token
 first_sound text from =
     cond_both (nat_lt (token_start text from) (length text)) (found (token_at text (token_start text from) (slice_index text (token_start text from)))) (Ok None)
-    (λ (r : Result (Option Token) LexFault). MatchResult r (λ o. (t : Token) → o ≡ Some t → HasFewPlaces t.kind) (λ f. byte_of f < length text))
+    (λ (r : Result (Option Token) LexFault). IfErr r (λ f. byte_of f < length text))
     (λ lt. from_found _ (token_sound text (token_start text from) (ltb-true _ _ lt)))
-    (λ _ t e. absurd cc)
+    (λ _. tt)
   where
-    from_found : (r : Result Token LexFault) → Sound text r → MatchResult (found r) (λ o. (t : Token) → o ≡ Some t → HasFewPlaces t.kind) (λ f. byte_of f < length text)
-    from_found (Ok u) s = λ t e. (let same : u ≡ t = cc in rw (← same) s.fact)
+    from_found : (r : Result Token LexFault) → Sound text r → IfErr (found r) (λ f. byte_of f < length text)
+    from_found (Ok u) s = tt
     from_found (Err f) s = s.fact
-
-pub few_places : (text : List ℕ) (from : ℕ) (t : Token) → first_token text from ≡ Ok (Some t) → HasFewPlaces t.kind
-few_places text from t e = at_answer (first_token text from) (first_sound text from) e
-  where
-    at_answer : (r : Result (Option Token) LexFault) → MatchResult r (λ o. (t : Token) → o ≡ Some t → HasFewPlaces t.kind) (λ f. byte_of f < length text) → r ≡ Ok (Some t) → HasFewPlaces t.kind
-    at_answer (Ok o) s e = s t (let same : o ≡ Some t = cc in same)
-    at_answer (Err f) s e = absurd cc
 
 pub fault_within : (text : List ℕ) (from : ℕ) (f : LexFault) → first_token text from ≡ Err f → byte_of f < length text
 fault_within text from f e = at_answer (first_token text from) (first_sound text from) e
   where
-    at_answer : (r : Result (Option Token) LexFault) → MatchResult r (λ o. (t : Token) → o ≡ Some t → HasFewPlaces t.kind) (λ f. byte_of f < length text) → r ≡ Err f → byte_of f < length text
+    at_answer : (r : Result (Option Token) LexFault) → IfErr r (λ f. byte_of f < length text) → r ≡ Err f → byte_of f < length text
     at_answer (Ok o) s e = absurd cc
     at_answer (Err g) s e = let same : g ≡ f = cc in rw (← same) s

@@ -10,7 +10,7 @@ use Rattle.plus_tokens.specs.declared.token.Kind.TheVariants as kinds
 use Rattle.plus_tokens.specs.declared.token.Kind.TheVariants.{Open, Close, OpenSquare, CloseSquare, Colon, Name, Variable, Keyword, Number, Clock, End}
 use Rattle.plus_tokens.specs.declared.token.Token.{Token}
 use Rattle.plus_tokens.specs.declared.token.LexFault.{LexFault}
-use Rattle.plus_tokens.specs.Bytes.{is_blank, is_letter, is_digit, is_name_byte, ends_number, decimal}
+use Rattle.plus_tokens.specs.Bytes.{is_blank, is_letter, is_digit, is_name_byte, ends_number}
 use Rattle.plus_tokens.specs.First.{word_at, sized, token_at, is_letter_of}
 use Rattle.plus_tokens.specs.Spelling.{Each, begins, IsName, IsNumber, point_and, op_bytes, Spells, EndsOp, Ends}
 use Rattle.plus_tokens.proofs.Runs.{apart, no_blank, prefix_run, head_at, behind, begins_at}
@@ -121,14 +121,14 @@ digit_is_no_letter b e = at (is_letter b) refl where
       ]
 
 number_stands : (negative : Bool) (digits places : ℕ) (text : List ℕ) (at : ℕ) (bytes rest : List ℕ) → IsNumber negative digits places bytes
-    → (rest ≡ []) ⊎ (begins ends_number rest ≡ true) → drop at text ≡ bytes ++ rest → token_at text at (slice_index text at) ≡ spot (kinds.Number negative digits places) at bytes
+    → (rest ≡ []) ⊎ (begins ends_number rest ≡ true) → drop at text ≡ bytes ++ rest → token_at text at (slice_index text at) ≡ spot kinds.Number at bytes
 unfolding token_at
 number_stands false digits places text at bytes rest n ends e =
     let parts : drop at text ≡ (n.first ∷ n.others) ++ (point_and n.fraction ++ rest) =
     e ∙ ap (λ l. l ++ rest) n.spelled ∙ append_assoc (n.first ∷ n.others) (point_and n.fraction) rest in
     let digit : is_digit n.first ≡ true = (and_parts (is_digit n.first) (list_all is_digit n.others) n.whole_digits).0 in
     rw (head_at text at n.first (n.others ++ (point_and n.fraction ++ rest)) parts, digit_is_no_letter n.first digit, digit)
-    (rw (n.value, n.few_places, n.spelled) (number_read false text at at (n.first ∷ n.others) n.fraction rest parts n.whole_digits n.fraction_digits ends n.whole_within (subst (λ k. k ≤ 9) n.few_places n.places_within)))
+    (rw n.spelled (number_read text at at (n.first ∷ n.others) n.fraction rest parts n.whole_digits n.fraction_digits ends n.whole_within (subst (λ k. k ≤ 9) n.few_places n.places_within)))
 number_stands true digits places text at bytes rest n ends e =
     let whole = n.first ∷ n.others in
     let parts : drop at text ≡ 45 ∷ (whole ++ (point_and n.fraction ++ rest)) =
@@ -138,8 +138,8 @@ number_stands true digits places text at bytes rest n ends e =
     ap is_digit (head_at text (at + 1) n.first (n.others ++ (point_and n.fraction ++ rest)) next) ∙ (and_parts (is_digit n.first) (list_all is_digit n.others) n.whole_digits).0 in
     let long : at + 1 + length (whole ++ point_and n.fraction) ≡ at + length (45 ∷ (whole ++ point_and n.fraction)) = omega arith in
     rw (head_at text at 45 (whole ++ (point_and n.fraction ++ rest)) parts, digit)
-    (rw (n.value, n.few_places, n.spelled) (number_read true text at (at + 1) whole n.fraction rest next n.whole_digits n.fraction_digits ends n.whole_within (subst (λ k. k ≤ 9) n.few_places n.places_within)
-    ∙ ap (λ (k : ℕ). Ok (record { kind = kinds.Number true (decimal 0 (whole ++ n.fraction)) (length n.fraction); start = at; «end» = k })) long))
+    (rw n.spelled (number_read text at (at + 1) whole n.fraction rest next n.whole_digits n.fraction_digits ends n.whole_within (subst (λ k. k ≤ 9) n.few_places n.places_within)
+    ∙ ap (λ (k : ℕ). Ok (record { kind = kinds.Number; start = at; «end» = k })) long))
 
 -- ---- all kinds
 
@@ -157,7 +157,7 @@ stands Variable text at bytes rest is ends e =
     marked_stands kinds.Variable 63 text at is.0 bytes rest is.1 is.2 e ends (λ letter. rw letter refl)
 stands Keyword text at bytes rest is ends e =
     marked_stands kinds.Keyword 58 text at is.0 bytes rest is.1 is.2 e ends (λ letter. rw letter refl)
-stands (Number negative digits places) text at bytes rest is ends e = number_stands negative digits places text at bytes rest is ends e
+stands Number text at bytes rest is ends e = number_stands is.0 is.1 is.2 text at bytes rest is.3 ends e
 stands Clock text at bytes rest is ends e = clock_stands text at is.0 bytes rest is.1 is.2 ends e
 stands End text at bytes rest is ends e = end_stands text at is.0 is.1 is.2 bytes rest is.3 is.4 is.5 is.6 ends e
 stands (kinds.Op op) text at bytes rest is ends e = op_stands op text at bytes rest is ends e
@@ -206,7 +206,7 @@ is_solid Colon bytes is = solid 58 [] bytes is (refl, refl)
 is_solid Name bytes is = solid is.first is.others bytes is.spelled (letter_is_apart is.first is.letter)
 is_solid Variable bytes is = solid 63 is.0 bytes is.2 (refl, refl)
 is_solid Keyword bytes is = solid 58 is.0 bytes is.2 (refl, refl)
-is_solid (Number negative digits places) bytes is = number_is_solid negative digits places bytes is
+is_solid Number bytes is = number_is_solid is.0 is.1 is.2 bytes is.3
 is_solid Clock bytes is = solid 35 (is.0 ∷ []) bytes is.2 (refl, refl)
 is_solid End bytes is = solid 64 (is.0 ∷ is.1 ∷ is.2 ∷ []) bytes is.6 (refl, refl)
 is_solid (kinds.Op op) bytes is = op_is_solid op bytes is

@@ -1,5 +1,5 @@
 -- What is read at an offset is spelled there.
-use Rattle.std.proofs.Common.{◌≡◌, ◌⊎◌, ℕ, ◌+◌, ◌-◌, ◌*◌, ◌≤◌, Bool, true, false, cond, not, List, [], ◌∷◌, ◌++◌, length, drop, Result, Ok, Err, refl, sym, ◌∙◌, ap, subst, inl, inr, append_assoc, length-append, arith, rules, eqb}
+use Rattle.std.proofs.Common.{◌≡◌, ◌⊎◌, ℕ, ◌+◌, ◌≤◌, Bool, true, false, cond, not, List, [], ◌∷◌, ◌++◌, length, drop, Result, Ok, Err, refl, sym, ◌∙◌, ap, subst, inl, inr, append_assoc, length-append, arith, rules, eqb}
 use Rattle.std.specs.Prelude.{IfOk, ◌==◌, ◌&&◌, ◌||◌, nat_lt, slice_index}
 use Rattle.std.specs.List.{prefix_len, list_all}
 use Rattle.std.proofs.lemmas.Bool.{cond_both, lt-ltb, and_parts, and_from, or_parts, eqb-true, ltb-false, false≢true}
@@ -15,7 +15,6 @@ use Rattle.plus_tokens.specs.Spelling.{Each, begins, IsName, sign_of, point_and,
 use Rattle.plus_tokens.proofs.Runs.{prefix_run, behind, begins_at, inside_at}
 use Rattle.plus_tokens.proofs.Split.{Run, run_of}
 use Rattle.std.proofs.lemmas.List.{append-nil}
-use Rattle.std.proofs.lemmas.List.Sums.{fold-append}
 use Rattle.plus_tokens.proofs.Numbers.{whole_parts, point_parts}
 use Rattle.plus_tokens.proofs.Standing.{letter_is_name_byte}
 
@@ -169,41 +168,45 @@ module _ (negative : Bool) (text : List ℕ) (at first b : ℕ) (run : List ℕ)
   -- a number whose parts are known is the one that they spell
   number_stood : (fraction rest : List ℕ) (last : ℕ) → drop first text ≡ (b ∷ run) ++ (point_and fraction ++ rest) → Each is_digit fraction
       → length (b ∷ run) ≤ 19 → length fraction ≤ 9 → (rest ≡ []) ⊎ (begins ends_number rest ≡ true) → last ≡ first + length ((b ∷ run) ++ point_and fraction)
-      → Stood text at (Ok (record { kind = kinds.Number negative (decimal (decimal 0 (b ∷ run)) fraction) (length fraction); start = at; «end» = last }))
+      → Stood text at (Ok (record { kind = kinds.Number; start = at; «end» = last }))
   number_stood fraction rest last parts more few few_places ends long =
-      stood (kinds.Number negative (decimal (decimal 0 (b ∷ run)) fraction) (length fraction)) text at (sign_of negative ++ ((b ∷ run) ++ point_and fraction)) rest last
-      (sign ∙ ap (λ l. sign_of negative ++ l) (parts ∙ sym (append_assoc (b ∷ run) (point_and fraction) rest)) ∙ sym (append_assoc (sign_of negative) ((b ∷ run) ++ point_and fraction) rest))
-      (record {
-        first = b;
-        others = run;
-        fraction = fraction;
-        whole_digits = all;
-        fraction_digits = more;
-        spelled = refl;
-        value = sym (fold-append (λ n d. 10 * n + (d - 48)) 0 (b ∷ run) fraction);
-        few_places = refl;
-        whole_within = few;
-        places_within = few_places;
-      })
+      stood kinds.Number text at (sign_of negative ++ ((b ∷ run) ++ point_and fraction)) rest last
+      (sign ∙ ap (λ l. sign_of negative ++ l) (parts ∙ sym (append_assoc (b ∷ run) (point_and fraction) rest)) ∙ sym (append_assoc (sign_of negative) ((b ∷ run) ++ point_and fraction) rest)) (
+        negative,
+        decimal 0 ((b ∷ run) ++ fraction),
+        length fraction,
+        record {
+          first = b;
+          others = run;
+          fraction = fraction;
+          whole_digits = all;
+          fraction_digits = more;
+          spelled = refl;
+          value = refl;
+          few_places = refl;
+          whole_within = few;
+          places_within = few_places;
+        },
+      )
       ends (omega (arith, long, signed, length-append (sign_of negative) ((b ∷ run) ++ point_and fraction)))
 
-  whole_read : (rest : List ℕ) → drop first text ≡ (b ∷ run) ++ rest → begins is_digit rest ≡ false → begins (λ c. c == 46) rest ≡ false → Stood text at (number_at negative text at first)
+  whole_read : (rest : List ℕ) → drop first text ≡ (b ∷ run) ++ rest → begins is_digit rest ≡ false → begins (λ c. c == 46) rest ≡ false → Stood text at (number_at text at first)
   whole_read rest parts stop no_point =
-      rw (whole_parts negative text at first (b ∷ run) rest parts all stop no_point)
+      rw (whole_parts text at first (b ∷ run) rest parts all stop no_point)
       (cond_both (nat_lt 19 (length (b ∷ run)) || nat_lt 9 0) _ _ (Stood text at) (λ _. fault)
       (λ few. cond_both (nat_lt (first + length (b ∷ run)) (length text) && not (ends_number (slice_index text (first + length (b ∷ run))))) _ _ (Stood text at) (λ _. fault)
       (λ ended. number_stood [] rest (first + length (b ∷ run)) parts refl
       (ltb-false 19 (length (b ∷ run)) (or_parts (nat_lt 19 (length (b ∷ run))) (nat_lt 9 0) few).0) (omega arith)
       (ends_from text (first + length (b ∷ run)) rest (behind text first (b ∷ run) rest parts) ended) (ap (λ l. first + length l) (sym (append-nil (b ∷ run)))))))
 
-  point_read : (fraction rest : List ℕ) → drop first text ≡ (b ∷ run) ++ (46 ∷ (fraction ++ rest)) → Each is_digit fraction → begins is_digit rest ≡ false → Stood text at (number_at negative text at first)
+  point_read : (fraction rest : List ℕ) → drop first text ≡ (b ∷ run) ++ (46 ∷ (fraction ++ rest)) → Each is_digit fraction → begins is_digit rest ≡ false → Stood text at (number_at text at first)
   point_read [] rest parts more stop =
-      rw (point_parts negative text at first (b ∷ run) [] rest parts all more stop)
+      rw (point_parts text at first (b ∷ run) [] rest parts all more stop)
       (cond_both (nat_lt 19 (length (b ∷ run)) || nat_lt 9 0) _ _ (Stood text at) (λ _. fault) (λ _. fault))
   point_read (d ∷ ds) rest parts more stop =
       let left : drop (first + length (b ∷ run) + 1) text ≡ (d ∷ ds) ++ rest =
       behind text (first + length (b ∷ run)) (46 ∷ []) ((d ∷ ds) ++ rest) (behind text first (b ∷ run) (46 ∷ ((d ∷ ds) ++ rest)) parts) in
-      rw (point_parts negative text at first (b ∷ run) (d ∷ ds) rest parts all more stop)
+      rw (point_parts text at first (b ∷ run) (d ∷ ds) rest parts all more stop)
       (cond_both (nat_lt 19 (length (b ∷ run)) || nat_lt 9 (length (d ∷ ds))) _ _ (Stood text at) (λ _. fault)
       (λ few. cond_both (length (d ∷ ds) == 0) _ _ (Stood text at) (λ _. fault)
       (λ _. cond_both (nat_lt (first + length (b ∷ run) + 1 + length (d ∷ ds)) (length text) && not (ends_number (slice_index text (first + length (b ∷ run) + 1 + length (d ∷ ds))))) _ _ (Stood text at) (λ _. fault)
@@ -213,10 +216,10 @@ module _ (negative : Bool) (text : List ℕ) (at first b : ℕ) (run : List ℕ)
       (ends_from text (first + length (b ∷ run) + 1 + length (d ∷ ds)) rest (behind text (first + length (b ∷ run) + 1) (d ∷ ds) rest left) ended)
       (omega (arith, length-append (b ∷ run) (46 ∷ d ∷ ds)))))))
 
-  behind_whole : (rest : List ℕ) → drop first text ≡ (b ∷ run) ++ rest → begins is_digit rest ≡ false → Stood text at (number_at negative text at first)
+  behind_whole : (rest : List ℕ) → drop first text ≡ (b ∷ run) ++ rest → begins is_digit rest ≡ false → Stood text at (number_at text at first)
   behind_whole [] parts stop = whole_read [] parts stop refl
   behind_whole (c ∷ cs) parts stop = point (c == 46) refl where
-    point : (t : Bool) → (c == 46) ≡ t → Stood text at (number_at negative text at first)
+    point : (t : Bool) → (c == 46) ≡ t → Stood text at (number_at text at first)
     point false other = whole_read (c ∷ cs) parts stop other
     point true is_point =
         let r : Run is_digit cs = run_of is_digit cs in
@@ -224,7 +227,7 @@ module _ (negative : Bool) (text : List ℕ) (at first b : ℕ) (run : List ℕ)
         (parts ∙ ap (λ l. (b ∷ run) ++ l) (ap (λ x. x ∷ cs) (eqb-true c 46 is_point) ∙ ap (λ l. 46 ∷ l) r.parts)) r.all r.stop
 
 number_read : (negative : Bool) (text : List ℕ) (at first b : ℕ) (more : List ℕ) → drop first text ≡ b ∷ more → is_digit b ≡ true
-    → drop at text ≡ sign_of negative ++ drop first text → first ≡ at + length (sign_of negative) → Stood text at (number_at negative text at first)
+    → drop at text ≡ sign_of negative ++ drop first text → first ≡ at + length (sign_of negative) → Stood text at (number_at text at first)
 number_read negative text at first b more e digit sign signed =
     let r : Run is_digit more = run_of is_digit more in
     behind_whole negative text at first b r.run (and_from (is_digit b) (list_all is_digit r.run) digit r.all) sign signed r.rest
@@ -236,7 +239,7 @@ pub token_read : (text : List ℕ) (at b : ℕ) (more : List ℕ) → drop at te
 unfolding token_at
 token_read text at b more e =
     let named : is_letter b ≡ true → Stood text at (word_at kinds.Name text at at) = name_read text at b more e in
-    let numbered : is_digit b ≡ true → Stood text at (number_at false text at at) = λ d. number_read false text at at b more e d refl (omega arith) in
+    let numbered : is_digit b ≡ true → Stood text at (number_at text at at) = λ d. number_read false text at at b more e d refl (omega arith) in
     let opened : eqb b 40 ≡ true → Stood text at (sized kinds.Open at 1) = λ h. sign_read text at b more e kinds.Open 40 h refl tt in
     let shut : eqb b 41 ≡ true → Stood text at (sized kinds.Close at 1) = λ h. sign_read text at b more e kinds.Close 41 h refl tt in
     let keyword : eqb b 58 ≡ true → is_letter (slice_index text (at + 1)) ≡ true → Stood text at (word_at kinds.Keyword text at (at + 1)) =
@@ -245,7 +248,7 @@ token_read text at b more e =
     λ h l. sign_read text at b more e kinds.Colon 58 h refl (alone text at b more e is_letter refl l) in
     let variable : eqb b 63 ≡ true → is_letter (slice_index text (at + 1)) ≡ true → Stood text at (word_at kinds.Variable text at (at + 1)) =
     λ h l. marked text at b more e kinds.Variable 63 h l (λ name rest n stop. ((name, n, refl), stop)) in
-    let negative : eqb b 45 ≡ true → is_digit (slice_index text (at + 1)) ≡ true → Stood text at (number_at true text at (at + 1)) =
+    let negative : eqb b 45 ≡ true → is_digit (slice_index text (at + 1)) ≡ true → Stood text at (number_at text at (at + 1)) =
     λ h d. (let g : Grab is_digit text (at + 1) = grab is_digit refl text (at + 1) d in
     number_read true text at (at + 1) g.first g.rest g.parts g.passes (is_byte text at b more e 45 h ∙ ap (λ l. 45 ∷ l) (sym (next text at b more e))) refl) in
     let minus : eqb b 45 ≡ true → is_digit (slice_index text (at + 1)) ≡ false → Stood text at (sized (kinds.Op ops.Minus) at 1) =

@@ -1,8 +1,6 @@
 -- What a contract sees of a token with its bytes, and of a fault.
-use Rattle.std.specs.Prelude.{ℕ, ◌≤◌, Option, Some, None}
+use Rattle.std.specs.Prelude.{ℕ, Option, Some, None}
 use Rattle.plus_tokens.specs.Lowered.{lowered}
-use Rattle.plus_tokens.specs.declared.token.Kind.{Kind}
-use Rattle.plus_tokens.specs.declared.token.Kind.TheVariants as kinds
 use Rattle.plus_tokens.specs.declared.token.LexFault.{LexFault}
 use Rattle.plus_tokens.specs.declared.token.LexFault.TheVariants.{BadByte, TooLong}
 use Rattle.plus_tokens.specs.declared.stream.Seen.{Seen}
@@ -14,11 +12,6 @@ seen s = record { kind = s.kind; word = lowered s.word.now; span = s.span }
 abbrev pub seen_or_none : Option Seen → Option Piece
 seen_or_none None = None
 seen_or_none (Some s) = Some (seen s)
-
--- no Number has more than 9 digits behind its point
-abbrev pub HasFewPlaces : Kind → Type 0
-HasFewPlaces (kinds.Number negative digits places) = places ≤ 9
-HasFewPlaces _ = Unit {0}
 
 -- the byte that fits no token, or with which one that is too long begins
 abbrev pub byte_of : LexFault → ℕ

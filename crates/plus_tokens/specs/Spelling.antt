@@ -94,7 +94,7 @@ Spells Colon bytes = bytes ≡ 58 ∷ []
 Spells Name bytes = IsName bytes
 Spells Variable bytes = (name : List ℕ) × IsName name × (bytes ≡ 63 ∷ name)
 Spells Keyword bytes = (name : List ℕ) × IsName name × (bytes ≡ 58 ∷ name)
-Spells (Number negative digits places) bytes = IsNumber negative digits places bytes
+Spells Number bytes = (negative : Bool) × (digits : ℕ) × (places : ℕ) × IsNumber negative digits places bytes
 Spells Clock bytes = (t : ℕ) × (is_letter_of 116 t ≡ true) × (bytes ≡ 35 ∷ t ∷ [])
 Spells End bytes = (e n d : ℕ) × (is_letter_of 101 e ≡ true) × (is_letter_of 110 n ≡ true) × (is_letter_of 100 d ≡ true)
     × (bytes ≡ 64 ∷ e ∷ n ∷ d ∷ [])
@@ -114,7 +114,7 @@ Ends Colon rest = begins is_letter rest ≡ false
 Ends Name rest = begins is_name_byte rest ≡ false
 Ends Variable rest = begins is_name_byte rest ≡ false
 Ends Keyword rest = begins is_name_byte rest ≡ false
-Ends (Number negative digits places) rest = (rest ≡ []) ⊎ (begins ends_number rest ≡ true)
+Ends Number rest = (rest ≡ []) ⊎ (begins ends_number rest ≡ true)
 Ends Clock rest = begins is_name_byte rest ≡ false
 Ends End rest = begins is_name_byte rest ≡ false
 Ends (kinds.Op op) rest = EndsOp op rest

@@ -6,10 +6,12 @@ ghost use Rattle.plus_tokens.specs.Coming.{comes, first_of, is_done, rest_of, re
 ghost use Rattle.plus_tokens.specs.First.{first_token};
 ghost use Rattle.plus_tokens.specs.Items.{Stands, bad, items_at, items_of, piece_of, tok};
 ghost use Rattle.plus_tokens.specs.Lowered.{lowered};
-ghost use Rattle.plus_tokens.specs.Seen.{HasFewPlaces, byte_of, seen, seen_or_none};
+ghost use Rattle.plus_tokens.specs.Numeral.{piece_numeral};
+ghost use Rattle.plus_tokens.specs.Seen.{byte_of, seen, seen_or_none};
 
 use crate::ahead::{close_ahead, colon_ahead, name_ahead, none_ahead, open_ahead};
 use crate::lexer::next_token;
+use crate::numeral::{Numeral, numeral_of};
 use crate::span::Span;
 use crate::token::{Kind, LexFault, Token};
 use std::marker::Model;
@@ -20,6 +22,20 @@ pub struct Seen<'a> {
     pub kind: Kind,
     pub word: &'a [u8],
     pub span: Span,
+}
+
+impl<'a> Seen<'a> {
+    /// The number that the token spells, where it spells one.
+    #[inline(always)]
+    pub fn numeral(&self) -> Option<Numeral>
+        ensures is { result ≡ piece_numeral (seen self.now) }
+        ensures few { IfSome result (λ n. n.places ≤ 9) }
+    {
+        match self.kind {
+            Kind::Number => numeral_of(self.word),
+            _ => None,
+        }
+    }
 }
 
 /// Gives the tokens of a text one after the other. Contracts see it as the list of the tokens that
@@ -57,7 +73,6 @@ impl<'a> Tokens<'a> {
         ensures leaves { self.new ≡ rest_of self.old }
         ensures shorter { IfOk result (λ o. IfSome o (λ _. length self.new < length self.old)) }
         ensures some { IfOk result (λ o. IfSome o (λ t. 0 < length t.word.now)) }
-        ensures few { IfOk result (λ o. IfSome o (λ t. HasFewPlaces t.kind)) }
         ensures within { IfErr result (λ f. byte_of f + 1 < 2 ^ 64) }
     {
         self.next_within(true)
@@ -65,13 +80,12 @@ impl<'a> Tokens<'a> {
 
     /// The same, but an opening parenthesis is read only where one may be opened.
     #[inline(always)]
-    #[tactic(auto, using(crate::proofs::Items::at_token, crate::proofs::Items::at_none, crate::proofs::Items::at_fault, crate::proofs::Items::stands, crate::proofs::Sound::few_places, crate::proofs::Sound::fault_within))]
+    #[tactic(auto, using(crate::proofs::Items::at_token, crate::proofs::Items::at_none, crate::proofs::Items::at_fault, crate::proofs::Items::stands, crate::proofs::Sound::fault_within))]
     pub fn next_within(&mut self, may_open: bool) -> Result<Option<Seen<'a>>, LexFault>
         ensures gives { MatchResult result
             (λ o. first_of self.old ≡ Ok (seen_or_none o)) (λ f. first_of self.old ≡ Err f) }
         ensures leaves { self.new ≡ rest_within may_open self.old }
         ensures some { IfOk result (λ o. IfSome o (λ t. 0 < length t.word.now)) }
-        ensures few { IfOk result (λ o. IfSome o (λ t. HasFewPlaces t.kind)) }
         ensures within { IfErr result (λ f. byte_of f + 1 < 2 ^ 64) }
     {
         match next_token(self.text, self.at) {
@@ -87,7 +101,7 @@ impl<'a> Tokens<'a> {
     }
 
     /// The same, where nothing is read.
-    #[tactic(auto, using(crate::proofs::Items::at_token, crate::proofs::Items::at_none, crate::proofs::Items::at_fault, crate::proofs::Items::stands, crate::proofs::Sound::few_places, crate::proofs::Sound::fault_within))]
+    #[tactic(auto, using(crate::proofs::Items::at_token, crate::proofs::Items::at_none, crate::proofs::Items::at_fault, crate::proofs::Items::stands, crate::proofs::Sound::fault_within))]
     pub fn peek(&self) -> Result<Option<Seen<'a>>, LexFault>
         ensures gives { MatchResult result
             (λ o. first_of self.now ≡ Ok (seen_or_none o)) (λ f. first_of self.now ≡ Err f) }
