@@ -3,7 +3,7 @@ pub mod Frame
 pub mod Unwritten
 pub mod Unmoved
 pub mod Unchanged
-pub mod Pushing
+pub mod Rows
 pub mod Naming
 pub mod Reading
 pub mod Listing

@@ -91,11 +91,14 @@ inside [] k c e = cc
 inside (d ∷ cs) zero c e = omega arith
 inside (d ∷ cs) (suc k) c e = let h = inside cs k c e in omega arith
 
-pub lists_all : (cs : List Condition) (n : ℕ) (t : Readers) (atom_count fluent_count : ℕ) → n ≡ length cs → Lists n cs t.atoms t.fluents atom_count fluent_count → Covers cs t × AreBelow (length cs) t
-lists_all cs n t atom_count fluent_count e l = (
-  λ k c f. l.covers k c (subst (λ m. k < m) (sym e) (inside cs k c f)) f,
-  subst (λ m. AreBelow m t) e (record { by_atoms = l.atoms_below; by_fluents = l.fluents_below }),
-)
+pub lists_all : (cs : List Condition) (n : ℕ) (t : Readers) (atoms fluents : List (List ℕ)) (atom_count fluent_count : ℕ) → n ≡ length cs → t.atoms ≡ atoms → t.fluents ≡ fluents → Lists n cs atoms fluents atom_count fluent_count → Covers cs t × AreBelow (length cs) t
+lists_all cs n t atoms fluents atom_count fluent_count e a f m =
+    let l : Lists n cs t.atoms t.fluents atom_count fluent_count =
+    subst (λ (rows : List (List ℕ)). Lists n cs rows t.fluents atom_count fluent_count) (sym a)
+    (subst (λ (rows : List (List ℕ)). Lists n cs atoms rows atom_count fluent_count) (sym f) m) in (
+      λ k c g. l.covers k c (subst (λ m. k < m) (sym e) (inside cs k c g)) g,
+      subst (λ m. AreBelow m t) e (record { by_atoms = l.atoms_below; by_fluents = l.fluents_below }),
+    )
 
 pub at_place : {A : Type 0} (P : A → Type 0) (xs : List A) (k : ℕ) (x : A) → All P xs → slice_get xs k ≡ Some x → P x
 at_place P [] k x a e = cc

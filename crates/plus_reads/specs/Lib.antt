@@ -1,5 +1,6 @@
 pub mod Reads
 pub mod Writes
+pub mod Rows
 pub mod Tables
 pub mod Listing
 pub mod Indexing

@@ -5,7 +5,7 @@ ghost use Rattle.plus_reads.specs.Tables.{AreBelow, Covers};
 ghost use Rattle.plus_reads.specs.Listing.{AddsReader};
 
 use crate::names::{Names, add_names};
-use crate::table::Table;
+use crate::table::{Entries, Table};
 use plus_number::exact::Exact;
 use plus_state::problem::Ground;
 use plus_state::walk::Conditional;
@@ -20,7 +20,7 @@ pub struct Readers {
 
 // The member with this number reads all these keys.
 #[inline(always)]
-fn add_all(table: &mut Table, keys: &[u32], reader: u32) -> Result<(), AllocError>
+fn add_all(table: &mut Entries, keys: &[u32], reader: u32) -> Result<(), AllocError>
     requires { All (λ k. k < length table.old) keys.now }
     ensures { IfOk result (λ _. AddsReader table.old table.new keys.now reader) }
 {
@@ -38,8 +38,8 @@ pub fn readers_of<Q: Exact, I: Conditional>(
     ensures covers { IfOk result (Covers (I.conditions (problem_of Q.value ground.now))) }
     ensures below { IfOk result (AreBelow (length (I.conditions (problem_of Q.value ground.now)))) }
 {
-    let mut atoms = Table::new(alloc, ground.atoms.len() as u32)?;
-    let mut fluents = Table::new(alloc, ground.fluents.len() as u32)?;
+    let mut atoms = Entries::new(alloc, ground.atoms.len() as u32);
+    let mut fluents = Entries::new(alloc, ground.fluents.len() as u32);
     let mut names = Names::none(alloc);
     'each: for number in 0..I::count(ground) {
         names.clear();
@@ -47,5 +47,8 @@ pub fn readers_of<Q: Exact, I: Conditional>(
         add_all(&mut atoms, &names.atoms, number)?;
         add_all(&mut fluents, &names.fluents, number)?;
     }
-    Ok(Readers { atoms, fluents })
+    Ok(Readers {
+        atoms: atoms.table(alloc)?,
+        fluents: fluents.table(alloc)?,
+    })
 }

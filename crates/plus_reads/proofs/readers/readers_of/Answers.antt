@@ -40,4 +40,4 @@ pub returns-clause-covers : goal.returns-clause-covers
 returns-clause-covers g c =
     let cs = g.I.Conditional.conditions (problem_of g.Q.Exact.value c.args.ground.now) in
     let n : c.each.number ≡ length cs = omega (arith, c.count-number-end.ensures) in
-    (lists_all cs c.each.number (record { atoms = c.each.atoms; fluents = c.each.fluents }) _ _ n c.each.invariant).0
+    (lists_all cs c.each.number (record { atoms = c.in_ok-table.field-0; fluents = c.in_ok-table-2.field-0 }) c.each.atoms c.each.fluents _ _ n c.in_ok-table.ensures c.in_ok-table-2.ensures c.each.invariant).0
