@@ -9,14 +9,46 @@ use std::alloc::{AllocError, Global};
 use std::marker::Model;
 
 // A name is sought one by one among so many, and by its hash among more.
-const FEW: usize = 4;
+const FEW: usize = 8;
 
-// Whether two names are the same. Most differ in their lengths already.
-#[inline(always)]
-fn is_name(name: &[u8], other: &[u8]) -> bool
+// The comparison of slices is made for longer names than these.
+const SHORT: usize = 16;
+
+// Whether the names are the same, byte for byte, up to the first that differs.
+fn same_bytes(name: &[u8], other: &[u8]) -> bool
     ensures { result ≡ bytes_eq name.now other.now }
 {
-    name.len() == other.len() && name == other
+    match name {
+        [] => other.is_empty(),
+        [a, b, c, d, name @ ..] => match other {
+            [e, f, g, h, other @ ..] => {
+                *a == *e && *b == *f && *c == *g && *d == *h && same_bytes(name, other)
+            }
+            _ => false,
+        },
+        [a, name @ ..] => match other {
+            [] => false,
+            [b, other @ ..] => *a == *b && same_bytes(name, other),
+        },
+    }
+}
+
+// Whether two names are the same. Short ones are seen through sooner by this than by `==`.
+fn same(name: &[u8], other: &[u8]) -> bool
+    ensures { result ≡ bytes_eq name.now other.now }
+{
+    if name.len() > SHORT {
+        return name == other;
+    }
+    same_bytes(name, other)
+}
+
+/// Whether two names are the same. Most differ in their lengths already.
+#[inline(always)]
+pub(crate) fn is_name(name: &[u8], other: &[u8]) -> bool
+    ensures { result ≡ bytes_eq name.now other.now }
+{
+    name.len() == other.len() && same(name, other)
 }
 
 /// Names without repeats, in the order in which they were added.

@@ -10,7 +10,7 @@ ghost use Rattle.plus_types.specs.Ranks.{AreSuspects};
 use crate::faults::{File, TypeFault, Wrong};
 use crate::kinds::Kinds;
 use crate::loops::{finds_loop, suspects};
-use crate::names::Names;
+use crate::names::{Names, is_name};
 use plus_tree::TypedName;
 use std::alloc::{AllocError, Global};
 use std::marker::Model;
@@ -58,7 +58,7 @@ impl Types {
     pub fn is_under(&self, low: &[u8], high: &[u8]) -> bool
         ensures { result ≡ is_under self.now low.now high.now }
     {
-        if high == low {
+        if is_name(high, low) {
             return true;
         }
         self.is_above(low, high)
