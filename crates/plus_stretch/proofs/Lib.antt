@@ -8,6 +8,7 @@ pub mod Places
 pub mod SoonLemmas
 pub mod Thinned
 pub mod Marks
+pub mod LeastLemmas
 pub mod Collecting
 pub mod Marking
 pub mod HereLemmas
@@ -18,3 +19,4 @@ pub mod SearchLemmas
 pub mod Skipping
 pub mod LookedLemmas
 pub mod WalkLemmas
+pub mod Firsts

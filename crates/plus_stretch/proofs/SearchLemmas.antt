@@ -1,6 +1,6 @@
 -- From root to root: how far nothing begins, and what each end of the search gives.
 use Rattle.std.proofs.Common.{◌≡◌, ℕ, List, [], ◌∷◌, ◌++◌, map, refl, ap, sym, subst, ◌∙◌, inl, inr, pos}
-use Rattle.std.specs.Prelude.{Option, Result, Ok, Err}
+use Rattle.std.specs.Prelude.{Option, Some, None, Result, Ok, Err}
 use Rattle.plus_fraction.specs.Fraction.{Fraction, whole, ◌+ℚ◌, ◌-ℚ◌, ◌<ℚ◌, ◌≤ℚ◌}
 use Rattle.plus_fraction.proofs.Ring.{var, num, ◌⊕◌, ◌⊖◌}
 use Rattle.plus_fraction.proofs.FractionRing.{ringℚ}
@@ -28,9 +28,9 @@ use Rattle.plus_stretch.specs.Crossings.{all_roots, rising_below, Among}
 use Rattle.plus_stretch.specs.StretchTests.{after_tests, root_tests, crossing_tests, walk_tests, with_rates, stretch_tests, if_none}
 use Rattle.plus_stretch.specs.Laws.{AreLeft}
 use Rattle.plus_stretch.specs.After.{first_after, NoneHoldsAfter, IsNoneSoon, IsSoon}
-use Rattle.plus_stretch.specs.Told.{HaltTold, Never}
+use Rattle.plus_stretch.specs.Told.{Told, HaltTold, Never}
 use Rattle.plus_stretch.specs.Here.{EndsHere, IsQuietHere, MomentlessHere, IsAlong}
-use Rattle.plus_stretch.specs.Arrives.{ComesBy, BeginsThere, stretch_view, EndsBy, Arrives, WalkTold, StretchTold}
+use Rattle.plus_stretch.specs.Arrives.{ComesBy, BeginsThere, CrossingTold, stretch_view, EndsBy, Arrives, IsAtEnd, IsQuietAtFirst, FirstTold, WalkTold, StretchTold}
 use Rattle.plus_stretch.proofs.Between.{nothing_changes_between}
 use Rattle.plus_stretch.proofs.Left.{search_steps}
 use Rattle.plus_stretch.proofs.SoonLemmas.{after_split}
@@ -218,6 +218,17 @@ module _ (P : Problem) (u t : Fraction) (s : State) (R : List ℕ) (rs : List Fr
     halt_end (halts.NoFirstMoment e time) h x = absurd x.1
     halt_end (halts.Limit l) h x = h.stop _ x
     halt_end halts.Memory h x = tt
+
+    -- the end, where no root is left
+    pub end_tells : (answer : Result (Arrival Q) (Halt Q)) → t <ℚ u → Walking fits P t s R rs len roots [] → Told v fits (map asks (moved_nodes s.fluents rs len)) (IsAtEnd v u s rs len) Never answer → WalkTold v fits P u t s R rs len roots answer
+    end_tells (Ok a) later h x = walking_end a later h x.0 x.1.time x.1.end x.1.comes
+    end_tells (Err halt) later h x = halt_end halt h x
+
+    -- the first root
+    pub first_tells : (b : Fraction) (left : List Fraction) → roots ≡ b ∷ left → Walking fits P t s R rs len roots (b ∷ left) → (answer : Result (Option (Arrival Q)) (Halt Q)) → CrossingTold v fits P t s R rs b answer → FirstTold v fits P u t s R rs len roots answer
+    first_tells b left e h (Ok None) x = subst (IsQuietAtFirst fits P t s R rs) (sym e) x
+    first_tells b left e h (Ok (Some a)) x = walking_arrives b left h a x.0 x.1
+    first_tells b left e h (Err halt) x = walking_halt b left h halt x
 
   -- ---- all tests of a stretch, in parts
   abbrev walked : List Test

@@ -127,7 +127,7 @@ from_insert : (b : Bool) (z x : Fraction) (xs ys : List Fraction) → (Among z y
 from_insert true z x xs ys f h = elim (insert_from z x ys h) [ inl e ↦ inl e | inr i ↦ inr (f i) ]
 from_insert false z x xs ys f h = inr (f h)
 
-rising_from : (len z : Fraction) (xs : List Fraction) → Among z (rising_below len xs) → Among z xs
+pub rising_from : (len z : Fraction) (xs : List Fraction) → Among z (rising_below len xs) → Among z xs
 rising_from len z [] h = h
 rising_from len z (x ∷ xs) h = from_insert (is_below x len) z x xs (rising_below len xs) (rising_from len z xs) h
 

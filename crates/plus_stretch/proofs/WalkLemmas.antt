@@ -31,6 +31,23 @@ pub record Stepping (fits : Fraction → Type 0) (P : Problem) (t : Fraction) (s
 pub stepping_start : (fits : Fraction → Type 0) (P : Problem) (t : Fraction) (s : State) (R : List ℕ) (rs : List Fraction) (len : Fraction) (roots : List Fraction) (whole : List (Fraction × Whose)) → Walking fits P t s R rs len roots roots → AreAscending (roots_of whole) → Stepping fits P t s R rs len roots roots whole whole
 stepping_start fits P t s R rs len roots whole w a = record { walking = w; marks = record { ascending = a; all = λ x w l i. i; of = λ x w i. i } }
 
+-- where all the marks at the next root are at hand, their owners are all that has to be looked at
+module _ (fits : Fraction → Type 0) (P : Problem) (t : Fraction) (s : State) (R : List ℕ) (rs : List Fraction) (len : Fraction) (roots : List Fraction) (whole : List (Fraction × Whose)) (linear : AllPass fits (root_tests P s rs)) (b : Fraction) (left : List Fraction) (h : Walking fits P t s R rs len roots (b ∷ left)) (here : List (Fraction × Whose)) (f : (w : Whose) → IsMarked b w whole → IsMarked b w here) where
+  gone : (a b : Bool) → (a ≡ true → b ≡ true) → b ≡ false → a ≡ false
+  gone a b f e = false_unless a b f e
+
+  truths : (c : Bool) → c ≡ true → c ≡ false → ⊥
+  truths c e d = cc
+
+  pub known_by_marks : (listed_events listed_processes : List ℕ) → AreAllMarked P s rs whole → OthersSimple (event_conditions P) rs listed_events → OthersSimple (process_conditions P) rs listed_processes
+      → KnownFor fits P R (moved s rs b) rs (listed_events ++ owning_events here) (listed_processes ++ owning_processes here)
+  known_by_marks les lps m se sp events processes e p =
+      known_there fits P t s R rs len roots linear b left h events processes
+      (λ k c g d. se k c g (gone _ _ (λ i. (e k).1 (in_left les (owning_events here) k i)) d))
+      (λ k c g d. sp k c g (gone _ _ (λ i. (p k).1 (in_left lps (owning_processes here) k i)) d))
+      (λ k x g d i. truths _ ((e k).1 (in_right les (owning_events here) k (event_owns b k here (f (event k) (m.events k x b g i))))) d)
+      (λ k x g d i. truths _ ((p k).1 (in_right lps (owning_processes here) k (process_owns b k here (f (process k) (m.processes k x b g i))))) d)
+
 module _ (fits : Fraction → Type 0) (P : Problem) (t : Fraction) (s : State) (R : List ℕ) (rs : List Fraction) (len : Fraction) (roots : List Fraction) (whole rest : List (Fraction × Whose)) (linear : AllPass fits (root_tests P s rs)) (b : Fraction) (left : List Fraction) (h : Stepping fits P t s R rs len roots (b ∷ left) whole rest) (n : ℕ) (u : UpTo b (roots_of rest) n) where
   above : h.walking.at <ℚ b
   above = h.walking.are.rise.0
@@ -39,20 +56,10 @@ module _ (fits : Fraction → Type 0) (P : Problem) (t : Fraction) (s : State) (
   pub owners_here : AreOwners P whole → AreOwners P (take n rest)
   owners_here o x w i = o x w (h.marks.of x w (from_first x w rest n i))
 
-  gone : (a b : Bool) → (a ≡ true → b ≡ true) → b ≡ false → a ≡ false
-  gone a b f e = false_unless a b f e
-
-  truths : (c : Bool) → c ≡ true → c ≡ false → ⊥
-  truths c e d = cc
-
   pub known_by_owners : (listed_events listed_processes : List ℕ) → AreAllMarked P s rs whole → OthersSimple (event_conditions P) rs listed_events → OthersSimple (process_conditions P) rs listed_processes
       → KnownFor fits P R (moved s rs b) rs (listed_events ++ owning_events (take n rest)) (listed_processes ++ owning_processes (take n rest))
-  known_by_owners les lps m se sp events processes e p =
-      known_there fits P t s R rs len roots linear b left h.walking events processes
-      (λ k c g f. se k c g (gone _ _ (λ i. (e k).1 (in_left les (owning_events (take n rest)) k i)) f))
-      (λ k c g f. sp k c g (gone _ _ (λ i. (p k).1 (in_left lps (owning_processes (take n rest)) k i)) f))
-      (λ k x g f i. truths _ ((e k).1 (in_right les (owning_events (take n rest)) k (event_owns b k (take n rest) (marks_here b (event k) rest n u h.marks.ascending (h.marks.all b (event k) above (m.events k x b g i)))))) f)
-      (λ k x g f i. truths _ ((p k).1 (in_right lps (owning_processes (take n rest)) k (process_owns b k (take n rest) (marks_here b (process k) rest n u h.marks.ascending (h.marks.all b (process k) above (m.processes k x b g i)))))) f)
+  known_by_owners les lps m se sp =
+      known_by_marks fits P t s R rs len roots whole linear b left h.walking (take n rest) (λ w i. marks_here b w rest n u h.marks.ascending (h.marks.all b w above i)) les lps m se sp
 
   left_behind : MarksLeft b (drop n rest) whole
   left_behind = record {

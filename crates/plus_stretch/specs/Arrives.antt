@@ -1,5 +1,5 @@
 -- Where a running set comes to.
-use Rattle.std.specs.Prelude.{◌≡◌, ℕ, List, [], Option, Some, None, Result}
+use Rattle.std.specs.Prelude.{◌≡◌, ℕ, List, [], ◌∷◌, Option, Some, None, Result, Ok, Err}
 use Rattle.plus_fraction.specs.Fraction.{Fraction, ◌+ℚ◌, ◌<ℚ◌}
 use Rattle.plus_model.specs.Terms.{State, Problem}
 use Rattle.plus_model.specs.Running.{moved}
@@ -13,6 +13,7 @@ use Rattle.plus_stretch.specs.declared.arrival.Arrival.{Arrival}
 use Rattle.plus_stretch.specs.declared.halt.Halt.{Halt}
 use Rattle.plus_stretch.specs.Here.{EndsHere, IsQuietHere, MomentlessHere}
 use Rattle.plus_stretch.specs.StretchTests.{crossing_tests, walk_tests, stretch_tests}
+use Rattle.plus_stretch.specs.Tests.{AllPass}
 use Rattle.plus_stretch.specs.Told.{Told}
 
 -- the changes lead to the state after r units of time
@@ -58,6 +59,24 @@ pub record Arrives {Q : Type 0} (value : Q → Fraction) (P : Problem) (u t : Fr
 abbrev pub WalkTold : {Q : Type 0} → (Q → Fraction) → (Fraction → Type 0) → Problem → Fraction → Fraction → State → List ℕ → List Fraction → Fraction → List Fraction → Result (Arrival Q) (Halt Q) → Type 0
 WalkTold value fits P u t s R rs len roots answer =
     Told value fits (walk_tests P t s R rs len roots) (Arrives value P u t s R rs) (IsMomentless P u (stretch_view t s R)) answer
+
+-- nothing begins at the first of these roots, and what is asked there passes
+abbrev pub IsQuietAtFirst : (Fraction → Type 0) → Problem → Fraction → State → List ℕ → List Fraction → List Fraction → Type 0
+IsQuietAtFirst fits P t s R rs [] = Unit {0}
+IsQuietAtFirst fits P t s R rs (r ∷ roots) = AllPass fits (crossing_tests P t s R rs r []) × IsQuietHere P (moved s rs r) R rs
+
+-- at the moment u, after so much time
+pub record IsAtEnd {Q : Type 0} (value : Q → Fraction) (u : Fraction) (s : State) (rs : List Fraction) (len : Fraction) (a : Arrival Q) : Type 0 where
+  pub time : value a.time ≡ u
+  pub end : a.end ≡ Until
+  pub comes : ComesBy s rs len a.changes
+
+-- what it tells to try the first of these roots alone, or the end where there is none: nothing begins there, or this is where
+-- the search over all of them ends
+abbrev pub FirstTold : {Q : Type 0} → (Q → Fraction) → (Fraction → Type 0) → Problem → Fraction → Fraction → State → List ℕ → List Fraction → Fraction → List Fraction → Result (Option (Arrival Q)) (Halt Q) → Type 0
+FirstTold value fits P u t s R rs len roots (Ok None) = IsQuietAtFirst fits P t s R rs roots
+FirstTold value fits P u t s R rs len roots (Ok (Some a)) = WalkTold value fits P u t s R rs len roots (Ok a)
+FirstTold value fits P u t s R rs len roots (Err h) = WalkTold value fits P u t s R rs len roots (Err h)
 
 -- what a stretch from the time t up to the moment u tells
 abbrev pub StretchTold : {Q : Type 0} → (Q → Fraction) → (Fraction → Type 0) → Problem → Fraction → Fraction → State → List ℕ → List Fraction → Result (Arrival Q) (Halt Q) → Type 0

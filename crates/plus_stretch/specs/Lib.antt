@@ -10,4 +10,5 @@ pub mod Here
 pub mod Arrives
 pub mod Among
 pub mod Marked
+pub mod Least
 pub mod Skips

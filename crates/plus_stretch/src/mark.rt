@@ -18,6 +18,7 @@ pub struct Mark<Q> {
 pub struct Room<Q: Exact> {
     pub roots: Vec<Q>,
     pub marks: Vec<Mark<Q>>,
+    pub here: Vec<Mark<Q>>,
     pub different: Vec<Q>,
     pub everywhere: Looked,
     pub looking: Looking,
@@ -29,6 +30,7 @@ impl<Q: Exact> Room<Q> {
         Room {
             roots: Vec::new(alloc),
             marks: Vec::new(alloc),
+            here: Vec::new(alloc),
             different: Vec::new(alloc),
             everywhere: Looked::new(alloc),
             looking: Looking::new(alloc),

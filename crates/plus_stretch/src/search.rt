@@ -1,5 +1,5 @@
 //! From root to root along a running set.
-ghost use Rattle.std.specs.Prelude.{◌≡◌, ◌≤◌, [], ◌∷◌, ◌++◌, Ok, length, map, drop, IfOk, IfSome, pos};
+ghost use Rattle.std.specs.Prelude.{◌≡◌, ◌≤◌, true, [], ◌∷◌, ◌++◌, Ok, length, map, drop, IfOk, IfSome, pos};
 ghost use Rattle.plus_fraction.specs.Fraction.{whole, ◌-ℚ◌, ◌<ℚ◌};
 ghost use Rattle.plus_model.specs.Running.{rates as rates_of, moved, GoesOn};
 ghost use Rattle.plus_state.specs.View.{problem_of};
@@ -8,6 +8,7 @@ ghost use Rattle.plus_state.specs.Asked.{node};
 ghost use Rattle.plus_state.specs.Numbers.{event_numbers};
 ghost use Rattle.plus_state.specs.Walk.{event_conditions, process_conditions, OthersFalse};
 ghost use Rattle.plus_crossing.specs.Motions.{Extends};
+ghost use Rattle.plus_crossing.specs.Moves.{moved_nodes};
 ghost use Rattle.plus_still.specs.Others.{OthersStill};
 ghost use Rattle.plus_settle.specs.Members.{process_numbers, AreMembers};
 ghost use Rattle.plus_stretch.specs.Tests.{asks, AllPass};
@@ -16,15 +17,17 @@ ghost use Rattle.plus_stretch.specs.Laws.{AreLeft};
 ghost use Rattle.plus_stretch.specs.After.{NoneHoldsAfter};
 ghost use Rattle.plus_stretch.specs.Told.{Told, Never};
 ghost use Rattle.plus_stretch.specs.Here.{IsAlong};
-ghost use Rattle.plus_stretch.specs.Arrives.{IsArrived, CrossingTold, WalkTold, StretchTold};
+ghost use Rattle.plus_stretch.specs.Crossings.{rising_below};
+ghost use Rattle.plus_stretch.specs.Arrives.{IsArrived, CrossingTold, IsQuietAtFirst, IsAtEnd, FirstTold, WalkTold, StretchTold};
 ghost use Rattle.plus_stretch.specs.Among.{KnownFor};
-ghost use Rattle.plus_stretch.specs.Marked.{marks_of, roots_of, owning_events, owning_processes, AreOwners, AreAllMarked, AreAscending};
+ghost use Rattle.plus_stretch.specs.Marked.{marks_of, roots_of, owning_events, owning_processes, AreOwners, AreAllMarked, AllMarked, AreAscending};
 ghost use Rattle.plus_stretch.specs.Skips.{OthersSimple};
 
 use crate::arrival::{Arrival, End};
 use crate::crossing::{at_root, move_ahead};
 use crate::everyone::everyone;
 use crate::halt::Halt;
+use crate::least::least_below;
 use crate::listing::roots;
 use crate::looked::{Looked, Looking, everywhere, looked_at};
 use crate::mark::{Mark, Room};
@@ -99,6 +102,71 @@ fn cross<Q: Exact>(
     }
 }
 
+// The same behind the first root, where it is known that nothing begins.
+fn cross_behind<Q: Exact>(
+    alloc: Global,
+    ground: &Ground<Q>,
+    state: &State<Q>,
+    ahead: &mut State<Q>,
+    running: &Running<Q>,
+    time: Q,
+    root: Q,
+    marks: &[Mark<Q>],
+    everywhere: &Looked,
+    looking: &mut Looking,
+    extent: Option<u64>,
+    is_first: bool,
+) -> Result<Option<Arrival<Q>>, Halt<Q>>
+    requires state { StateFits (length (ground.now.atoms.items)) (length (ground.now.fluents.items)) state.now }
+    requires members { AreMembers (length (ground.now.processes.items)) (process_numbers running.now.members.items) }
+    requires rates { length (running.now.rates) ≡ length (state.now.fluents) }
+    requires along { IsAlong state.now running.now.rates ahead.old }
+    requires owners { AreOwners (problem_of Q.value ground.now) (marks_of Q.value marks.now) }
+    requires events { AreMembers (length (ground.now.events.items)) (event_numbers everywhere.now.events.items) }
+    requires processes { AreMembers (length (ground.now.processes.items)) (process_numbers everywhere.now.processes.items) }
+    requires extent { IfSome extent (Extends state.now.fluents running.now.rates) }
+    requires others { KnownFor Q.fits (problem_of Q.value ground.now) (process_numbers running.now.members.items) (moved state.now running.now.rates (Q.value root)) running.now.rates
+        (event_numbers everywhere.now.events.items ++ owning_events (marks_of Q.value marks.now))
+        (process_numbers everywhere.now.processes.items ++ owning_processes (marks_of Q.value marks.now)) }
+    requires quiet { is_first ≡ true → IsQuietAtFirst Q.fits (problem_of Q.value ground.now) (Q.value time) state.now (process_numbers running.now.members.items) running.now.rates (Q.value root ∷ []) }
+    ensures told { CrossingTold Q.value Q.fits (problem_of Q.value ground.now) (Q.value time) state.now (process_numbers running.now.members.items) running.now.rates (Q.value root) result }
+    ensures along { IsAlong state.now running.now.rates ahead.new }
+    ensures arrived { IfOk result (λ o. IfSome o (IsArrived state.now ahead.new)) }
+{
+    if is_first {
+        return Ok(None);
+    }
+    cross(
+        alloc, ground, state, ahead, running, time, root, marks, everywhere, looking, extent,
+    )
+}
+
+// What is reached at the end, so much time later, where nothing begins before it.
+fn finish<Q: Exact>(
+    alloc: Global,
+    state: &State<Q>,
+    ahead: &mut State<Q>,
+    rates: &Rates<Q>,
+    until: Q,
+    delay: Q,
+) -> Result<Arrival<Q>, Halt<Q>>
+    requires rates { length rates.now ≡ length (state.now.fluents) }
+    requires along { IsAlong state.now rates.now ahead.old }
+    ensures told { Told Q.value Q.fits (map asks (moved_nodes (state.now.fluents) rates.now (Q.value delay)))
+        (IsAtEnd Q.value (Q.value until) state.now rates.now (Q.value delay)) Never result }
+    ensures along { IsAlong state.now rates.now ahead.new }
+    ensures arrived { IfOk result (IsArrived state.now ahead.new) }
+{
+    match move_ahead(alloc, state, ahead, rates, delay) {
+        Err(halt) => Err(halt),
+        Ok(changes) => Ok(Arrival {
+            time: until,
+            changes,
+            end: End::Until,
+        }),
+    }
+}
+
 // The marks behind so many.
 fn behind<Q: Exact>(marks: &[Mark<Q>], count: usize) -> &[Mark<Q>]
     requires { count ≤ length marks.now }
@@ -145,8 +213,52 @@ fn extent_behind<Q: Exact>(
     }
 }
 
-// From one of these roots to the next, up to the first at which something begins, or to the end. At each only the owners of the
-// marks there are looked at, and those whose conditions are not simple.
+// What happens at the least of the roots that are marked, or at the end of the span where none comes before it.
+fn first<Q: Exact>(
+    alloc: Global,
+    ground: &Ground<Q>,
+    state: &State<Q>,
+    ahead: &mut State<Q>,
+    running: &Running<Q>,
+    span: Span<Q>,
+    marks: &[Mark<Q>],
+    here: &mut Vec<Mark<Q>>,
+    everywhere: &Looked,
+    looking: &mut Looking,
+) -> Result<Option<Arrival<Q>>, Halt<Q>>
+    requires state { StateFits (length (ground.now.atoms.items)) (length (ground.now.fluents.items)) state.now }
+    requires members { AreMembers (length (ground.now.processes.items)) (process_numbers running.now.members.items) }
+    requires size { length (running.now.rates) ≡ length (state.now.fluents) }
+    requires rates { rates_of (problem_of Q.value ground.now) state.now (process_numbers running.now.members.items) ≡ Ok running.now.rates }
+    requires on { GoesOn (problem_of Q.value ground.now) state.now running.now.rates (process_numbers running.now.members.items) }
+    requires none { NoneHoldsAfter (problem_of Q.value ground.now) state.now running.now.rates }
+    requires linear { AllPass Q.fits (root_tests (problem_of Q.value ground.now) state.now running.now.rates) }
+    requires later { Q.value span.from <ℚ Q.value span.until }
+    requires length { Q.value span.length ≡ Q.value span.until -ℚ Q.value span.from }
+    requires along { IsAlong state.now running.now.rates ahead.old }
+    requires marked { AllMarked (problem_of Q.value ground.now) state.now running.now.rates (marks_of Q.value marks.now) }
+    requires events { AreMembers (length (ground.now.events.items)) (event_numbers everywhere.now.events.items) }
+    requires processes { AreMembers (length (ground.now.processes.items)) (process_numbers everywhere.now.processes.items) }
+    requires simple_events { OthersSimple (event_conditions (problem_of Q.value ground.now)) running.now.rates (event_numbers everywhere.now.events.items) }
+    requires simple_processes { OthersSimple (process_conditions (problem_of Q.value ground.now)) running.now.rates (process_numbers everywhere.now.processes.items) }
+    ensures told { FirstTold Q.value Q.fits (problem_of Q.value ground.now) (Q.value span.until) (Q.value span.from) state.now (process_numbers running.now.members.items) running.now.rates (Q.value span.length) (rising_below (Q.value span.length) (roots_of (marks_of Q.value marks.now))) result }
+    ensures along { IsAlong state.now running.now.rates ahead.new }
+    ensures arrived { IfOk result (λ o. IfSome o (IsArrived state.now ahead.new)) }
+{
+    match least_below(marks, span.length, here) {
+        Err(_) => Err(Halt::Memory),
+        Ok(None) => match finish(alloc, state, ahead, &running.rates, span.until, span.length) {
+            Err(halt) => Err(halt),
+            Ok(arrival) => Ok(Some(arrival)),
+        },
+        Ok(Some(root)) => cross(
+            alloc, ground, state, ahead, running, span.from, root, here, everywhere, looking, None,
+        ),
+    }
+}
+
+// From one of these roots to the next, up to the first at which something begins, or to the end: at the first of them it is known
+// that nothing begins. At each only the owners of the marks there are looked at, and those whose conditions are not simple.
 fn walk<Q: Exact>(
     alloc: Global,
     ground: &Ground<Q>,
@@ -169,6 +281,7 @@ fn walk<Q: Exact>(
     requires later { Q.value span.from <ℚ Q.value span.until }
     requires length { Q.value span.length ≡ Q.value span.until -ℚ Q.value span.from }
     requires roots { AreLeft (problem_of Q.value ground.now) state.now running.now.rates (whole (pos 0)) (Q.value span.length) (map Q.value roots.now) }
+    requires quiet { IsQuietAtFirst Q.fits (problem_of Q.value ground.now) (Q.value span.from) state.now (process_numbers running.now.members.items) running.now.rates (map Q.value roots.now) }
     requires along { IsAlong state.now running.now.rates ahead.old }
     requires marked { AreAllMarked (problem_of Q.value ground.now) state.now running.now.rates (marks_of Q.value marks.now) }
     requires ascending { AreAscending (roots_of (marks_of Q.value marks.now)) }
@@ -190,7 +303,7 @@ fn walk<Q: Exact>(
     let mut is_first = true;
     'each: for root in roots {
         let count = up_to(rest, *root);
-        match cross(
+        match cross_behind(
             alloc,
             ground,
             state,
@@ -202,6 +315,7 @@ fn walk<Q: Exact>(
             everywhere,
             looking,
             extent,
+            is_first,
         ) {
             Err(halt) => return Err(halt),
             Ok(Some(arrival)) => return Ok(arrival),
@@ -211,13 +325,68 @@ fn walk<Q: Exact>(
         extent = extent_behind(state, ahead, &running.rates, is_first, extent);
         is_first = false;
     }
-    match move_ahead(alloc, state, ahead, &running.rates, length) {
+    finish(alloc, state, ahead, &running.rates, until, length)
+}
+
+// From root to root, where the roots stand in the room: the least is tried first, since something begins there mostly. Only
+// where nothing does, all marks are put in order.
+fn along_roots<Q: Exact>(
+    alloc: Global,
+    ground: &Ground<Q>,
+    state: &State<Q>,
+    ahead: &mut State<Q>,
+    running: &Running<Q>,
+    span: Span<Q>,
+    room: &mut Room<Q>,
+) -> Result<Arrival<Q>, Halt<Q>>
+    requires state { StateFits (length (ground.now.atoms.items)) (length (ground.now.fluents.items)) state.now }
+    requires members { AreMembers (length (ground.now.processes.items)) (process_numbers running.now.members.items) }
+    requires size { length (running.now.rates) ≡ length (state.now.fluents) }
+    requires rates { rates_of (problem_of Q.value ground.now) state.now (process_numbers running.now.members.items) ≡ Ok running.now.rates }
+    requires on { GoesOn (problem_of Q.value ground.now) state.now running.now.rates (process_numbers running.now.members.items) }
+    requires none { NoneHoldsAfter (problem_of Q.value ground.now) state.now running.now.rates }
+    requires linear { AllPass Q.fits (root_tests (problem_of Q.value ground.now) state.now running.now.rates) }
+    requires later { Q.value span.from <ℚ Q.value span.until }
+    requires length { Q.value span.length ≡ Q.value span.until -ℚ Q.value span.from }
+    requires along { IsAlong state.now running.now.rates ahead.old }
+    requires marked { AllMarked (problem_of Q.value ground.now) state.now running.now.rates (marks_of Q.value room.old.marks.items) }
+    requires events { AreMembers (length (ground.now.events.items)) (event_numbers room.old.everywhere.events.items) }
+    requires processes { AreMembers (length (ground.now.processes.items)) (process_numbers room.old.everywhere.processes.items) }
+    requires simple_events { OthersSimple (event_conditions (problem_of Q.value ground.now)) running.now.rates (event_numbers room.old.everywhere.events.items) }
+    requires simple_processes { OthersSimple (process_conditions (problem_of Q.value ground.now)) running.now.rates (process_numbers room.old.everywhere.processes.items) }
+    ensures told { WalkTold Q.value Q.fits (problem_of Q.value ground.now) (Q.value span.until) (Q.value span.from) state.now (process_numbers running.now.members.items) running.now.rates (Q.value span.length) (rising_below (Q.value span.length) (roots_of (marks_of Q.value room.old.marks.items))) result }
+    ensures along { IsAlong state.now running.now.rates ahead.new }
+    ensures arrived { IfOk result (IsArrived state.now ahead.new) }
+{
+    match first(
+        alloc,
+        ground,
+        state,
+        ahead,
+        running,
+        span,
+        &room.marks,
+        &mut room.here,
+        &room.everywhere,
+        &mut room.looking,
+    ) {
         Err(halt) => Err(halt),
-        Ok(changes) => Ok(Arrival {
-            time: until,
-            changes,
-            end: End::Until,
-        }),
+        Ok(Some(arrival)) => Ok(arrival),
+        Ok(None) => match rising(&mut room.marks, span.length, &mut room.different) {
+            Err(_) => Err(Halt::Memory),
+            Ok(()) => walk(
+                alloc,
+                ground,
+                state,
+                ahead,
+                running,
+                span,
+                &room.different,
+                &room.marks,
+                &room.everywhere,
+                &mut room.looking,
+            ),
+        },
     }
 }
 
@@ -275,33 +444,27 @@ pub fn reach_among<Q: Exact>(
     none_soon(ground, state, &running.rates, time, events)?;
     let length = time_left(time, until)?;
     roots(ground, state, &running.rates, events, processes, room)?;
-    match rising(&mut room.marks, length, &mut room.different) {
+    match everywhere(
+        ground,
+        &running.rates,
+        events,
+        processes,
+        &mut room.everywhere,
+    ) {
         Err(_) => Err(Halt::Memory),
-        Ok(()) => match everywhere(
+        Ok(()) => along_roots(
+            alloc,
             ground,
-            &running.rates,
-            events,
-            processes,
-            &mut room.everywhere,
-        ) {
-            Err(_) => Err(Halt::Memory),
-            Ok(()) => walk(
-                alloc,
-                ground,
-                state,
-                ahead,
-                running,
-                Span {
-                    from: time,
-                    until,
-                    length,
-                },
-                &room.different,
-                &room.marks,
-                &room.everywhere,
-                &mut room.looking,
-            ),
-        },
+            state,
+            ahead,
+            running,
+            Span {
+                from: time,
+                until,
+                length,
+            },
+            room,
+        ),
     }
 }
 

@@ -1,10 +1,10 @@
+use Rattle.std.proofs.Common.{refl}
 use Rattle.std.proofs.lemmas.Result.{err_from_is_err_and}
 use Rattle.plus_state.specs.View.{problem_of}
-use Rattle.plus_stretch.proofs.SearchLemmas.{halt_soon, halt_time, halt_roots, walk_tells, all_left, along_start}
+use Rattle.plus_stretch.proofs.SearchLemmas.{halt_soon, halt_time, halt_roots, walk_tells, along_start}
 use Rattle.plus_state.specs.Walk.{event_conditions, process_conditions}
 use Rattle.plus_stretch.proofs.Known.{none_soon_among, no_root_among}
 use Rattle.plus_stretch.proofs.LookedLemmas.{sifted_members, others_simple}
-use Rattle.plus_stretch.proofs.WalkLemmas.{still_marked}
 use Rattle.plus_stretch.proofs.search.reach_among.Goals as goal
 
 pub none_soon-requires-clause-others : goal.none_soon-requires-clause-others
@@ -33,39 +33,28 @@ returns-in_err-roots-clause-told g c =
     let n = c.in_ok-none_soon.ensures in
     rw (p.1, p.2) (halt_roots (problem_of g.Q.Exact.value c.args.ground.now) _ _ _ _ _ c.requires.rates g.Q.Exact.value _ n.1 n.0 c.in_ok-length.ensures.0 _ c.in_err-roots.ensures)
 
-pub walk-requires-clause-none : goal.walk-requires-clause-none
-walk-requires-clause-none g c = c.in_ok-none_soon.ensures.1.none
+pub along_roots-requires-clause-none : goal.along_roots-requires-clause-none
+along_roots-requires-clause-none g c = c.in_ok-none_soon.ensures.1.none
 
-pub walk-requires-clause-roots : goal.walk-requires-clause-roots
-walk-requires-clause-roots g c =
-    all_left (problem_of g.Q.Exact.value c.args.ground.now) _ _ _ _ _ (rw c.deref.ensures.value c.in-Ok.ensures.different) c.in_ok-roots.ensures.1.roots
+pub along_roots-requires-clause-events : goal.along_roots-requires-clause-events
+along_roots-requires-clause-events g c = sifted_members (event_conditions (problem_of g.Q.Exact.value c.args.ground.now)) c.args.running.now.rates _ _ _ c.requires.events c.in-Ok.ensures.events
 
-pub walk-requires-clause-marked : goal.walk-requires-clause-marked
-walk-requires-clause-marked g c =
-    rw c.deref-in-Ok-everywhere.ensures.value (still_marked (problem_of g.Q.Exact.value c.args.ground.now) _ _ _ _ c.in_ok-roots.ensures.1.are c.rising.ensures.kept c.rising.ensures.no_other)
+pub along_roots-requires-clause-processes : goal.along_roots-requires-clause-processes
+along_roots-requires-clause-processes g c = sifted_members (process_conditions (problem_of g.Q.Exact.value c.args.ground.now)) c.args.running.now.rates _ _ _ c.requires.processes c.in-Ok.ensures.processes
 
-pub walk-requires-clause-ascending : goal.walk-requires-clause-ascending
-walk-requires-clause-ascending g c = rw c.deref-in-Ok-everywhere.ensures.value c.rising.ensures.ascending
+pub along_roots-requires-clause-simple_events : goal.along_roots-requires-clause-simple_events
+along_roots-requires-clause-simple_events g c = others_simple (event_conditions (problem_of g.Q.Exact.value c.args.ground.now)) c.args.running.now.rates _ _ c.requires.other_events.stand c.in-Ok.ensures.events
 
-pub walk-requires-clause-events : goal.walk-requires-clause-events
-walk-requires-clause-events g c = sifted_members (event_conditions (problem_of g.Q.Exact.value c.args.ground.now)) c.args.running.now.rates _ _ _ c.requires.events c.in-Ok-everywhere.ensures.events
+pub along_roots-requires-clause-simple_processes : goal.along_roots-requires-clause-simple_processes
+along_roots-requires-clause-simple_processes g c = others_simple (process_conditions (problem_of g.Q.Exact.value c.args.ground.now)) c.args.running.now.rates _ _ c.requires.other_processes.stand c.in-Ok.ensures.processes
 
-pub walk-requires-clause-processes : goal.walk-requires-clause-processes
-walk-requires-clause-processes g c = sifted_members (process_conditions (problem_of g.Q.Exact.value c.args.ground.now)) c.args.running.now.rates _ _ _ c.requires.processes c.in-Ok-everywhere.ensures.processes
+pub along_roots-requires-clause-along : goal.along_roots-requires-clause-along
+along_roots-requires-clause-along g c = along_start _ _ _ c.requires.ahead
 
-pub walk-requires-clause-simple_events : goal.walk-requires-clause-simple_events
-walk-requires-clause-simple_events g c = others_simple (event_conditions (problem_of g.Q.Exact.value c.args.ground.now)) c.args.running.now.rates _ _ c.requires.other_events.stand c.in-Ok-everywhere.ensures.events
-
-pub walk-requires-clause-simple_processes : goal.walk-requires-clause-simple_processes
-walk-requires-clause-simple_processes g c = others_simple (process_conditions (problem_of g.Q.Exact.value c.args.ground.now)) c.args.running.now.rates _ _ c.requires.other_processes.stand c.in-Ok-everywhere.ensures.processes
-
-pub walk-requires-clause-along : goal.walk-requires-clause-along
-walk-requires-clause-along g c = along_start _ _ _ c.requires.ahead
-
-pub returns-in-Ok-everywhere-clause-told : goal.returns-in-Ok-everywhere-clause-told
-returns-in-Ok-everywhere-clause-told g c =
+pub returns-in-Ok-clause-told : goal.returns-in-Ok-clause-told
+returns-in-Ok-clause-told g c =
     let n = c.in_ok-none_soon.ensures in
-    walk_tells (problem_of g.Q.Exact.value c.args.ground.now) _ _ _ _ _ c.requires.rates g.Q.Exact.value _ n.1 n.0 c.in_ok-length.ensures.0 c.in_ok-roots.ensures.0 _ _ _ _ c.in_ok-length.ensures.1 (rw c.deref.ensures.value c.in-Ok.ensures.different) c.in_ok-roots.ensures.1.roots c.walk.ensures.told
+    walk_tells (problem_of g.Q.Exact.value c.args.ground.now) _ _ _ _ _ c.requires.rates g.Q.Exact.value _ n.1 n.0 c.in_ok-length.ensures.0 c.in_ok-roots.ensures.0 _ _ _ _ c.in_ok-length.ensures.1 refl c.in_ok-roots.ensures.1.roots c.along_roots.ensures.told
 
 pub returns-in_err-none_soon-clause-along : goal.returns-in_err-none_soon-clause-along
 returns-in_err-none_soon-clause-along g c = along_start _ _ _ c.requires.ahead
@@ -78,6 +67,3 @@ returns-in_err-roots-clause-along g c = along_start _ _ _ c.requires.ahead
 
 pub returns-in-Err-clause-along : goal.returns-in-Err-clause-along
 returns-in-Err-clause-along g c = along_start _ _ _ c.requires.ahead
-
-pub returns-in-Err-everywhere-clause-along : goal.returns-in-Err-everywhere-clause-along
-returns-in-Err-everywhere-clause-along g c = along_start _ _ _ c.requires.ahead
