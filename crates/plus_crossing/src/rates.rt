@@ -23,6 +23,9 @@ pub struct Rates<Q: Exact> {
     // Above all fluents that have a place: a look at another one costs nothing.
     below: usize,
     given: Vec<(u32, Q)>,
+    // For each fluent a place at which it may stand, which is looked at before it is believed; for none
+    // where no places were made at once.
+    guesses: Vec<u32>,
 }
 
 impl<Q: Exact> Model for Rates<Q> {
@@ -57,15 +60,11 @@ fn stands_at<Q: Exact>(given: &[(u32, Q)], place: usize, fluent: u32) -> bool
     place < given.len() && given[place].0 == fluent
 }
 
-// The place of this fluent, if those that have a place lie evenly between the first and the last one.
-fn place_between<Q: Exact>(given: &[(u32, Q)], fluent: u32) -> usize {
-    match given {
-        [first, .., last] => {
-            let reach = last.0.saturating_sub(first.0) as usize;
-            let way = fluent.saturating_sub(first.0) as usize;
-            way.saturating_mul(given.len()) / (reach + 1)
-        }
-        _ => 0,
+// A place at which this fluent may stand.
+fn guessed(guesses: &[u32], fluent: u32) -> usize {
+    match guesses.get(fluent as usize) {
+        Some(place) => *place as usize,
+        None => 0,
     }
 }
 
@@ -87,8 +86,13 @@ fn search<Q: Exact>(given: &[(u32, Q)], fluent: u32) -> Result<usize, usize>
     }
 }
 
-// The same. Most fluents stand in a row or lie evenly, so two places are tried first.
-fn place_of<Q: Exact>(given: &[(u32, Q)], fluent: u32, below: usize) -> Result<usize, usize>
+// The same. Two places are looked at first: where it is if fluents stand in a row, and where it was put.
+fn place_of<Q: Exact>(
+    given: &[(u32, Q)],
+    guesses: &[u32],
+    fluent: u32,
+    below: usize,
+) -> Result<usize, usize>
     requires { Rises given.now }
     ensures { IsFoundAt fluent given.now result }
 {
@@ -96,11 +100,30 @@ fn place_of<Q: Exact>(given: &[(u32, Q)], fluent: u32, below: usize) -> Result<u
     if stands_at(given, late, fluent) {
         return Ok(late);
     }
-    let even = place_between(given, fluent);
-    if stands_at(given, even, fluent) {
-        return Ok(even);
+    let guess = guessed(guesses, fluent);
+    if stands_at(given, guess, fluent) {
+        return Ok(guess);
     }
     search(given, fluent)
+}
+
+// Notes where each of these fluents stands, which are below this number. What was noted of others is left.
+fn note_places<Q: Exact>(
+    given: &[(u32, Q)],
+    below: usize,
+    guesses: &mut Vec<u32>,
+) -> Result<(), AllocError> {
+    if guesses.len() < below {
+        guesses.resize(below, 0)?;
+    }
+    let mut place: u32 = 0;
+    'each: for entry in given {
+        if let Some(guess) = guesses.get_mut(entry.0 as usize) {
+            *guess = place;
+        }
+        place = place.saturating_add(1);
+    }
+    Ok(())
 }
 
 impl<Q: Exact> Rates<Q> {
@@ -112,6 +135,7 @@ impl<Q: Exact> Rates<Q> {
             fluents,
             below: 0,
             given: Vec::new(alloc),
+            guesses: Vec::new(alloc),
         }
     }
 
@@ -125,6 +149,7 @@ impl<Q: Exact> Rates<Q> {
             fluents,
             below: 0,
             given: self.given,
+            guesses: self.guesses,
         }
     }
 
@@ -136,6 +161,7 @@ impl<Q: Exact> Rates<Q> {
             fluents: self.fluents,
             below: self.below,
             given: Vec::from_slice(alloc, &self.given)?,
+            guesses: Vec::new(alloc),
         })
     }
 
@@ -147,7 +173,7 @@ impl<Q: Exact> Rates<Q> {
         if self.below <= fluent.0 as usize {
             return zero();
         }
-        match place_of(&self.given, fluent.0, self.below) {
+        match place_of(&self.given, &self.guesses, fluent.0, self.below) {
             Ok(place) => self.given[place].1,
             Err(_) => zero(),
         }
@@ -159,7 +185,7 @@ impl<Q: Exact> Rates<Q> {
         ensures ok { OnOk result (self.new ≡ slice_set self.old fluent.0 (Q.value rate)) }
         ensures err { OnErr result (self.new ≡ self.old) }
     {
-        match place_of(&self.given, fluent.0, self.below) {
+        match place_of(&self.given, &self.guesses, fluent.0, self.below) {
             Ok(place) => {
                 self.given[place] = (fluent.0, rate);
             }
@@ -171,8 +197,8 @@ impl<Q: Exact> Rates<Q> {
         Ok(())
     }
 
-    /// Makes places for these fluents, in whatever order they come, where no fluent has one yet.
-    pub fn make_places(&mut self, alloc: Global, mut numbers: Vec<u32>) -> Result<(), AllocError>
+    // Puts these fluents in the list, with the rate 0, where no fluent has a place yet.
+    fn put_places(&mut self, alloc: Global, mut numbers: Vec<u32>) -> Result<(), AllocError>
         ensures { self.new ≡ self.old }
     {
         if self.below != 0 {
@@ -190,6 +216,21 @@ impl<Q: Exact> Rates<Q> {
         self.given = given;
         self.below = below;
         Ok(())
+    }
+
+    // Notes where each fluent that has a place stands.
+    fn note(&mut self) -> Result<(), AllocError>
+        ensures { self.new ≡ self.old }
+    {
+        note_places(&self.given, self.below, &mut self.guesses)
+    }
+
+    /// Makes places for these fluents, in whatever order they come, where no fluent has one yet.
+    pub fn make_places(&mut self, alloc: Global, numbers: Vec<u32>) -> Result<(), AllocError>
+        ensures { self.new ≡ self.old }
+    {
+        self.put_places(alloc, numbers)?;
+        self.note()
     }
 
     // The rates that were given, by the numbers of the fluents.

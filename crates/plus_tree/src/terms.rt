@@ -40,10 +40,10 @@ pub struct Use {
 /// of the places, and 0 is not negative.
 #[derive(Clone, Copy, Debug, PartialEq, Eq)]
 pub struct Literal {
-    pub negative: bool,
     pub digits: u128,
-    pub places: u8,
     pub span: Span,
+    pub places: u8,
+    pub negative: bool,
 }
 
 /// The sign of a comparison.

@@ -1,7 +1,7 @@
 use Rattle.std.proofs.Common.{arith}
 use Rattle.plus_crossing.proofs.Places.{making_next, made_same}
-use Rattle.plus_crossing.proofs.rates.Rates.make_places.Goals as goal
-use Rattle.plus_crossing.proofs.rates.Rates.make_places.Goals.{then-below-number+then-number-self+in_ok-push, else-below-number}
+use Rattle.plus_crossing.proofs.rates.Rates.put_places.Goals as goal
+use Rattle.plus_crossing.proofs.rates.Rates.put_places.Goals.{then-below-number+then-number-self+in_ok-push, else-below-number}
 
 pub invariant_of-self : goal.invariant_of-self
 invariant_of-self g c = (c.each.invariant.inside, c.each.invariant.within, c.each.invariant.rise)

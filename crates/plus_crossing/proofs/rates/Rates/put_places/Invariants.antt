@@ -1,5 +1,5 @@
 use Rattle.plus_crossing.proofs.Places.{Making}
-use Rattle.plus_crossing.proofs.rates.Rates.make_places.Given as goal
+use Rattle.plus_crossing.proofs.rates.Rates.put_places.Given as goal
 
 abbrev pub invariant-each : goal.invariant-each
 invariant-each g l = Making g.Q.Exact.value l.below l.self-inside.fluents l.given.items
