@@ -1,7 +1,7 @@
 //! What a person is told beside the answer, on the standard error.
 
 use plus_explain::{Ending, Kept, append_place, append_reasons, word_for};
-use plus_io::{Shelf, Sink};
+use plus_io::{Freeing, Shelf, Sink};
 use plus_pair::pair::release;
 use plus_pair::texts::pair_of;
 use plus_plan::PlanForm;
@@ -103,7 +103,7 @@ fn append_why<S: Shelf + Drop>(
     match pair_of(alloc, domain.text, problem.text) {
         Ok(typed) => {
             let told = append_told(into, alloc, problem, &typed, plan.text, form, verdict);
-            release(typed);
+            release(typed, Freeing::AtExit);
             told
         }
         Err(_) => Ok(()),

@@ -35,7 +35,7 @@ ghost use Rattle.plus_run.specs.Headline.{IsAnswer, EndsWith};
 use explain::explain;
 use files::shelf_for;
 use plus_explain::{Ending, Kept};
-use plus_io::{Shelf, Sink};
+use plus_io::{Freeing, Shelf, Sink};
 use plus_run::run::run;
 use screen::StdSink;
 use std::alloc::Global;
@@ -69,7 +69,7 @@ fn conclude<S: Shelf, O: Sink>(
         (S.bytes shelf.old) (O.taken out.old) (O.taken out.new) (S.faults shelf.old)
         (S.faults shelf.new) (O.faults out.old) (O.faults out.new)) }
 {
-    run(alloc, words, shelf, out).exit_code()
+    run(alloc, words, shelf, out, Freeing::AtExit).exit_code()
 }
 
 // Carries out the words over their files and the standard output, and says on the standard error why

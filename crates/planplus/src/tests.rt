@@ -1,7 +1,7 @@
 //! Rows over shelves and sinks in memory: whole outputs with their statuses, worked by hand from the
 //! rules of time and of the texts.
 
-use plus_io::{MemShelf, MemSink, Shelf, Sink};
+use plus_io::{Freeing, MemShelf, MemSink, Shelf, Sink};
 use plus_reply::status::Status;
 use plus_run::run::run;
 use std::alloc::Global;
@@ -236,7 +236,7 @@ pub fn status_of<S: Shelf, O: Sink>(
     out: &mut O,
 ) -> Result<Status, Fail> {
     let words = words_of(alloc, words)?;
-    Ok(run(alloc, &words, shelf, out))
+    Ok(run(alloc, &words, shelf, out, Freeing::Now))
 }
 
 // Carries out the words over a shelf and a sink in memory, and compares what was written and the status.

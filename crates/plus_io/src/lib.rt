@@ -3,6 +3,7 @@
 #![tactic(auto)]
 
 mod fault;
+mod freeing;
 mod mem_shelf;
 mod mem_sink;
 mod quiet;
@@ -11,6 +12,7 @@ mod sink;
 mod stored;
 
 pub use fault::{Failed, ReadStop};
+pub use freeing::Freeing;
 pub use mem_shelf::MemShelf;
 pub use mem_sink::MemSink;
 pub use quiet::{QuietShelf, QuietSink};

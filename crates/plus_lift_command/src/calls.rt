@@ -8,7 +8,7 @@ ghost use Rattle.plus_report.specs.Verdicts.{operation_text};
 ghost use Rattle.plus_lift_command.specs.Lift.{JudgesPlan, LiftsCalls};
 
 use plus_interval::Interval;
-use plus_io::MemSink;
+use plus_io::{Freeing, MemSink};
 use plus_lift::{LiftFault, lift, overflow_line};
 use plus_number::frac::Frac64;
 use plus_reply::reply::{Fault, Reply};
@@ -43,7 +43,13 @@ fn judged(alloc: Global, typed: &Typed, plan: &TimedPlan<Frac64>) -> Result<Repl
         (λ fault. fault ≡ Fault.NoMemory) }
 {
     let lines = lines(alloc, plan)?;
-    let judged = judge(alloc, typed, lines.bytes(), Happenings::DEFAULT.number)?;
+    let judged = judge(
+        alloc,
+        typed,
+        lines.bytes(),
+        Happenings::DEFAULT.number,
+        Freeing::Now,
+    )?;
     let mut text = Vec::from_slice(alloc, lines.bytes())?;
     text.extend_from_slice(b"; ")?;
     text.extend_from_slice(&judged.line)?;

@@ -11,7 +11,7 @@ ghost use Rattle.plus_lift_command.specs.Lift.{TellsStop, LiftsPlan, LiftsPair, 
 use crate::again::again;
 use crate::calls::lifted;
 use plus_interval::Interval;
-use plus_io::Shelf;
+use plus_io::{Freeing, Shelf};
 use plus_numeric::{Source, Stop, numeric};
 use plus_pair::pair::{pair, release};
 use plus_reply::reply::{Fault, Reply, refused};
@@ -76,7 +76,7 @@ fn of_pair<S: Shelf>(
     match again(alloc, interval, typed) {
         Ok(again) => {
             let reply = of_texts(alloc, interval, typed, &again, plan, shelf);
-            release(again);
+            release(again, Freeing::Now);
             reply
         }
         Err(refusal) => refused(alloc, refusal),
@@ -105,7 +105,7 @@ pub fn answer<S: Shelf>(
     match pair(alloc, shelf, domain, problem) {
         Ok(typed) => {
             let reply = of_pair(alloc, interval, &typed, plan, shelf);
-            release(typed);
+            release(typed, Freeing::Now);
             reply
         }
         Err(refusal) => refused(alloc, refusal),

@@ -9,7 +9,7 @@ ghost use Rattle.plus_parser.specs.SpellsProblem.{SpellsProblemWithin};
 ghost use Rattle.plus_pair.specs.Pair.{text_limit, behind, text_refusal, type_refusal, word_of, text_named};
 ghost use Rattle.plus_pair.specs.Reads.{NotRead, ReadsDomain, ReadsProblem, ReadsPair, NoDomain, NoProblem, NoPair};
 
-use plus_io::{ReadStop, Shelf, read_all};
+use plus_io::{Freeing, ReadStop, Shelf, read_all};
 use plus_places::{read_domain, read_problem};
 use plus_report::{Early, Text, Word};
 use plus_tokens::LexFault;
@@ -190,9 +190,11 @@ pub fn pair<S: Shelf>(
 }
 
 /// Lets a pair go. That its trees can be freed is proved here, and not once more where this is called.
-pub fn release(_typed: Typed) {}
+pub fn release(typed: Typed, freeing: Freeing) {
+    freeing.let_go(typed);
+}
 
-/// Lets the tree of a domain go, in the same way.
+/// Lets the tree of a domain go, at once and proved here in the same way.
 pub fn release_domain(_domain: Domain) {}
 
 /// Lets the tree of a problem go, in the same way.

@@ -13,7 +13,7 @@ ghost use Rattle.plus_plan_command.specs.Plan.{search_refusal, answer_status, an
 
 use plus_expansion::Count;
 use plus_interval::Interval;
-use plus_io::{MemSink, Shelf};
+use plus_io::{Freeing, MemSink, Shelf};
 use plus_number::frac::Frac64;
 use plus_numbering::GroundFault;
 use plus_pair::pair::{Refusal, pair, release, text_for};
@@ -167,7 +167,7 @@ pub fn answer<S: Shelf>(
     match pair(alloc, shelf, domain, problem) {
         Ok(typed) => {
             let reply = of_pair(alloc, search, &typed);
-            release(typed);
+            release(typed, Freeing::Now);
             reply
         }
         Err(refusal) => refused(alloc, refusal),

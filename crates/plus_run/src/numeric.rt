@@ -9,7 +9,7 @@ ghost use Rattle.plus_run.specs.Command.{Numeric};
 ghost use Rattle.plus_run.specs.Headline.{IsAnswer};
 
 use crate::command::PlanFiles;
-use plus_io::{Shelf, Sink};
+use plus_io::{Freeing, Shelf, Sink};
 use plus_numeric::{Source, Stop};
 use plus_pair::pair::{Refusal, pair, release};
 use plus_reply::status::{Status, refuse, tell};
@@ -59,7 +59,7 @@ pub fn numeric<S: Shelf, O: Sink>(
     match pair(alloc, shelf, files.domain, files.problem) {
         Ok(typed) => {
             let status = play(alloc, &typed, shelf, files.plan, out);
-            release(typed);
+            release(typed, Freeing::Now);
             status
         }
         Err(Refusal::Early(early)) => refuse(out, &early),

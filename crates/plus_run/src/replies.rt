@@ -9,7 +9,7 @@ ghost use Rattle.plus_run.specs.Headline.{IsAnswer};
 ghost use Rattle.plus_run.specs.Meant.{meant};
 
 use crate::command::{Command, LiftFiles, Searched, Stepped};
-use plus_io::{Shelf, Sink};
+use plus_io::{Freeing, Shelf, Sink};
 use plus_reply::reply::give;
 use plus_reply::status::Status;
 use plus_types::File;
@@ -17,13 +17,13 @@ use plus_words::tanks::Tanks;
 use std::alloc::Global;
 
 /// `trial`: writes the line that sums up the check of a farm of so many tanks. No file is read.
-pub fn trial<O: Sink>(alloc: Global, tanks: Tanks, out: &mut O) -> Status
+pub fn trial<O: Sink>(alloc: Global, tanks: Tanks, out: &mut O, freeing: Freeing) -> Status
     ensures answers { (bytes : List ℕ → Option (List ℕ)) (before now : ℕ)
         → IsAnswer (Some (Trial tanks.number)) bytes (O.taken out.old) (O.taken out.new) before now
         (O.faults out.old) (O.faults out.new) result }
     ensures no_fall { O.faults out.old ≤ O.faults out.new }
 {
-    let reply = plus_trial_command::answer(alloc, tanks);
+    let reply = plus_trial_command::answer(alloc, tanks, freeing);
     give(out, &reply)
 }
 

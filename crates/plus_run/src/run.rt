@@ -15,7 +15,7 @@ use crate::command::{Check, Command, parse};
 use crate::numeric::numeric;
 use crate::replies::{lift, plan, translate, trial};
 use crate::show::{show_domain, show_problem};
-use plus_io::{Shelf, Sink};
+use plus_io::{Freeing, Shelf, Sink};
 use plus_pair::pair::{Refusal, pair, release};
 use plus_reply::status::{Status, refuse, tell};
 use plus_validator::validate;
@@ -31,7 +31,13 @@ fn usage<O: Sink>(out: &mut O) -> Status
 }
 
 // `check`: reads the pair, and checks the plan.
-fn check<S: Shelf, O: Sink>(alloc: Global, files: Check<'_>, shelf: &mut S, out: &mut O) -> Status
+fn check<S: Shelf, O: Sink>(
+    alloc: Global,
+    files: Check<'_>,
+    shelf: &mut S,
+    out: &mut O,
+    freeing: Freeing,
+) -> Status
     ensures answers { IsAnswer (Some (meant (Command.Check files.entry))) (S.bytes shelf.old)
         (O.taken out.old) (O.taken out.new) (S.faults shelf.old) (S.faults shelf.new)
         (O.faults out.old) (O.faults out.new) result }
@@ -45,8 +51,8 @@ fn check<S: Shelf, O: Sink>(alloc: Global, files: Check<'_>, shelf: &mut S, out:
     match pair(alloc, shelf, files.domain, files.problem) {
         Ok(typed) => {
             let most = files.happenings.number;
-            let outcome = validate(alloc, &typed, shelf, files.plan, out, most);
-            release(typed);
+            let outcome = validate(alloc, &typed, shelf, files.plan, out, most, freeing);
+            release(typed, freeing);
             Status::of(outcome)
         }
         Err(Refusal::Early(early)) => refuse(out, &early),
@@ -61,6 +67,7 @@ fn carry_out<S: Shelf, O: Sink>(
     words: &[String],
     shelf: &mut S,
     out: &mut O,
+    freeing: Freeing,
 ) -> Status
     ensures answers { IsAnswer (command_of (map string_bytes words.now)) (S.bytes shelf.old)
         (O.taken out.old) (O.taken out.new) (S.faults shelf.old) (S.faults shelf.new)
@@ -74,11 +81,11 @@ fn carry_out<S: Shelf, O: Sink>(
 {
     match parse(words) {
         None => usage(out),
-        Some(Command::Check(files)) => check(alloc, files, shelf, out),
+        Some(Command::Check(files)) => check(alloc, files, shelf, out, freeing),
         Some(Command::ShowDomain(file)) => show_domain(alloc, file, shelf, out),
         Some(Command::ShowProblem(file)) => show_problem(alloc, file, shelf, out),
         Some(Command::Numeric(files)) => numeric(alloc, files, shelf, out),
-        Some(Command::Trial(tanks)) => trial(alloc, tanks, out),
+        Some(Command::Trial(tanks)) => trial(alloc, tanks, out, freeing),
         Some(Command::Translate(file, words)) => translate(alloc, file, words, shelf, out),
         Some(Command::Lift(words)) => lift(alloc, words, shelf, out),
         Some(Command::Plan(words)) => plan(alloc, words, shelf, out),
@@ -86,8 +93,15 @@ fn carry_out<S: Shelf, O: Sink>(
 }
 
 /// Carries out the command that the words mean: reads the files that it names from the shelf,
-/// writes to the sink, and answers the status.
-pub fn run<S: Shelf, O: Sink>(alloc: Global, words: &[String], shelf: &mut S, out: &mut O) -> Status
+/// writes to the sink, and answers the status. What `check` and `trial` made is let go as `freeing`
+/// says; the other commands free what they made.
+pub fn run<S: Shelf, O: Sink>(
+    alloc: Global,
+    words: &[String],
+    shelf: &mut S,
+    out: &mut O,
+    freeing: Freeing,
+) -> Status
     // What the status tells: of a plan, that exactly one trajectory has its actions and the report is
     // its text, or that the plan is refused, why, and behind which report; of a fault, that it came.
     ensures answers { IsAnswer (command_of (map string_bytes words.now)) (S.bytes shelf.old)
@@ -109,5 +123,5 @@ pub fn run<S: Shelf, O: Sink>(alloc: Global, words: &[String], shelf: &mut S, ou
     ensures keeps { KeepsFiles S.names S.bytes S.faults shelf.old shelf.new }
     ensures no_fall { O.faults out.old ≤ O.faults out.new }
 {
-    carry_out(alloc, words, shelf, out)
+    carry_out(alloc, words, shelf, out, freeing)
 }

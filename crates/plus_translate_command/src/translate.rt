@@ -11,7 +11,7 @@ ghost use Rattle.plus_translate_command.specs.HalfReply.{TellsRefusal, Gives};
 ghost use Rattle.plus_translate_command.specs.Translate.{trans_refusal, IsUntranslated, TranslatesPair, Translates};
 
 use plus_interval::Interval;
-use plus_io::{Shelf, Sink};
+use plus_io::{Freeing, Shelf, Sink};
 use plus_pair::pair::{Refusal, bad_text, pair, release, text_for};
 use plus_reply::reply::{Fault, refused};
 use plus_reply::status::Status;
@@ -124,7 +124,7 @@ pub fn answer<S: Shelf>(
     match pair(alloc, shelf, domain, problem) {
         Ok(typed) => {
             let reply = of_pair(alloc, file, interval, &typed);
-            release(typed);
+            release(typed, Freeing::Now);
             reply
         }
         Err(refusal) => half_refused(alloc, refusal),

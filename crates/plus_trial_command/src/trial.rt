@@ -10,6 +10,7 @@ ghost use Rattle.plus_pair.specs.Reads.{NotPair};
 ghost use Rattle.plus_reply.specs.Reply.{IsPlain};
 ghost use Rattle.plus_trial_command.specs.Trial.{farm_domain, farm_problem, farm_plan, word_of, summary_of, IsTrial};
 
+use plus_io::Freeing;
 use plus_pair::pair::{Refusal, release};
 use plus_pair::texts::pair_of;
 use plus_reply::reply::{Fault, Reply, refused};
@@ -39,11 +40,17 @@ fn farm(alloc: Global, tanks: u32) -> Result<Typed, Refusal>
 }
 
 // The verdict on its plan.
-fn judged(alloc: Global, tanks: u32, typed: &Typed) -> Result<Judged, AllocError>
+fn judged(alloc: Global, tanks: u32, typed: &Typed, freeing: Freeing) -> Result<Judged, AllocError>
     ensures { IfOk result (JudgesText typed.now.domain typed.now.problem default_happenings (farm_plan tanks)) }
 {
     let plan = plan_text(alloc, tanks)?;
-    judge(alloc, typed, plan.as_slice(), Happenings::DEFAULT.number)
+    judge(
+        alloc,
+        typed,
+        plan.as_slice(),
+        Happenings::DEFAULT.number,
+        freeing,
+    )
 }
 
 fn word_of(outcome: Outcome) -> Word
@@ -75,12 +82,12 @@ fn summary(alloc: Global, tanks: u32, judged: &Judged) -> Result<Vec<u8>, AllocE
 }
 
 // The status and the line of a farm that is a pair.
-fn told(alloc: Global, tanks: u32, typed: &Typed) -> Result<Reply, AllocError>
+fn told(alloc: Global, tanks: u32, typed: &Typed, freeing: Freeing) -> Result<Reply, AllocError>
     requires { SpellsPair farm_domain (farm_problem tanks) typed.now.domain typed.now.problem }
     ensures replies { IfOk result (λ r. IsTrial tanks r.status r.text.items) }
     ensures plain { IfOk result (λ r. IsPlain r.status) }
 {
-    let judged = judged(alloc, tanks, typed)?;
+    let judged = judged(alloc, tanks, typed, freeing)?;
     let text = summary(alloc, tanks, &judged)?;
     Ok(Reply {
         status: Status::of(judged.outcome()),
@@ -89,7 +96,7 @@ fn told(alloc: Global, tanks: u32, typed: &Typed) -> Result<Reply, AllocError>
 }
 
 /// `trial`: makes the texts of a farm of so many tanks, checks its plan, and sums the check up in a line. No file is read.
-pub fn answer(alloc: Global, tanks: Tanks) -> Result<Reply, Fault>
+pub fn answer(alloc: Global, tanks: Tanks, freeing: Freeing) -> Result<Reply, Fault>
     // The status and the line are those of the check of the farm's plan, or say why its texts are no pair.
     ensures replies { IfOk result (λ r. IsTrial tanks.number r.status r.text.items) }
     ensures plain { IfOk result (λ r. IsPlain r.status) }
@@ -99,8 +106,8 @@ pub fn answer(alloc: Global, tanks: Tanks) -> Result<Reply, Fault>
 {
     match farm(alloc, tanks.number) {
         Ok(typed) => {
-            let reply = told(alloc, tanks.number, &typed);
-            release(typed);
+            let reply = told(alloc, tanks.number, &typed, freeing);
+            release(typed, freeing);
             Ok(reply?)
         }
         Err(refusal) => refused(alloc, refusal),

@@ -24,7 +24,7 @@ use crate::run::Run;
 use crate::stream::{Ending, play_file};
 use crate::ungrounded::early_of;
 use plus_ground::ground;
-use plus_io::{Shelf, Sink, write_all};
+use plus_io::{Freeing, Shelf, Sink, write_all};
 use plus_number::frac::Frac64;
 use plus_numbering::{GroundFault, Numbering};
 use plus_report::write_early;
@@ -78,6 +78,7 @@ fn validate_ground<S: Shelf, O: Sink>(
     plan: &str,
     out: &mut O,
     happenings: u64,
+    freeing: Freeing,
 ) -> Outcome
     requires expands { IsGroundOf numbering.now.typed.now.domain numbering.now.typed.now.problem ground.now }
     requires groundable { IsGroundable IsFrac64 numbering.now.typed.now.domain numbering.now.typed.now.problem }
@@ -110,16 +111,16 @@ fn validate_ground<S: Shelf, O: Sink>(
     // What is played is let go by a call: what drops it is long, and would stand here at each way out.
     match play_file(&mut feed, alloc, ground, shelf, plan, out, happenings) {
         Ending::ReadFault => {
-            drop(feed);
+            freeing.let_go(feed);
             Outcome::ReadFault
         }
         Ending::WriteFault => {
-            drop(feed);
+            freeing.let_go(feed);
             Outcome::WriteFault
         }
         Ending::Played(played) => {
             let outcome = conclude(alloc, ground, &mut feed.run, played, out);
-            drop(feed);
+            freeing.let_go(feed);
             outcome
         }
     }
@@ -133,6 +134,7 @@ fn validate_numbered<S: Shelf, O: Sink>(
     plan: &str,
     out: &mut O,
     happenings: u64,
+    freeing: Freeing,
 ) -> Outcome
     requires some { 1 ≤ happenings }
     requires few { happenings ≤ most_happenings }
@@ -166,7 +168,11 @@ fn validate_numbered<S: Shelf, O: Sink>(
         Ok(ground) => ground,
         Err(fault) => return refuse(out, fault),
     };
-    validate_ground(alloc, numbering, &ground, shelf, plan, out, happenings)
+    let outcome = validate_ground(
+        alloc, numbering, &ground, shelf, plan, out, happenings, freeing,
+    );
+    freeing.let_go(ground);
+    outcome
 }
 
 /// Checks the plan under a name of the shelf, and writes its report as the plan is read, and its verdict line.
@@ -178,6 +184,7 @@ pub fn validate<S: Shelf, O: Sink>(
     plan: &str,
     out: &mut O,
     happenings: u64,
+    freeing: Freeing,
 ) -> Outcome
     requires some { 1 ≤ happenings }
     requires few { happenings ≤ most_happenings }
@@ -208,7 +215,9 @@ pub fn validate<S: Shelf, O: Sink>(
     ensures no_fall { O.faults out.old ≤ O.faults out.new }
 {
     match Numbering::new(alloc, typed) {
-        Ok(numbering) => validate_numbered(alloc, &numbering, shelf, plan, out, happenings),
+        Ok(numbering) => {
+            validate_numbered(alloc, &numbering, shelf, plan, out, happenings, freeing)
+        }
         Err(fault) => refuse(out, fault),
     }
 }

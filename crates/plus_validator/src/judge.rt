@@ -17,6 +17,7 @@ use crate::memory::Report;
 use crate::stream::play_bytes;
 use crate::ungrounded::early_of;
 use plus_ground::ground;
+use plus_io::Freeing;
 use plus_number::frac::Frac64;
 use plus_numbering::{GroundFault, Numbering};
 use plus_report::{Early, Verdict, write_early};
@@ -105,6 +106,7 @@ fn judge_ground(
     ground: &Ground<Frac64>,
     bytes: &[u8],
     happenings: u64,
+    freeing: Freeing,
 ) -> Result<Judgement, Halt>
     requires expands { IsGroundOf numbering.now.typed.now.domain numbering.now.typed.now.problem ground.now }
     requires groundable { IsGroundable IsFrac64 numbering.now.typed.now.domain numbering.now.typed.now.problem }
@@ -115,7 +117,7 @@ fn judge_ground(
     let played = play_bytes(&mut feed, alloc, ground, bytes, happenings);
     let judgement = sum_up(alloc, ground, &mut feed.run, played);
     // By a call: what drops a plan that is played is long, and its proof stands once.
-    drop(feed);
+    freeing.let_go(feed);
     judgement
 }
 
@@ -125,6 +127,7 @@ fn judge_numbered(
     numbering: &Numbering,
     bytes: &[u8],
     happenings: u64,
+    freeing: Freeing,
 ) -> Result<Judged, AllocError>
     requires some { 1 ≤ happenings }
     ensures judged { IfOk result (JudgesText numbering.now.typed.now.domain numbering.now.typed.now.problem happenings bytes.now) }
@@ -133,7 +136,9 @@ fn judge_numbered(
         Ok(ground) => ground,
         Err(fault) => return judge_pair(alloc, fault),
     };
-    match judge_ground(alloc, numbering, &ground, bytes, happenings) {
+    let judgement = judge_ground(alloc, numbering, &ground, bytes, happenings, freeing);
+    freeing.let_go(ground);
+    match judgement {
         Ok(judgement) => Ok(judgement.judged),
         Err(_) => Err(AllocError),
     }
@@ -146,13 +151,14 @@ pub fn judge(
     typed: &Typed,
     text: &[u8],
     happenings: u64,
+    freeing: Freeing,
 ) -> Result<Judged, AllocError>
     requires some { 1 ≤ happenings }
     requires few { happenings ≤ most_happenings }
     ensures judged { IfOk result (JudgesText typed.now.domain typed.now.problem happenings text.now) }
 {
     match Numbering::new(alloc, typed) {
-        Ok(numbering) => judge_numbered(alloc, &numbering, text, happenings),
+        Ok(numbering) => judge_numbered(alloc, &numbering, text, happenings, freeing),
         Err(fault) => judge_pair(alloc, fault),
     }
 }

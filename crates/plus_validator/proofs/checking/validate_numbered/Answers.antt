@@ -24,7 +24,7 @@ returns-in-Err-clause-no_memory g c = λ h.
     inl (ungrounded_memory c.args.numbering.now.typed.now.domain c.args.numbering.now.typed.now.problem _ _ _ _ c.refuse.result (c.refuse.ensures.refused c.args.numbering.now.typed.now.domain c.args.numbering.now.typed.now.problem c.in-Err.ensures.limits) h)
 
 pub returns-clause-refused : goal.returns-clause-refused
-returns-clause-refused g c = λ h. inr (c.validate_ground.ensures.refused h)
+returns-clause-refused g c = λ h. inr (c.validate_ground-outcome.ensures.refused h)
 
 pub returns-clause-write_fault : goal.returns-clause-write_fault
-returns-clause-write_fault g c = λ h. (let k = c.validate_ground.ensures.write_fault h in (k.0, inr k.1))
+returns-clause-write_fault g c = λ h. (let k = c.validate_ground-outcome.ensures.write_fault h in (k.0, inr k.1))
