@@ -4,7 +4,7 @@ use Rattle.std.proofs.lemmas.List.{set_at, append-nil, drop_all}
 use Rattle.std.specs.List.Sorted.{IsStrictlySortedBy}
 use Rattle.std.specs.Map.{keys_of}
 use Rattle.std.specs.Ordering.{nat_cmp}
-use Rattle.std.specs.Prelude.{Option, Some, None, not, slice_get, unwrap_or, if◌then◌else◌}
+use Rattle.std.specs.Prelude.{Option, Some, None, Result, Ok, Err, MatchResult, OnOk, not, slice_get, unwrap_or, if◌then◌else◌}
 use Rattle.plus_fraction.specs.Fraction.{Fraction, ◌+ℚ◌, ◌*ℚ◌}
 use Rattle.plus_fraction.proofs.Ring.{var, num, ◌⊕◌, ◌⊗◌}
 use Rattle.plus_fraction.proofs.FractionRing.{ringℚ}
@@ -25,7 +25,7 @@ use Rattle.plus_state.proofs.Testing.{pass_none, pass_append, fail_left, fail_ri
 use Rattle.plus_crossing.specs.declared.moves.MoveStop.{MoveStop}
 use Rattle.plus_crossing.specs.declared.moves.MoveStop.TheVariants.{Number, Memory}
 use Rattle.plus_crossing.specs.Rated.{all_rates, moving_of}
-use Rattle.plus_crossing.specs.Moves.{moved_value, fluent_nodes, moved_nodes, change_if, moving_changes, MovesTo, MoveStops}
+use Rattle.plus_crossing.specs.Moves.{moved_value, fluent_nodes, moved_nodes, change_if, moving_changes, MovesTo, MoveStops, MovesTell}
 use Rattle.plus_crossing.proofs.Moving.{next_rate}
 use Rattle.plus_crossing.proofs.Rated.{AreRates, rates_given, moving_keys, moving_is}
 
@@ -269,3 +269,16 @@ noted atoms fluents = record { atoms = atoms; fluents = fluents }
 
 pub only_fluents : (atoms : List AtomChange) (fluents wanted : List (ℕ × Option Fraction)) → atoms ≡ [] → fluents ≡ wanted → noted (atom_changes atoms) fluents ≡ noted [] wanted
 only_fluents atoms fluents wanted e d = ap₂ (λ (a : List AtomChange) (f : List (ℕ × Option Fraction)). noted (atom_changes a) f) e d
+
+-- where the list of changes is put in place of other fluents, and there are no atoms
+module _ {Q : Type 0} (v : Q → Fraction) (fits : Fraction → Type 0) (s : State) (rs : List Fraction) (x : Fraction) (atoms : List AtomChange) (fluents : List (ℕ × Option Fraction)) (none : atoms ≡ []) where
+  abbrev pub PutsFluents : Result (Unit {0}) (MoveStop Q) → Type 0
+  PutsFluents answer = MatchResult answer (λ _. AllFit fits (moved_nodes s.fluents rs x) × (fluents ≡ moving_changes 0 s.fluents rs x)) (λ e. MoveStops v fits (moved_nodes s.fluents rs x) e)
+
+  pub told_whole : (answer : Result (Unit {0}) (MoveStop Q)) → PutsFluents answer → MovesTell v fits s rs x (noted (atom_changes atoms) fluents) answer
+  told_whole (Ok u) h = (h.0, leads_to s rs x _ (only_fluents atoms fluents _ none h.1))
+  told_whole (Err stop) h = h
+
+  pub rises_whole : (answer : Result (Unit {0}) (MoveStop Q)) → PutsFluents answer → OnOk answer (RisesIn s (noted (atom_changes atoms) fluents))
+  rises_whole (Ok u) h = rises_in s rs x _ (only_fluents atoms fluents _ none h.1)
+  rises_whole (Err stop) h = tt

@@ -49,7 +49,7 @@ moving_changes k (v ∷ vs) (r ∷ rs) x = change_if k v r x ++ moving_changes (
 abbrev pub MovesTo : State → List Fraction → Fraction → Changes → Type 0
 MovesTo s rs x c = (from : Fraction) → patched (moved s rs from) c ≡ moved s rs x
 
--- where all nodes fit, what leads to the moment; or the first that does not
-abbrev pub MovesTell : {Q : Type 0} → (Q → Fraction) → (Fraction → Type 0) → State → List Fraction → Fraction → Result Changes (MoveStop Q) → Type 0
-MovesTell v fits s rs x r =
-    MatchResult r (λ c. AllFit fits (moved_nodes s.fluents rs x) × MovesTo s rs x c) (λ e. MoveStops v fits (moved_nodes s.fluents rs x) e)
+-- where all nodes fit, the changes lead to the moment; or the first that does not
+abbrev pub MovesTell : {Q : Type 0} → (Q → Fraction) → (Fraction → Type 0) → State → List Fraction → Fraction → Changes → Result (Unit {0}) (MoveStop Q) → Type 0
+MovesTell v fits s rs x c r =
+    MatchResult r (λ _. AllFit fits (moved_nodes s.fluents rs x) × MovesTo s rs x c) (λ e. MoveStops v fits (moved_nodes s.fluents rs x) e)

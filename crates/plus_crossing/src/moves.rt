@@ -1,5 +1,5 @@
 //! Moved states.
-ghost use Rattle.std.specs.Prelude.{◌≡◌, ◌<◌, [], ◌++◌, length, option_map, slice_set, IfOk, MatchResult};
+ghost use Rattle.std.specs.Prelude.{◌≡◌, ◌<◌, [], ◌++◌, length, option_map, slice_set, IfOk, OnOk, MatchResult};
 ghost use Rattle.plus_fraction.specs.Fraction.{◌+ℚ◌, ◌*ℚ◌};
 ghost use Rattle.plus_model.specs.Value.{fluent_of};
 ghost use Rattle.plus_state.specs.Asked.{AllFit};
@@ -7,7 +7,7 @@ ghost use Rattle.plus_state.specs.Changes.{RisesIn};
 ghost use Rattle.plus_state.specs.ChangesView.{fluent_changes};
 ghost use Rattle.plus_state.specs.Fits.{StateFits};
 ghost use Rattle.plus_state.specs.Tells.{Tells};
-ghost use Rattle.plus_crossing.specs.Moves.{fluent_nodes, moved_value as moved_value_of, change_if, MoveAnswers, MoveStops, MovesTell};
+ghost use Rattle.plus_crossing.specs.Moves.{fluent_nodes, moved_value as moved_value_of, moved_nodes, change_if, moving_changes, MoveAnswers, MoveStops, MovesTell};
 
 use crate::node::exact;
 use crate::rates::Rates;
@@ -123,34 +123,47 @@ fn note<Q: Exact>(
     }
 }
 
-/// What so much time at these rates changes: the values of the fluents that move, by their numbers. It
-/// leads there also from the state after any other time at these rates. The refusal is that of `moved`.
-/// No fluent that stands still is visited.
+// Puts the values of the fluents that move, after so much time at these rates, in place of others.
 #[inline(always)]
-pub fn moved_changes<Q: Exact>(
-    alloc: Global,
+fn moved_fluents<Q: Exact>(
     state: &State<Q>,
     rates: &Rates<Q>,
     delay: Q,
-) -> Result<Changes<Q>, MoveStop<Q>>
+    fluents: &mut Vec<FluentChange<Q>>,
+) -> Result<(), MoveStop<Q>>
     requires { length rates.now ≡ length (state.now.fluents) }
-    ensures told { MovesTell Q.value Q.fits state.now rates.now (Q.value delay) result }
-    ensures rises { IfOk result (RisesIn state.now) }
-    ensures fluents { IfOk result (λ c. c.atoms ≡ []) }
+    ensures { MatchResult result
+        (λ _. AllFit Q.fits (moved_nodes state.now.fluents rates.now (Q.value delay))
+        × (fluent_changes Q.value fluents.new.items ≡ moving_changes 0 state.now.fluents rates.now (Q.value delay)))
+        (λ stop. MoveStops Q.value Q.fits (moved_nodes state.now.fluents rates.now (Q.value delay)) stop) }
 {
+    fluents.clear();
     let given = rates.given();
-    let Ok(mut fluents) = Vec::with_capacity(alloc, given.len()) else {
-        return Err(MoveStop::Memory);
-    };
     'each: for entry in given {
         let fluent = FluentId(entry.0);
-        match note(&mut fluents, fluent, state.fluent(fluent), entry.1, delay) {
+        match note(fluents, fluent, state.fluent(fluent), entry.1, delay) {
             Err(stop) => return Err(stop),
             Ok(()) => {}
         }
     }
-    Ok(Changes {
-        atoms: Vec::new(alloc),
-        fluents,
-    })
+    Ok(())
+}
+
+/// Puts what so much time at these rates changes in place of other changes, whose memory it takes: the
+/// values of the fluents that move, by their numbers. It leads there also from the state after any other
+/// time at these rates. The refusal is that of `moved`. No fluent that stands still is visited.
+#[inline(always)]
+pub fn moved_changes<Q: Exact>(
+    state: &State<Q>,
+    rates: &Rates<Q>,
+    delay: Q,
+    changes: &mut Changes<Q>,
+) -> Result<(), MoveStop<Q>>
+    requires { length rates.now ≡ length (state.now.fluents) }
+    ensures told { MovesTell Q.value Q.fits state.now rates.now (Q.value delay) changes.new result }
+    ensures rises { OnOk result (RisesIn state.now changes.new) }
+    ensures fluents { OnOk result (changes.new.atoms ≡ []) }
+{
+    changes.atoms.clear();
+    moved_fluents(state, rates, delay, &mut changes.fluents)
 }

@@ -1,5 +1,5 @@
 //! Net rates: how much each fluent gains in a unit of time.
-ghost use Rattle.std.specs.Prelude.{◌≡◌, ◌<◌, ◌≤◌, ◌↔◌, ℕ, replicate, length, slice_set, true, pos, IfOk, OnOk, OnErr};
+ghost use Rattle.std.specs.Prelude.{◌≡◌, ◌<◌, ◌≤◌, ◌↔◌, ℕ, replicate, length, insert, slice_set, true, pos, IfOk, OnOk, OnErr};
 ghost use Rattle.plus_fraction.specs.Fraction.{whole};
 ghost use Rattle.plus_model.specs.Piece.{rate_of};
 ghost use Rattle.plus_state.specs.Changes.{AreIn, Rises};
@@ -11,6 +11,9 @@ use plus_state::evaluation::is_zero;
 use plus_state::term::FluentId;
 use std::alloc::{AllocError, Global};
 use std::marker::Model;
+
+// Places are noted where at least one in so many fluents has one.
+const SPREAD: usize = 8;
 
 /// The net rate of each fluent, 0 where none was given. Contracts see the list of the fractions, by the
 /// numbers of the fluents. Only the rates that were given are kept, in a list by rising fluents: other
@@ -107,12 +110,16 @@ fn place_of<Q: Exact>(
     search(given, fluent)
 }
 
-// Notes where each of these fluents stands, which are below this number. What was noted of others is left.
+// Notes where each of these fluents stands, which are below this number. What was noted of others is left. Where they are few
+// among the fluents below it, nothing is noted: room for all of them would cost more than what moves.
 fn note_places<Q: Exact>(
     given: &[(u32, Q)],
     below: usize,
     guesses: &mut Vec<u32>,
 ) -> Result<(), AllocError> {
+    if below / SPREAD > given.len() {
+        return Ok(());
+    }
     if guesses.len() < below {
         guesses.resize(below, 0)?;
     }
@@ -122,6 +129,25 @@ fn note_places<Q: Exact>(
             *guess = place;
         }
         place = place.saturating_add(1);
+    }
+    Ok(())
+}
+
+// Puts an entry in at this place, which is mostly the end.
+#[inline(always)]
+fn put_in<Q: Exact>(
+    given: &mut Vec<(u32, Q)>,
+    place: usize,
+    entry: (u32, Q),
+) -> Result<(), AllocError>
+    requires { place ≤ length given.old.items }
+    ensures ok { OnOk result (given.new.items ≡ insert given.old.items place entry) }
+    ensures err { OnErr result (given.new.items ≡ given.old.items) }
+{
+    if place == given.len() {
+        given.push(entry)?;
+    } else {
+        given.insert(place, entry)?;
     }
     Ok(())
 }
@@ -190,7 +216,7 @@ impl<Q: Exact> Rates<Q> {
                 self.given[place] = (fluent.0, rate);
             }
             Err(place) => {
-                self.given.insert(place, (fluent.0, rate))?;
+                put_in(&mut self.given, place, (fluent.0, rate))?;
                 self.below = greater(self.below, fluent.0 as usize + 1);
             }
         }

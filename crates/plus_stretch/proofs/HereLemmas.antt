@@ -15,9 +15,7 @@ use Rattle.plus_state.proofs.Testing.{pass_append, pass_one, fail_one, fail_left
 use Rattle.plus_cascade.specs.Steps.{condition_nodes}
 use Rattle.plus_state.specs.Fits.{StateFits}
 use Rattle.plus_state.specs.Numbers.{AreMembers}
-use Rattle.plus_state.specs.declared.walk.WalkStop.{WalkStop}
-use Rattle.plus_state.specs.declared.walk.WalkStop.TheVariants as walk
-use Rattle.plus_state.specs.Walk.{event_conditions, held_among, OthersFalse, WalkStops}
+use Rattle.plus_state.specs.Walk.{event_conditions, held_among, OthersFalse}
 use Rattle.plus_state.proofs.LookLemmas.{look_finds}
 use Rattle.plus_state.proofs.LookingLemmas.{numbers_by}
 use Rattle.plus_state.specs.Changes.{Changes, patched, Within, RisesIn}
@@ -34,7 +32,7 @@ use Rattle.plus_stretch.specs.Tests.{Test, process, asks, straight, Passes, AllP
 use Rattle.plus_stretch.specs.StretchTests.{if_none, if_empty, after_tests, here_tests}
 use Rattle.plus_stretch.specs.After.{first_after, IsNoneSoon, IsSoon}
 use Rattle.plus_stretch.specs.Told.{HaltTold, Never}
-use Rattle.plus_stretch.specs.Here.{is_some_of, of_walk, of_go, IsQuietHere, SetEndsHere, MomentlessHere, IsAlong}
+use Rattle.plus_stretch.specs.Here.{is_some_of, of_go, IsQuietHere, SetEndsHere, MomentlessHere, IsAlong}
 use Rattle.plus_stretch.proofs.Layers.{nodes_carry}
 use Rattle.plus_stretch.proofs.Halts.{halt_left, halt_right}
 use Rattle.plus_stretch.proofs.SoonLemmas.{after_split}
@@ -75,9 +73,13 @@ unfolding Passes NodeFits
 node_fail fits sign x y m h e = fail_one (Passes fits) (asks (node sign x y)) (asks m) h (ap asks e)
 
 -- ---- whether an event holds
-pub walk_fails : {Q : Type 0} (v : Q → Fraction) (fits : Fraction → Type 0) (ns : List Node) (stop : WalkStop Q) → WalkStops v fits ns stop → HaltTold v fits (map asks ns) Never (of_walk stop)
-walk_fails v fits ns (walk.Number o) u = nodes_fail fits ns _ u
-walk_fails v fits ns walk.Memory u = tt
+-- one more that holds, and one that does not
+pub one_holds : (held : List ℕ) (k : ℕ) → true ≡ is_some_of (held ++ k ∷ [])
+one_holds [] k = refl
+one_holds (x ∷ held) k = refl
+
+pub none_holds : (held : List ℕ) (found : Bool) → found ≡ is_some_of held → found ≡ is_some_of (held ++ [])
+none_holds held found e = e ∙ ap is_some_of (sym (append-nil held))
 
 -- the events that a look at some finds, where no other one holds
 pub firing_is : (P : Problem) (s : State) (looked found : List ℕ) → AreMembers (length (event_conditions P)) looked → OthersFalse (event_conditions P) s looked → found ≡ held_among (event_conditions P) looked s → found ≡ firing P s

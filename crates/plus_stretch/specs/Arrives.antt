@@ -1,5 +1,5 @@
 -- Where a running set comes to.
-use Rattle.std.specs.Prelude.{◌≡◌, ℕ, List, [], ◌∷◌, Option, Some, None, Result, Ok, Err}
+use Rattle.std.specs.Prelude.{◌≡◌, ℕ, Bool, true, false, List, [], ◌∷◌, Option, Some, None, Result, Ok, Err}
 use Rattle.plus_fraction.specs.Fraction.{Fraction, ◌+ℚ◌, ◌<ℚ◌}
 use Rattle.plus_model.specs.Terms.{State, Problem}
 use Rattle.plus_model.specs.Running.{moved}
@@ -82,6 +82,17 @@ FirstTold value fits P u t s R rs len roots (Err h) = WalkTold value fits P u t 
 abbrev pub StretchTold : {Q : Type 0} → (Q → Fraction) → (Fraction → Type 0) → Problem → Fraction → Fraction → State → List ℕ → List Fraction → Result (Arrival Q) (Halt Q) → Type 0
 StretchTold value fits P u t s R rs answer =
     Told value fits (stretch_tests P u (stretch_view t s R) R) (Arrives value P u t s R rs) (IsMomentless P u (stretch_view t s R)) answer
+
+-- what a call answers that puts an arrival in its place: it, if something begins
+abbrev pub if_begun : {Q : Type 0} → Arrival Q → Result Bool (Halt Q) → Result (Option (Arrival Q)) (Halt Q)
+if_begun a (Ok true) = Ok (Some a)
+if_begun a (Ok false) = Ok None
+if_begun a (Err h) = Err h
+
+-- the same where it comes to one in any case
+abbrev pub arrived_at : {Q : Type 0} → Arrival Q → Result (Unit {0}) (Halt Q) → Result (Arrival Q) (Halt Q)
+arrived_at a (Ok u) = Ok a
+arrived_at a (Err h) = Err h
 
 -- afterwards the state that was lent is the one on arrival
 abbrev pub IsArrived : {Q : Type 0} → State → State → Arrival Q → Type 0

@@ -10,11 +10,9 @@ use Rattle.plus_settle.specs.declared.stops.GoStop.{GoStop}
 use Rattle.plus_settle.specs.declared.stops.GoStop.TheVariants as go
 use Rattle.plus_settle.specs.Confirms.{first_other}
 use Rattle.plus_stretch.specs.declared.halt.Halt.{Halt}
-use Rattle.plus_stretch.specs.declared.halt.Halt.TheVariants.{Limit, Memory}
+use Rattle.plus_stretch.specs.declared.halt.Halt.TheVariants.{Limit}
 use Rattle.plus_stretch.specs.declared.arrival.End.{End}
 use Rattle.plus_stretch.specs.declared.arrival.End.TheVariants.{EventHolds, SetEnds, Until}
-use Rattle.plus_state.specs.declared.walk.WalkStop.{WalkStop}
-use Rattle.plus_state.specs.declared.walk.WalkStop.TheVariants as walk
 use Rattle.plus_cascade.specs.Steps.{condition_nodes}
 use Rattle.plus_stretch.specs.Tests.{asks}
 use Rattle.plus_stretch.specs.Told.{Told, Never}
@@ -29,11 +27,6 @@ is_some_of (x ∷ xs) = true
 abbrev pub of_go : {Q : Type 0} → GoStop Q → Halt Q
 of_go (go.Number o) = Limit (Number o)
 of_go (go.Nonlinear p k) = Limit (Nonlinear (Process p) k)
-
--- the stop of a walk over conditions
-abbrev pub of_walk : {Q : Type 0} → WalkStop Q → Halt Q
-of_walk (walk.Number o) = Limit (Number o)
-of_walk walk.Memory = Memory
 
 -- whether an event holds
 abbrev pub EventHoldsTold : {Q : Type 0} → (Q → Fraction) → (Fraction → Type 0) → Problem → State → Result Bool (Halt Q) → Type 0

@@ -1,5 +1,5 @@
 //! What begins at one moment along a running set.
-ghost use Rattle.std.specs.Prelude.{◌≡◌, [], ◌∷◌, true, length, map, IfOk, IfSome, IsSomeAnd};
+ghost use Rattle.std.specs.Prelude.{◌≡◌, [], ◌∷◌, true, length, map, IfOk, IfSome, IsSomeAnd, OnOk};
 ghost use Rattle.plus_fraction.specs.Fraction.{◌+ℚ◌};
 ghost use Rattle.plus_model.specs.Running.{moved};
 ghost use Rattle.plus_state.specs.View.{problem_of};
@@ -13,11 +13,11 @@ ghost use Rattle.plus_settle.specs.Members.{process_numbers, AreMembers};
 ghost use Rattle.plus_stretch.specs.Tests.{asks};
 ghost use Rattle.plus_stretch.specs.StretchTests.{here_tests};
 ghost use Rattle.plus_stretch.specs.Told.{Told, Never};
-ghost use Rattle.plus_stretch.specs.Here.{is_some_of, of_walk, of_go, EventHoldsTold, HereIs, MomentlessHere, IsAlong};
+ghost use Rattle.plus_stretch.specs.Here.{of_go, EventHoldsTold, HereIs, MomentlessHere, IsAlong};
 ghost use Rattle.plus_stretch.specs.Among.{OthersKnown};
-ghost use Rattle.plus_stretch.specs.Arrives.{ComesBy, CrossingTold, IsArrived};
+ghost use Rattle.plus_stretch.specs.Arrives.{ComesBy, CrossingTold, if_begun, IsArrived};
 
-use crate::arrival::{Arrival, End};
+use crate::arrival::{Ahead, End};
 use crate::halt::Halt;
 use crate::soon::none_soon;
 use plus_crossing::motions::{may_drift, set_motions};
@@ -28,35 +28,15 @@ use plus_number::exact::Exact;
 use plus_settle::among::first_other_among;
 use plus_settle::settling::Running;
 use plus_settle::stops::GoStop;
-use plus_state::changes::Changes;
 use plus_state::outcome::{Limit, Owner};
 use plus_state::problem::Ground;
 use plus_state::states::State;
 use plus_state::term::{EventId, ProcessId, Sign};
-use plus_state::walk::{WalkStop, holding_among};
-use std::alloc::Global;
-
-fn walk_halt<Q: Exact>(stop: WalkStop<Q>) -> Halt<Q>
-    ensures { result ≡ of_walk stop }
-{
-    match stop {
-        WalkStop::Number(overflow) => Halt::Limit(Limit::Number(overflow)),
-        WalkStop::Memory => Halt::Memory,
-    }
-}
-
-fn is_some(events: &[EventId]) -> bool
-    ensures { result ≡ is_some_of (event_numbers events.now) }
-{
-    match events {
-        [] => false,
-        [_, ..] => true,
-    }
-}
+use plus_state::truth::holds;
+use plus_state::walk::Conditional;
 
 // Whether an event holds, by a look at these, where no other one does.
 fn event_holds<Q: Exact>(
-    alloc: Global,
     ground: &Ground<Q>,
     state: &State<Q>,
     events: &[EventId],
@@ -67,10 +47,18 @@ fn event_holds<Q: Exact>(
     requires silent { OthersFalse (event_conditions (problem_of Q.value ground.now)) state.now (event_numbers events.now) }
     ensures { EventHoldsTold Q.value Q.fits (problem_of Q.value ground.now) state.now result }
 {
-    match holding_among(alloc, ground, state, events) {
-        Err(stop) => Err(walk_halt(stop)),
-        Ok(found) => Ok(is_some(&found)),
+    let mut found = false;
+    'each: for event in events {
+        match holds(event.condition(ground), state) {
+            Err(overflow) => return Err(Halt::Limit(Limit::Number(overflow))),
+            Ok(truth) => {
+                if truth {
+                    found = true;
+                }
+            }
+        }
     }
+    Ok(found)
 }
 
 fn go_halt<Q: Exact>(stop: GoStop<Q>) -> Halt<Q>
@@ -93,7 +81,6 @@ fn go_halt<Q: Exact>(stop: GoStop<Q>) -> Halt<Q>
 // events, then the processes just after up to the first that differs from the running set, and then the
 // events just after up to the first that holds; or want of memory.
 fn begins_here<Q: Exact>(
-    alloc: Global,
     ground: &Ground<Q>,
     state: &State<Q>,
     running: &Running<Q>,
@@ -113,7 +100,7 @@ fn begins_here<Q: Exact>(
         (MomentlessHere (problem_of Q.value ground.now) (Q.value time) state.now (process_numbers running.now.members.items) running.now.rates)
         result }
 {
-    match event_holds(alloc, ground, state, events) {
+    match event_holds(ground, state, events) {
         Err(halt) => return Err(halt),
         Ok(holds) => {
             if holds {
@@ -142,104 +129,101 @@ fn later<Q: Exact>(time: Q, delay: Q) -> Result<Q, Halt<Q>>
     }
 }
 
-// Moves the state ahead to so much time after the beginning; what has changed since then.
+// Moves the state ahead to so much time after the beginning, and notes what has changed since then.
 #[inline(always)]
 pub fn move_ahead<Q: Exact>(
-    alloc: Global,
     state: &State<Q>,
-    ahead: &mut State<Q>,
+    ahead: &mut Ahead<Q>,
     rates: &Rates<Q>,
     delay: Q,
-) -> Result<Changes<Q>, Halt<Q>>
+) -> Result<(), Halt<Q>>
     requires rates { length rates.now ≡ length (state.now.fluents) }
-    requires along { IsAlong state.now rates.now ahead.old }
+    requires along { IsAlong state.now rates.now ahead.old.state }
     ensures told { Told Q.value Q.fits (map asks (moved_nodes (state.now.fluents) rates.now (Q.value delay)))
-        (ComesBy state.now rates.now (Q.value delay)) Never result }
-    ensures along { IsAlong state.now rates.now ahead.new }
-    ensures there { IfOk result (λ _. ahead.new ≡ moved state.now rates.now (Q.value delay)) }
+        (λ _. ComesBy state.now rates.now (Q.value delay) ahead.new.arrival.changes) Never result }
+    ensures along { IsAlong state.now rates.now ahead.new.state }
+    ensures there { OnOk result (ahead.new.state ≡ moved state.now rates.now (Q.value delay)) }
 {
-    match moved_changes(alloc, state, rates, delay) {
+    match moved_changes(state, rates, delay, &mut ahead.arrival.changes) {
         Err(MoveStop::Number(overflow)) => Err(Halt::Limit(Limit::Number(overflow))),
         Err(MoveStop::Memory) => Err(Halt::Memory),
-        Ok(changes) => {
-            ahead.patch(&changes);
-            Ok(changes)
+        Ok(()) => {
+            ahead.state.patch(&ahead.arrival.changes);
+            Ok(())
         }
     }
 }
 
 // What happens at a root, where all fluents that move are moved there at once.
 fn at_root_moved<Q: Exact>(
-    alloc: Global,
     ground: &Ground<Q>,
     state: &State<Q>,
-    ahead: &mut State<Q>,
+    ahead: &mut Ahead<Q>,
     running: &Running<Q>,
     time: Q,
     root: Q,
     events: &[EventId],
     processes: &[ProcessId],
-) -> Result<Option<Arrival<Q>>, Halt<Q>>
+) -> Result<bool, Halt<Q>>
     requires state { StateFits (length (ground.now.atoms.items)) (length (ground.now.fluents.items)) state.now }
     requires members { AreMembers (length (ground.now.processes.items)) (process_numbers running.now.members.items) }
     requires rates { length (running.now.rates) ≡ length (state.now.fluents) }
-    requires along { IsAlong state.now running.now.rates ahead.old }
+    requires along { IsAlong state.now running.now.rates ahead.old.state }
     requires events { AreMembers (length (ground.now.events.items)) (event_numbers events.now) }
     requires processes { AreMembers (length (ground.now.processes.items)) (process_numbers processes.now) }
     requires others { OthersKnown Q.fits (problem_of Q.value ground.now) (process_numbers running.now.members.items) (moved state.now running.now.rates (Q.value root)) running.now.rates (event_numbers events.now) (process_numbers processes.now) }
-    ensures told { CrossingTold Q.value Q.fits (problem_of Q.value ground.now) (Q.value time) state.now (process_numbers running.now.members.items) running.now.rates (Q.value root) result }
-    ensures along { IsAlong state.now running.now.rates ahead.new }
-    ensures arrived { IfOk result (λ o. IfSome o (IsArrived state.now ahead.new)) }
+    ensures told { CrossingTold Q.value Q.fits (problem_of Q.value ground.now) (Q.value time) state.now (process_numbers running.now.members.items) running.now.rates (Q.value root) (if_begun ahead.new.arrival result) }
+    ensures along { IsAlong state.now running.now.rates ahead.new.state }
+    ensures arrived { IfOk (if_begun ahead.new.arrival result) (λ o. IfSome o (IsArrived state.now ahead.new.state)) }
 {
     let moment = later(time, root)?;
-    let changes = move_ahead(alloc, state, ahead, &running.rates, root)?;
-    match begins_here(alloc, ground, ahead, running, moment, events, processes) {
+    move_ahead(state, ahead, &running.rates, root)?;
+    match begins_here(ground, &ahead.state, running, moment, events, processes) {
         Err(halt) => Err(halt),
-        Ok(None) => Ok(None),
-        Ok(Some(end)) => Ok(Some(Arrival {
-            time: moment,
-            changes,
-            end,
-        })),
+        Ok(None) => Ok(false),
+        Ok(Some(end)) => {
+            ahead.arrival.time = moment;
+            ahead.arrival.end = end;
+            Ok(true)
+        }
     }
 }
 
 // What happens at a root, where it is known that all that move stay values of the type: they are set on
 // their way, and what has changed is worked only where something begins.
 fn at_root_in_motion<Q: Exact>(
-    alloc: Global,
     ground: &Ground<Q>,
     state: &State<Q>,
-    ahead: &mut State<Q>,
+    ahead: &mut Ahead<Q>,
     running: &Running<Q>,
     time: Q,
     root: Q,
     events: &[EventId],
     processes: &[ProcessId],
-) -> Result<Option<Arrival<Q>>, Halt<Q>>
+) -> Result<bool, Halt<Q>>
     requires state { StateFits (length (ground.now.atoms.items)) (length (ground.now.fluents.items)) state.now }
     requires members { AreMembers (length (ground.now.processes.items)) (process_numbers running.now.members.items) }
     requires rates { length (running.now.rates) ≡ length (state.now.fluents) }
-    requires along { IsAlong state.now running.now.rates ahead.old }
+    requires along { IsAlong state.now running.now.rates ahead.old.state }
     requires events { AreMembers (length (ground.now.events.items)) (event_numbers events.now) }
     requires processes { AreMembers (length (ground.now.processes.items)) (process_numbers processes.now) }
     requires fit { AllFit Q.fits (moved_nodes (state.now.fluents) running.now.rates (Q.value root)) }
     requires others { OthersKnown Q.fits (problem_of Q.value ground.now) (process_numbers running.now.members.items) (moved state.now running.now.rates (Q.value root)) running.now.rates (event_numbers events.now) (process_numbers processes.now) }
-    ensures told { CrossingTold Q.value Q.fits (problem_of Q.value ground.now) (Q.value time) state.now (process_numbers running.now.members.items) running.now.rates (Q.value root) result }
-    ensures along { IsAlong state.now running.now.rates ahead.new }
-    ensures arrived { IfOk result (λ o. IfSome o (IsArrived state.now ahead.new)) }
+    ensures told { CrossingTold Q.value Q.fits (problem_of Q.value ground.now) (Q.value time) state.now (process_numbers running.now.members.items) running.now.rates (Q.value root) (if_begun ahead.new.arrival result) }
+    ensures along { IsAlong state.now running.now.rates ahead.new.state }
+    ensures arrived { IfOk (if_begun ahead.new.arrival result) (λ o. IfSome o (IsArrived state.now ahead.new.state)) }
 {
     let moment = later(time, root)?;
-    set_motions(state, ahead, &running.rates, root);
-    match begins_here(alloc, ground, ahead, running, moment, events, processes)? {
-        None => Ok(None),
-        Some(end) => match move_ahead(alloc, state, ahead, &running.rates, root) {
+    set_motions(state, &mut ahead.state, &running.rates, root);
+    match begins_here(ground, &ahead.state, running, moment, events, processes)? {
+        None => Ok(false),
+        Some(end) => match move_ahead(state, ahead, &running.rates, root) {
             Err(halt) => Err(halt),
-            Ok(changes) => Ok(Some(Arrival {
-                time: moment,
-                changes,
-                end,
-            })),
+            Ok(()) => {
+                ahead.arrival.time = moment;
+                ahead.arrival.end = end;
+                Ok(true)
+            }
         },
     }
 }
@@ -254,42 +238,37 @@ fn drifts<Q: Exact>(extent: Option<u64>, delay: Q) -> bool
     }
 }
 
-/// What happens so much time after the beginning of a stretch, by a look at these events and processes,
-/// where it is known what the others tell there: none where nothing begins, or its end. The refusal is
-/// the first test that fails: the moment, the fluents that move, and then what is asked there of all
-/// events and processes; or want of memory. The state ahead is moved there.
+/// Whether something begins so much time after the beginning of a stretch, by a look at these events and
+/// processes, where it is known what the others tell there: then the arrival says when the stretch ends, and
+/// why. The refusal is the first test that fails: the moment, the fluents that move, and then what is asked
+/// there of all events and processes; or want of memory. The state ahead is moved there.
 /// Where it is known how far the fluents go that move (`extent`), they may be set on their way.
 #[inline(always)]
 pub fn at_root<Q: Exact>(
-    alloc: Global,
     ground: &Ground<Q>,
     state: &State<Q>,
-    ahead: &mut State<Q>,
+    ahead: &mut Ahead<Q>,
     running: &Running<Q>,
     time: Q,
     root: Q,
     events: &[EventId],
     processes: &[ProcessId],
     extent: Option<u64>,
-) -> Result<Option<Arrival<Q>>, Halt<Q>>
+) -> Result<bool, Halt<Q>>
     requires state { StateFits (length (ground.now.atoms.items)) (length (ground.now.fluents.items)) state.now }
     requires members { AreMembers (length (ground.now.processes.items)) (process_numbers running.now.members.items) }
     requires rates { length (running.now.rates) ≡ length (state.now.fluents) }
-    requires along { IsAlong state.now running.now.rates ahead.old }
+    requires along { IsAlong state.now running.now.rates ahead.old.state }
     requires events { AreMembers (length (ground.now.events.items)) (event_numbers events.now) }
     requires processes { AreMembers (length (ground.now.processes.items)) (process_numbers processes.now) }
     requires extent { IfSome extent (Extends state.now.fluents running.now.rates) }
     requires others { OthersKnown Q.fits (problem_of Q.value ground.now) (process_numbers running.now.members.items) (moved state.now running.now.rates (Q.value root)) running.now.rates (event_numbers events.now) (process_numbers processes.now) }
-    ensures told { CrossingTold Q.value Q.fits (problem_of Q.value ground.now) (Q.value time) state.now (process_numbers running.now.members.items) running.now.rates (Q.value root) result }
-    ensures along { IsAlong state.now running.now.rates ahead.new }
-    ensures arrived { IfOk result (λ o. IfSome o (IsArrived state.now ahead.new)) }
+    ensures told { CrossingTold Q.value Q.fits (problem_of Q.value ground.now) (Q.value time) state.now (process_numbers running.now.members.items) running.now.rates (Q.value root) (if_begun ahead.new.arrival result) }
+    ensures along { IsAlong state.now running.now.rates ahead.new.state }
+    ensures arrived { IfOk (if_begun ahead.new.arrival result) (λ o. IfSome o (IsArrived state.now ahead.new.state)) }
 {
     if drifts(extent, root) {
-        return at_root_in_motion(
-            alloc, ground, state, ahead, running, time, root, events, processes,
-        );
+        return at_root_in_motion(ground, state, ahead, running, time, root, events, processes);
     }
-    at_root_moved(
-        alloc, ground, state, ahead, running, time, root, events, processes,
-    )
+    at_root_moved(ground, state, ahead, running, time, root, events, processes)
 }

@@ -24,7 +24,7 @@ pub mod search;
 pub mod soon;
 pub mod sorted;
 
-pub use arrival::{Arrival, End};
+pub use arrival::{Ahead, Arrival, End};
 pub use halt::Halt;
 pub use search::{reach, reach_among};
 pub use soon::momentless_among;

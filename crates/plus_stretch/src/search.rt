@@ -1,5 +1,5 @@
 //! From root to root along a running set.
-ghost use Rattle.std.specs.Prelude.{◌≡◌, ◌≤◌, true, [], ◌∷◌, ◌++◌, Ok, length, map, drop, IfOk, IfSome, pos};
+ghost use Rattle.std.specs.Prelude.{◌≡◌, ◌≤◌, true, [], ◌∷◌, ◌++◌, Ok, length, map, drop, IfOk, IfSome, OnOk, pos};
 ghost use Rattle.plus_fraction.specs.Fraction.{whole, ◌-ℚ◌, ◌<ℚ◌};
 ghost use Rattle.plus_model.specs.Running.{rates as rates_of, moved, GoesOn};
 ghost use Rattle.plus_state.specs.View.{problem_of};
@@ -18,12 +18,12 @@ ghost use Rattle.plus_stretch.specs.After.{NoneHoldsAfter};
 ghost use Rattle.plus_stretch.specs.Told.{Told, Never};
 ghost use Rattle.plus_stretch.specs.Here.{IsAlong};
 ghost use Rattle.plus_stretch.specs.Crossings.{rising_below};
-ghost use Rattle.plus_stretch.specs.Arrives.{IsArrived, CrossingTold, IsQuietAtFirst, IsAtEnd, FirstTold, WalkTold, StretchTold};
+ghost use Rattle.plus_stretch.specs.Arrives.{if_begun, arrived_at, IsArrived, CrossingTold, IsQuietAtFirst, IsAtEnd, FirstTold, WalkTold, StretchTold};
 ghost use Rattle.plus_stretch.specs.Among.{KnownFor};
 ghost use Rattle.plus_stretch.specs.Marked.{marks_of, roots_of, owning_events, owning_processes, AreOwners, AreAllMarked, AllMarked, AreAscending};
 ghost use Rattle.plus_stretch.specs.Skips.{OthersSimple};
 
-use crate::arrival::{Arrival, End};
+use crate::arrival::{Ahead, End};
 use crate::crossing::{at_root, move_ahead};
 use crate::everyone::everyone;
 use crate::halt::Halt;
@@ -58,10 +58,9 @@ struct Span<Q> {
 // What happens at a root: by a look at the owners of the marks there, and at whatever is looked at everywhere, where it is
 // known what all others tell.
 fn cross<Q: Exact>(
-    alloc: Global,
     ground: &Ground<Q>,
     state: &State<Q>,
-    ahead: &mut State<Q>,
+    ahead: &mut Ahead<Q>,
     running: &Running<Q>,
     time: Q,
     root: Q,
@@ -69,11 +68,11 @@ fn cross<Q: Exact>(
     everywhere: &Looked,
     looking: &mut Looking,
     extent: Option<u64>,
-) -> Result<Option<Arrival<Q>>, Halt<Q>>
+) -> Result<bool, Halt<Q>>
     requires state { StateFits (length (ground.now.atoms.items)) (length (ground.now.fluents.items)) state.now }
     requires members { AreMembers (length (ground.now.processes.items)) (process_numbers running.now.members.items) }
     requires rates { length (running.now.rates) ≡ length (state.now.fluents) }
-    requires along { IsAlong state.now running.now.rates ahead.old }
+    requires along { IsAlong state.now running.now.rates ahead.old.state }
     requires owners { AreOwners (problem_of Q.value ground.now) (marks_of Q.value marks.now) }
     requires events { AreMembers (length (ground.now.events.items)) (event_numbers everywhere.now.events.items) }
     requires processes { AreMembers (length (ground.now.processes.items)) (process_numbers everywhere.now.processes.items) }
@@ -81,14 +80,13 @@ fn cross<Q: Exact>(
     requires others { KnownFor Q.fits (problem_of Q.value ground.now) (process_numbers running.now.members.items) (moved state.now running.now.rates (Q.value root)) running.now.rates
         (event_numbers everywhere.now.events.items ++ owning_events (marks_of Q.value marks.now))
         (process_numbers everywhere.now.processes.items ++ owning_processes (marks_of Q.value marks.now)) }
-    ensures told { CrossingTold Q.value Q.fits (problem_of Q.value ground.now) (Q.value time) state.now (process_numbers running.now.members.items) running.now.rates (Q.value root) result }
-    ensures along { IsAlong state.now running.now.rates ahead.new }
-    ensures arrived { IfOk result (λ o. IfSome o (IsArrived state.now ahead.new)) }
+    ensures told { CrossingTold Q.value Q.fits (problem_of Q.value ground.now) (Q.value time) state.now (process_numbers running.now.members.items) running.now.rates (Q.value root) (if_begun ahead.new.arrival result) }
+    ensures along { IsAlong state.now running.now.rates ahead.new.state }
+    ensures arrived { IfOk (if_begun ahead.new.arrival result) (λ o. IfSome o (IsArrived state.now ahead.new.state)) }
 {
     match looked_at(marks, everywhere, looking) {
         Err(_) => Err(Halt::Memory),
         Ok(()) => at_root(
-            alloc,
             ground,
             state,
             ahead,
@@ -104,10 +102,9 @@ fn cross<Q: Exact>(
 
 // The same behind the first root, where it is known that nothing begins.
 fn cross_behind<Q: Exact>(
-    alloc: Global,
     ground: &Ground<Q>,
     state: &State<Q>,
-    ahead: &mut State<Q>,
+    ahead: &mut Ahead<Q>,
     running: &Running<Q>,
     time: Q,
     root: Q,
@@ -116,11 +113,11 @@ fn cross_behind<Q: Exact>(
     looking: &mut Looking,
     extent: Option<u64>,
     is_first: bool,
-) -> Result<Option<Arrival<Q>>, Halt<Q>>
+) -> Result<bool, Halt<Q>>
     requires state { StateFits (length (ground.now.atoms.items)) (length (ground.now.fluents.items)) state.now }
     requires members { AreMembers (length (ground.now.processes.items)) (process_numbers running.now.members.items) }
     requires rates { length (running.now.rates) ≡ length (state.now.fluents) }
-    requires along { IsAlong state.now running.now.rates ahead.old }
+    requires along { IsAlong state.now running.now.rates ahead.old.state }
     requires owners { AreOwners (problem_of Q.value ground.now) (marks_of Q.value marks.now) }
     requires events { AreMembers (length (ground.now.events.items)) (event_numbers everywhere.now.events.items) }
     requires processes { AreMembers (length (ground.now.processes.items)) (process_numbers everywhere.now.processes.items) }
@@ -129,41 +126,40 @@ fn cross_behind<Q: Exact>(
         (event_numbers everywhere.now.events.items ++ owning_events (marks_of Q.value marks.now))
         (process_numbers everywhere.now.processes.items ++ owning_processes (marks_of Q.value marks.now)) }
     requires quiet { is_first ≡ true → IsQuietAtFirst Q.fits (problem_of Q.value ground.now) (Q.value time) state.now (process_numbers running.now.members.items) running.now.rates (Q.value root ∷ []) }
-    ensures told { CrossingTold Q.value Q.fits (problem_of Q.value ground.now) (Q.value time) state.now (process_numbers running.now.members.items) running.now.rates (Q.value root) result }
-    ensures along { IsAlong state.now running.now.rates ahead.new }
-    ensures arrived { IfOk result (λ o. IfSome o (IsArrived state.now ahead.new)) }
+    ensures told { CrossingTold Q.value Q.fits (problem_of Q.value ground.now) (Q.value time) state.now (process_numbers running.now.members.items) running.now.rates (Q.value root) (if_begun ahead.new.arrival result) }
+    ensures along { IsAlong state.now running.now.rates ahead.new.state }
+    ensures arrived { IfOk (if_begun ahead.new.arrival result) (λ o. IfSome o (IsArrived state.now ahead.new.state)) }
 {
     if is_first {
-        return Ok(None);
+        return Ok(false);
     }
     cross(
-        alloc, ground, state, ahead, running, time, root, marks, everywhere, looking, extent,
+        ground, state, ahead, running, time, root, marks, everywhere, looking, extent,
     )
 }
 
 // What is reached at the end, so much time later, where nothing begins before it.
 fn finish<Q: Exact>(
-    alloc: Global,
     state: &State<Q>,
-    ahead: &mut State<Q>,
+    ahead: &mut Ahead<Q>,
     rates: &Rates<Q>,
     until: Q,
     delay: Q,
-) -> Result<Arrival<Q>, Halt<Q>>
+) -> Result<(), Halt<Q>>
     requires rates { length rates.now ≡ length (state.now.fluents) }
-    requires along { IsAlong state.now rates.now ahead.old }
+    requires along { IsAlong state.now rates.now ahead.old.state }
     ensures told { Told Q.value Q.fits (map asks (moved_nodes (state.now.fluents) rates.now (Q.value delay)))
-        (IsAtEnd Q.value (Q.value until) state.now rates.now (Q.value delay)) Never result }
-    ensures along { IsAlong state.now rates.now ahead.new }
-    ensures arrived { IfOk result (IsArrived state.now ahead.new) }
+        (IsAtEnd Q.value (Q.value until) state.now rates.now (Q.value delay)) Never (arrived_at ahead.new.arrival result) }
+    ensures along { IsAlong state.now rates.now ahead.new.state }
+    ensures arrived { OnOk result (IsArrived state.now ahead.new.state ahead.new.arrival) }
 {
-    match move_ahead(alloc, state, ahead, rates, delay) {
+    match move_ahead(state, ahead, rates, delay) {
         Err(halt) => Err(halt),
-        Ok(changes) => Ok(Arrival {
-            time: until,
-            changes,
-            end: End::Until,
-        }),
+        Ok(()) => {
+            ahead.arrival.time = until;
+            ahead.arrival.end = End::Until;
+            Ok(())
+        }
     }
 }
 
@@ -215,17 +211,16 @@ fn extent_behind<Q: Exact>(
 
 // What happens at the least of the roots that are marked, or at the end of the span where none comes before it.
 fn first<Q: Exact>(
-    alloc: Global,
     ground: &Ground<Q>,
     state: &State<Q>,
-    ahead: &mut State<Q>,
+    ahead: &mut Ahead<Q>,
     running: &Running<Q>,
     span: Span<Q>,
     marks: &[Mark<Q>],
     here: &mut Vec<Mark<Q>>,
     everywhere: &Looked,
     looking: &mut Looking,
-) -> Result<Option<Arrival<Q>>, Halt<Q>>
+) -> Result<bool, Halt<Q>>
     requires state { StateFits (length (ground.now.atoms.items)) (length (ground.now.fluents.items)) state.now }
     requires members { AreMembers (length (ground.now.processes.items)) (process_numbers running.now.members.items) }
     requires size { length (running.now.rates) ≡ length (state.now.fluents) }
@@ -235,24 +230,24 @@ fn first<Q: Exact>(
     requires linear { AllPass Q.fits (root_tests (problem_of Q.value ground.now) state.now running.now.rates) }
     requires later { Q.value span.from <ℚ Q.value span.until }
     requires length { Q.value span.length ≡ Q.value span.until -ℚ Q.value span.from }
-    requires along { IsAlong state.now running.now.rates ahead.old }
+    requires along { IsAlong state.now running.now.rates ahead.old.state }
     requires marked { AllMarked (problem_of Q.value ground.now) state.now running.now.rates (marks_of Q.value marks.now) }
     requires events { AreMembers (length (ground.now.events.items)) (event_numbers everywhere.now.events.items) }
     requires processes { AreMembers (length (ground.now.processes.items)) (process_numbers everywhere.now.processes.items) }
     requires simple_events { OthersSimple (event_conditions (problem_of Q.value ground.now)) running.now.rates (event_numbers everywhere.now.events.items) }
     requires simple_processes { OthersSimple (process_conditions (problem_of Q.value ground.now)) running.now.rates (process_numbers everywhere.now.processes.items) }
-    ensures told { FirstTold Q.value Q.fits (problem_of Q.value ground.now) (Q.value span.until) (Q.value span.from) state.now (process_numbers running.now.members.items) running.now.rates (Q.value span.length) (rising_below (Q.value span.length) (roots_of (marks_of Q.value marks.now))) result }
-    ensures along { IsAlong state.now running.now.rates ahead.new }
-    ensures arrived { IfOk result (λ o. IfSome o (IsArrived state.now ahead.new)) }
+    ensures told { FirstTold Q.value Q.fits (problem_of Q.value ground.now) (Q.value span.until) (Q.value span.from) state.now (process_numbers running.now.members.items) running.now.rates (Q.value span.length) (rising_below (Q.value span.length) (roots_of (marks_of Q.value marks.now))) (if_begun ahead.new.arrival result) }
+    ensures along { IsAlong state.now running.now.rates ahead.new.state }
+    ensures arrived { IfOk (if_begun ahead.new.arrival result) (λ o. IfSome o (IsArrived state.now ahead.new.state)) }
 {
     match least_below(marks, span.length, here) {
         Err(_) => Err(Halt::Memory),
-        Ok(None) => match finish(alloc, state, ahead, &running.rates, span.until, span.length) {
+        Ok(None) => match finish(state, ahead, &running.rates, span.until, span.length) {
             Err(halt) => Err(halt),
-            Ok(arrival) => Ok(Some(arrival)),
+            Ok(()) => Ok(true),
         },
         Ok(Some(root)) => cross(
-            alloc, ground, state, ahead, running, span.from, root, here, everywhere, looking, None,
+            ground, state, ahead, running, span.from, root, here, everywhere, looking, None,
         ),
     }
 }
@@ -260,17 +255,16 @@ fn first<Q: Exact>(
 // From one of these roots to the next, up to the first at which something begins, or to the end: at the first of them it is known
 // that nothing begins. At each only the owners of the marks there are looked at, and those whose conditions are not simple.
 fn walk<Q: Exact>(
-    alloc: Global,
     ground: &Ground<Q>,
     state: &State<Q>,
-    ahead: &mut State<Q>,
+    ahead: &mut Ahead<Q>,
     running: &Running<Q>,
     span: Span<Q>,
     roots: &[Q],
     marks: &[Mark<Q>],
     everywhere: &Looked,
     looking: &mut Looking,
-) -> Result<Arrival<Q>, Halt<Q>>
+) -> Result<(), Halt<Q>>
     requires state { StateFits (length (ground.now.atoms.items)) (length (ground.now.fluents.items)) state.now }
     requires members { AreMembers (length (ground.now.processes.items)) (process_numbers running.now.members.items) }
     requires size { length (running.now.rates) ≡ length (state.now.fluents) }
@@ -282,16 +276,16 @@ fn walk<Q: Exact>(
     requires length { Q.value span.length ≡ Q.value span.until -ℚ Q.value span.from }
     requires roots { AreLeft (problem_of Q.value ground.now) state.now running.now.rates (whole (pos 0)) (Q.value span.length) (map Q.value roots.now) }
     requires quiet { IsQuietAtFirst Q.fits (problem_of Q.value ground.now) (Q.value span.from) state.now (process_numbers running.now.members.items) running.now.rates (map Q.value roots.now) }
-    requires along { IsAlong state.now running.now.rates ahead.old }
+    requires along { IsAlong state.now running.now.rates ahead.old.state }
     requires marked { AreAllMarked (problem_of Q.value ground.now) state.now running.now.rates (marks_of Q.value marks.now) }
     requires ascending { AreAscending (roots_of (marks_of Q.value marks.now)) }
     requires events { AreMembers (length (ground.now.events.items)) (event_numbers everywhere.now.events.items) }
     requires processes { AreMembers (length (ground.now.processes.items)) (process_numbers everywhere.now.processes.items) }
     requires simple_events { OthersSimple (event_conditions (problem_of Q.value ground.now)) running.now.rates (event_numbers everywhere.now.events.items) }
     requires simple_processes { OthersSimple (process_conditions (problem_of Q.value ground.now)) running.now.rates (process_numbers everywhere.now.processes.items) }
-    ensures told { WalkTold Q.value Q.fits (problem_of Q.value ground.now) (Q.value span.until) (Q.value span.from) state.now (process_numbers running.now.members.items) running.now.rates (Q.value span.length) (map Q.value roots.now) result }
-    ensures along { IsAlong state.now running.now.rates ahead.new }
-    ensures arrived { IfOk result (IsArrived state.now ahead.new) }
+    ensures told { WalkTold Q.value Q.fits (problem_of Q.value ground.now) (Q.value span.until) (Q.value span.from) state.now (process_numbers running.now.members.items) running.now.rates (Q.value span.length) (map Q.value roots.now) (arrived_at ahead.new.arrival result) }
+    ensures along { IsAlong state.now running.now.rates ahead.new.state }
+    ensures arrived { OnOk result (IsArrived state.now ahead.new.state ahead.new.arrival) }
 {
     let Span {
         from,
@@ -304,7 +298,6 @@ fn walk<Q: Exact>(
     'each: for root in roots {
         let count = up_to(rest, *root);
         match cross_behind(
-            alloc,
             ground,
             state,
             ahead,
@@ -318,27 +311,26 @@ fn walk<Q: Exact>(
             is_first,
         ) {
             Err(halt) => return Err(halt),
-            Ok(Some(arrival)) => return Ok(arrival),
-            Ok(None) => {}
+            Ok(true) => return Ok(()),
+            Ok(false) => {}
         }
         rest = behind(rest, count);
-        extent = extent_behind(state, ahead, &running.rates, is_first, extent);
+        extent = extent_behind(state, &mut ahead.state, &running.rates, is_first, extent);
         is_first = false;
     }
-    finish(alloc, state, ahead, &running.rates, until, length)
+    finish(state, ahead, &running.rates, until, length)
 }
 
 // From root to root, where the roots stand in the room: the least is tried first, since something begins there mostly. Only
 // where nothing does, all marks are put in order.
 fn along_roots<Q: Exact>(
-    alloc: Global,
     ground: &Ground<Q>,
     state: &State<Q>,
-    ahead: &mut State<Q>,
+    ahead: &mut Ahead<Q>,
     running: &Running<Q>,
     span: Span<Q>,
     room: &mut Room<Q>,
-) -> Result<Arrival<Q>, Halt<Q>>
+) -> Result<(), Halt<Q>>
     requires state { StateFits (length (ground.now.atoms.items)) (length (ground.now.fluents.items)) state.now }
     requires members { AreMembers (length (ground.now.processes.items)) (process_numbers running.now.members.items) }
     requires size { length (running.now.rates) ≡ length (state.now.fluents) }
@@ -348,18 +340,17 @@ fn along_roots<Q: Exact>(
     requires linear { AllPass Q.fits (root_tests (problem_of Q.value ground.now) state.now running.now.rates) }
     requires later { Q.value span.from <ℚ Q.value span.until }
     requires length { Q.value span.length ≡ Q.value span.until -ℚ Q.value span.from }
-    requires along { IsAlong state.now running.now.rates ahead.old }
+    requires along { IsAlong state.now running.now.rates ahead.old.state }
     requires marked { AllMarked (problem_of Q.value ground.now) state.now running.now.rates (marks_of Q.value room.old.marks.items) }
     requires events { AreMembers (length (ground.now.events.items)) (event_numbers room.old.everywhere.events.items) }
     requires processes { AreMembers (length (ground.now.processes.items)) (process_numbers room.old.everywhere.processes.items) }
     requires simple_events { OthersSimple (event_conditions (problem_of Q.value ground.now)) running.now.rates (event_numbers room.old.everywhere.events.items) }
     requires simple_processes { OthersSimple (process_conditions (problem_of Q.value ground.now)) running.now.rates (process_numbers room.old.everywhere.processes.items) }
-    ensures told { WalkTold Q.value Q.fits (problem_of Q.value ground.now) (Q.value span.until) (Q.value span.from) state.now (process_numbers running.now.members.items) running.now.rates (Q.value span.length) (rising_below (Q.value span.length) (roots_of (marks_of Q.value room.old.marks.items))) result }
-    ensures along { IsAlong state.now running.now.rates ahead.new }
-    ensures arrived { IfOk result (IsArrived state.now ahead.new) }
+    ensures told { WalkTold Q.value Q.fits (problem_of Q.value ground.now) (Q.value span.until) (Q.value span.from) state.now (process_numbers running.now.members.items) running.now.rates (Q.value span.length) (rising_below (Q.value span.length) (roots_of (marks_of Q.value room.old.marks.items))) (arrived_at ahead.new.arrival result) }
+    ensures along { IsAlong state.now running.now.rates ahead.new.state }
+    ensures arrived { OnOk result (IsArrived state.now ahead.new.state ahead.new.arrival) }
 {
     match first(
-        alloc,
         ground,
         state,
         ahead,
@@ -371,11 +362,10 @@ fn along_roots<Q: Exact>(
         &mut room.looking,
     ) {
         Err(halt) => Err(halt),
-        Ok(Some(arrival)) => Ok(arrival),
-        Ok(None) => match rising(&mut room.marks, span.length, &mut room.different) {
+        Ok(true) => Ok(()),
+        Ok(false) => match rising(&mut room.marks, span.length, &mut room.different) {
             Err(_) => Err(Halt::Memory),
             Ok(()) => walk(
-                alloc,
                 ground,
                 state,
                 ahead,
@@ -411,35 +401,34 @@ fn time_left<Q: Exact>(time: Q, until: Q) -> Result<Q, Halt<Q>>
 /// by root below the time asked for, from the least, the moment, the fluents that move, all events, the
 /// processes just after up to the first that differs, and the events just after up to the first that
 /// holds; at last the fluents that move up to the time asked for. Want of memory may come at any time.
-/// The state ahead is one more copy of the state, which is moved on the way and is the state on arrival
-/// then. The room is memory only: the answer is the same, whatever stands in it.
+/// The state ahead is one more copy of the state, which is moved on the way; then it is the state on arrival,
+/// and the arrival beside it says when and why the stretch ends there. After a refusal that says nothing. The room is memory only: the answer is the same, whatever stands in it.
 pub fn reach_among<Q: Exact>(
-    alloc: Global,
     ground: &Ground<Q>,
     state: &State<Q>,
-    ahead: &mut State<Q>,
+    ahead: &mut Ahead<Q>,
     running: &Running<Q>,
     time: Q,
     until: Q,
     events: &[EventId],
     processes: &[ProcessId],
     room: &mut Room<Q>,
-) -> Result<Arrival<Q>, Halt<Q>>
+) -> Result<(), Halt<Q>>
     requires state { StateFits (length (ground.now.atoms.items)) (length (ground.now.fluents.items)) state.now }
     requires members { AreMembers (length (ground.now.processes.items)) (process_numbers running.now.members.items) }
     requires size { length (running.now.rates) ≡ length (state.now.fluents) }
     requires rates { rates_of (problem_of Q.value ground.now) state.now (process_numbers running.now.members.items) ≡ Ok running.now.rates }
     requires on { GoesOn (problem_of Q.value ground.now) state.now running.now.rates (process_numbers running.now.members.items) }
     requires later { Q.value time <ℚ Q.value until }
-    requires ahead { ahead.old ≡ state.now }
+    requires ahead { ahead.old.state ≡ state.now }
     requires events { AreMembers (length (ground.now.events.items)) (event_numbers events.now) }
     requires processes { AreMembers (length (ground.now.processes.items)) (process_numbers processes.now) }
     requires other_events { OthersStill Q.fits (event_conditions (problem_of Q.value ground.now)) state.now running.now.rates (event_numbers events.now) }
     requires silent { OthersFalse (event_conditions (problem_of Q.value ground.now)) state.now (event_numbers events.now) }
     requires other_processes { OthersStill Q.fits (process_conditions (problem_of Q.value ground.now)) state.now running.now.rates (process_numbers processes.now) }
-    ensures told { StretchTold Q.value Q.fits (problem_of Q.value ground.now) (Q.value until) (Q.value time) state.now (process_numbers running.now.members.items) running.now.rates result }
-    ensures along { IsAlong state.now running.now.rates ahead.new }
-    ensures arrived { IfOk result (IsArrived state.now ahead.new) }
+    ensures told { StretchTold Q.value Q.fits (problem_of Q.value ground.now) (Q.value until) (Q.value time) state.now (process_numbers running.now.members.items) running.now.rates (arrived_at ahead.new.arrival result) }
+    ensures along { IsAlong state.now running.now.rates ahead.new.state }
+    ensures arrived { OnOk result (IsArrived state.now ahead.new.state ahead.new.arrival) }
 {
     none_soon(ground, state, &running.rates, time, events)?;
     let length = time_left(time, until)?;
@@ -453,7 +442,6 @@ pub fn reach_among<Q: Exact>(
     ) {
         Err(_) => Err(Halt::Memory),
         Ok(()) => along_roots(
-            alloc,
             ground,
             state,
             ahead,
@@ -474,26 +462,25 @@ pub fn reach<Q: Exact>(
     alloc: Global,
     ground: &Ground<Q>,
     state: &State<Q>,
-    ahead: &mut State<Q>,
+    ahead: &mut Ahead<Q>,
     running: &Running<Q>,
     time: Q,
     until: Q,
-) -> Result<Arrival<Q>, Halt<Q>>
+) -> Result<(), Halt<Q>>
     requires state { StateFits (length (ground.now.atoms.items)) (length (ground.now.fluents.items)) state.now }
     requires members { AreMembers (length (ground.now.processes.items)) (process_numbers running.now.members.items) }
     requires size { length (running.now.rates) ≡ length (state.now.fluents) }
     requires rates { rates_of (problem_of Q.value ground.now) state.now (process_numbers running.now.members.items) ≡ Ok running.now.rates }
     requires on { GoesOn (problem_of Q.value ground.now) state.now running.now.rates (process_numbers running.now.members.items) }
     requires later { Q.value time <ℚ Q.value until }
-    requires ahead { ahead.old ≡ state.now }
-    ensures told { StretchTold Q.value Q.fits (problem_of Q.value ground.now) (Q.value until) (Q.value time) state.now (process_numbers running.now.members.items) running.now.rates result }
-    ensures along { IsAlong state.now running.now.rates ahead.new }
-    ensures arrived { IfOk result (IsArrived state.now ahead.new) }
+    requires ahead { ahead.old.state ≡ state.now }
+    ensures told { StretchTold Q.value Q.fits (problem_of Q.value ground.now) (Q.value until) (Q.value time) state.now (process_numbers running.now.members.items) running.now.rates (arrived_at ahead.new.arrival result) }
+    ensures along { IsAlong state.now running.now.rates ahead.new.state }
+    ensures arrived { OnOk result (IsArrived state.now ahead.new.state ahead.new.arrival) }
 {
     match everyone(alloc, ground) {
         Err(_) => Err(Halt::Memory),
         Ok((events, processes)) => reach_among(
-            alloc,
             ground,
             state,
             ahead,

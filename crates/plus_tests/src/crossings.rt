@@ -10,7 +10,7 @@ use plus_crossing::{
 use plus_number::consts::{one, zero};
 use plus_number::exact::Exact;
 use plus_number::frac::Frac64;
-use plus_state::changes::Changes;
+use plus_state::changes::{Changes, FluentChange};
 use plus_state::{Cond, Expr, FluentId, State, Test};
 use std::alloc::{AllocError, Global};
 use std::cmp::Ordering;
@@ -247,14 +247,26 @@ fn those_that_move(rt: HostRuntime) -> Result<(), Fail> {
     Ok(())
 }
 
-// What these rates change in two units of time, where the last of the fluents alone has a value.
+// Changes that are needed no more.
+fn used_changes(alloc: Global) -> Result<Changes<Frac64>, Fail> {
+    let mut changes = Changes::none(alloc);
+    changes.fluents.push(FluentChange {
+        fluent: FluentId(2),
+        value: Some(one()),
+    })?;
+    Ok(changes)
+}
+
+// What these rates change in two units of time, where the last of the fluents alone has a value. The changes stand in
+// place of others.
 fn changes_of_four(alloc: Global) -> Result<Changes<Frac64>, Fail> {
     let rates = rates_of_four(alloc)?;
     let mut state = State::new(alloc, 0, 4)?;
     state.give(FluentId(3), Some(one()));
-    match moved_changes(alloc, &state, &rates, fraction(2, 1)) {
+    let mut changes = used_changes(alloc)?;
+    match moved_changes(&state, &rates, fraction(2, 1), &mut changes) {
         Err(_) => Err(Fail::new("refused")),
-        Ok(changes) => Ok(changes),
+        Ok(()) => Ok(changes),
     }
 }
 

@@ -20,13 +20,13 @@ use Rattle.plus_settle.specs.declared.settling.Running.{Running}
 use Rattle.plus_settle.specs.declared.stops.SettleStop.{SettleStop}
 use Rattle.plus_settle.specs.Settles.{SettleAnswers}
 use Rattle.plus_stretch.specs.declared.halt.Halt.{Halt}
+use Rattle.plus_stretch.specs.declared.arrival.Arrival.{Arrival}
+use Rattle.plus_stretch.specs.Arrives.{StretchTold}
 use Rattle.plus_stretch.specs.Tests.{AllPass}
 use Rattle.plus_stretch.proofs.Rising.{to_below}
-use Rattle.plus_timeline.specs.declared.entry.Reached.{Reached}
 use Rattle.plus_timeline.specs.declared.next.Next.TheVariants.{Round, Run, Entry, There}
 use Rattle.plus_timeline.specs.declared.stop.Stop.{Stop}
 use Rattle.plus_timeline.specs.declared.stop.Stop.TheVariants.{Breach, Limit, Ended, Memory}
-use Rattle.plus_timeline.specs.Reaching.{ReachTold}
 use Rattle.plus_timeline.specs.Timeline.{TimelineView, has_literal, event_numbers, process_numbers}
 use Rattle.plus_timeline.specs.Asked.{round_tests}
 use Rattle.plus_timeline.specs.Due.{DueTold}
@@ -134,21 +134,21 @@ module _ {Q : Type 0} (value : Q → Fraction) (fits : Fraction → Type 0) (P :
 
     -- ---- along a running set
     module _ (R : List ℕ) (rs : List Fraction) (runs : old.now.running ≡ Some R) where
-      pub enters : (r : Reached Q) → ReachTold value fits P (least old.now.time until P.timed) old.now.time old.now.state R rs (Ok r) → EntersAt (value r.arrival.time) (patched old.now.state r.arrival.changes) (literals P (value r.arrival.time) (patched old.now.state r.arrival.changes)) (has_literal P (value r.arrival.time)) old new → AdvanceTold value fits P until old new (Ok (Entry r.arrival.time))
-      enters r h n = record {
+      pub enters : (a : Arrival Q) → StretchTold value fits P (least old.now.time until P.timed) old.now.time old.now.state R rs (Ok a) → EntersAt (value a.time) (patched old.now.state a.changes) (literals P (value a.time) (patched old.now.state a.changes)) (has_literal P (value a.time)) old new → AdvanceTold value fits P until old new (Ok (Entry a.time))
+      enters a h n = record {
         going = g;
         pass = stretch_passes value fits P old.most old.entries (least old.now.time until P.timed) old.now R runs h.0;
         does = record {
           members = R;
           runs = runs;
-          arrived = patched old.now.state r.arrival.changes;
-          after = literals P (value r.arrival.time) (patched old.now.state r.arrival.changes);
-          may = stretch_enters value fits P old.most old.entries (least old.now.time until P.timed) old.now R runs rs r.arrival h.1;
+          arrived = patched old.now.state a.changes;
+          after = literals P (value a.time) (patched old.now.state a.changes);
+          may = stretch_enters value fits P old.most old.entries (least old.now.time until P.timed) old.now R runs rs a h.1;
           is = n;
         };
       }
 
-      pub halted : (h : Halt Q) → ReachTold value fits P (least old.now.time until P.timed) old.now.time old.now.state R rs (Err h) → AdvanceTold value fits P until old new (Err (of_halt h))
+      pub halted : (h : Halt Q) → StretchTold value fits P (least old.now.time until P.timed) old.now.time old.now.state R rs (Err h) → AdvanceTold value fits P until old new (Err (of_halt h))
       halted h t = halt_stops value fits P old.most old.entries (least old.now.time until P.timed) old.now R runs old.now.acted old.ended (Advances value P until old new) h g t
 
 -- ---- what the steps ask for

@@ -1,6 +1,6 @@
 -- The states of an entry after a step, and where a running set comes to.
 use Rattle.std.proofs.Common.{◌≡◌, ℕ, List, length, ◌++◌, ap, ap₂, sym, subst, ◌∙◌}
-use Rattle.std.specs.Prelude.{Bool, Option, Some, None, Ok, Err, IfSome, IsSomeAnd, option_map}
+use Rattle.std.specs.Prelude.{Bool, Option, Some, None, Result, Ok, Err, OnOk, IfSome, IsSomeAnd, option_map}
 use Rattle.plus_fraction.specs.Fraction.{Fraction}
 use Rattle.plus_model.specs.Terms.{State, Problem}
 use Rattle.plus_model.specs.Running.{moved}
@@ -9,8 +9,7 @@ use Rattle.plus_state.proofs.PatchLemmas.{same_atoms, same_fluents}
 use Rattle.plus_state.proofs.OpenLemmas.{in_append, patched_append}
 use Rattle.plus_stretch.specs.declared.arrival.Arrival.{Arrival}
 use Rattle.plus_stretch.specs.declared.halt.Halt.{Halt}
-use Rattle.plus_stretch.specs.Arrives.{Arrives, StretchTold}
-use Rattle.plus_timeline.specs.Reaching.{ReachTold}
+use Rattle.plus_stretch.specs.Arrives.{Arrives, StretchTold, arrived_at, IsArrived}
 use Rattle.plus_timeline.specs.EntryStates.{LedBy, IsReached}
 
 -- ---- a step
@@ -54,12 +53,6 @@ led_on arrival state new past taken all c ahead then h r t e n k =
     (subst (λ (o : Option Changes). IfSome all (λ x. IsSomeAnd o (λ p. x ≡ record { atoms = p.atoms ++ c.atoms; fluents = p.fluents ++ c.fluents }))) t e) n k
 
 -- ---- where a running set comes to
-pub told_halt : {Q : Type 0} (value : Q → Fraction) (fits : Fraction → Type 0) (P : Problem) (u t : Fraction) (s now : State) (R : List ℕ) (rs : List Fraction) (halt : Halt Q) → s ≡ now → StretchTold value fits P u t s R rs (Err halt) → ReachTold value fits P u t now R rs (Err halt)
-told_halt value fits P u t s now R rs halt e h = subst (λ (x : State). ReachTold value fits P u t x R rs (Err halt)) e h
-
-pub told_arrival : {Q : Type 0} (value : Q → Fraction) (fits : Fraction → Type 0) (P : Problem) (u t : Fraction) (s now : State) (R : List ℕ) (rs : List Fraction) (a : Arrival Q) (ahead : State) → s ≡ now → StretchTold value fits P u t s R rs (Ok a) → ReachTold value fits P u t now R rs (Ok (record { arrival = a; ahead = ahead }))
-told_arrival value fits P u t s now R rs a ahead e h = subst (λ (x : State). ReachTold value fits P u t x R rs (Ok (record { arrival = a; ahead = ahead }))) e h
-
 pub reached_is : {Q : Type 0} (value : Q → Fraction) (P : Problem) (u t : Fraction) (s ahead : State) (R : List ℕ) (rs : List Fraction) (a : Arrival Q) → Arrives value P u t s R rs a → ahead ≡ patched s a.changes → IsReached s a.changes ahead
 unfolding moved
 reached_is value P u t s ahead R rs a h e = record {
@@ -67,3 +60,11 @@ reached_is value P u t s ahead R rs a h e = record {
   is = e;
   atoms = ap (λ (x : State). x.atoms) (e ∙ h.may.arrival_is);
 }
+
+pub reached_by : {Q : Type 0} (value : Q → Fraction) (fits : Fraction → Type 0) (P : Problem) (u t : Fraction) (s now ahead : State) (R : List ℕ) (rs : List Fraction) (a : Arrival Q) (answer : Result (Unit {0}) (Halt Q)) → s ≡ now → StretchTold value fits P u t s R rs (arrived_at a answer) → OnOk answer (IsArrived s ahead a) → OnOk answer (IsReached now a.changes ahead)
+reached_by value fits P u t s now ahead R rs a (Ok v) e h i = subst (λ (x : State). IsReached x a.changes ahead) e (reached_is value P u t s ahead R rs a h.1 i)
+reached_by value fits P u t s now ahead R rs a (Err halt) e h i = tt
+
+-- the state ahead is the present one where it is taken
+pub taken_is : {A : Type 0} (f : A → State) (o : Option A) (a : A) (v : Option State) (s : State) → o ≡ Some a → option_map f o ≡ v → IfSome v (λ x. x ≡ s) → f a ≡ s
+taken_is f o a v s e m h = subst (λ (w : Option State). IfSome w (λ x. x ≡ s)) (sym m ∙ ap (option_map f) e) h

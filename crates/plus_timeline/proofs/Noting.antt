@@ -53,6 +53,9 @@ literals_in s moves literals w =
     subst (λ m. Within m (length (patched s moves).fluents) literals) (sym (same_atoms s moves))
     (subst (λ m. Within (length s.atoms) m literals) (sym (same_fluents s moves)) w)
 
+pub ahead_in : (s ahead : State) (moves literals : Changes) → IsReached s moves ahead → Within (length s.atoms) (length s.fluents) literals → Within (length ahead.atoms) (length ahead.fluents) literals
+ahead_in s ahead moves literals r w = subst (λ (x : State). Within (length x.atoms) (length x.fluents) literals) (sym r.is) (literals_in s moves literals w)
+
 -- what the way to the next entry and its literals come to
 entered : (s ahead : State) (moves literals : Changes) → IsReached s moves ahead → literals.fluents ≡ [] → patched s (step_of literals moves) ≡ patched (patched s moves) literals
 entered s ahead moves literals r o =
@@ -75,13 +78,16 @@ module _ (s b a : State) (old new : Option Changes) (v : EntryView) (p : record 
       let next : EntryView → EntryView = λ x. record { state = patched (patched x.state moves) literals; before = x.state; arrival = patched x.state moves; root = x.root } in
       (λ i. entry (there i) (q i).before (e i) (root i)) ∙ ap next p
 
-  pub kept_entered : (past : Changes) (held held' : Option State) → past ≡ literals → held ≡ Some ahead → held' ≡ option_map (λ x. patched x literals) held → IfSome old (λ u. Within (length s.atoms) (length s.fluents) u) → KeepsEntry arrived (Some past) t.state held' new
-  kept_entered past held held' f i g h = record {
+  pub ahead_entered : (held : State) → held ≡ patched ahead literals → held ≡ t.state
+  ahead_entered held f = f ∙ ap (λ x. patched x literals) r.is ∙ sym there
+
+  pub kept_entered : (past : Changes) → past ≡ literals → IfSome old (λ u. Within (length s.atoms) (length s.fluents) u) → KeepsEntry arrived (Some past) t.state None new
+  kept_entered past f h = record {
     led = record {
       is = there ∙ ap (λ x. patched x literals) (sym e) ∙ ap (patched arrived) (sym f);
       within = subst (λ x. Within (length x.atoms) (length x.fluents) past) (sym e)
           (subst (λ c. Within (length (patched s moves).atoms) (length (patched s moves).fluents) c) (sym f) (literals_in s moves literals w));
-      same = subst (λ o. IfSome o (λ x. x ≡ t.state)) (sym (g ∙ ap (option_map (λ x. patched x literals)) i)) (ap (λ x. patched x literals) r.is ∙ sym there);
+      same = tt;
     };
     inside = inside_after s t.state (step_of literals moves) new (ap (λ x. x.state) q) (noted_in s (step_of literals moves) inside old new h n);
   }

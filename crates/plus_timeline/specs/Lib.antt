@@ -1,6 +1,5 @@
 pub mod Undo
 pub mod EntryStates
-pub mod Reaching
 pub mod Timeline
 pub mod TimelineCode
 pub mod Serving

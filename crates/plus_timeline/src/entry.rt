@@ -11,8 +11,9 @@ ghost use Rattle.plus_still.specs.Others.{OthersStill};
 ghost use Rattle.plus_settle.specs.Members.{process_numbers, AreMembers};
 ghost use Rattle.plus_timeline.specs.EntryStates.{IsReached, Leads};
 ghost use Rattle.plus_timeline.specs.Undo.{undone, recalled, Notes};
-ghost use Rattle.plus_timeline.specs.Reaching.{ReachTold};
+ghost use Rattle.plus_stretch.specs.Arrives.{arrived_at, StretchTold};
 
+use crate::ahead::StateAhead;
 use crate::undo::{Undo, recall};
 use plus_number::exact::Exact;
 use plus_settle::settling::Running;
@@ -21,7 +22,7 @@ use plus_state::problem::Ground;
 use plus_state::states::State;
 use plus_state::term::{EventId, ProcessId};
 use plus_state::trail::Trail;
-use plus_stretch::arrival::Arrival;
+use plus_stretch::arrival::Ahead;
 use plus_stretch::halt::Halt;
 use plus_stretch::mark::Room;
 use plus_stretch::search;
@@ -31,13 +32,6 @@ use std::mem;
 
 // So many changes are kept of an entry, however small the states are.
 const FEW: usize = 64;
-
-/// Where a running set comes to, and the state there.
-#[derive(Drop)]
-pub struct Reached<Q: Exact> {
-    pub arrival: Arrival<Q>,
-    pub ahead: State<Q>,
-}
 
 /// The state now, the one before the last step, and the one on arrival in the present entry. A step
 /// costs what it changes: the other states follow by the changes of the steps before. Where there is a
@@ -49,8 +43,8 @@ pub struct EntryStates<Q: Exact> {
     arrival: State<Q>,
     // all changes since the arrival, unless they are more than the atoms or the fluents of a state
     past: Option<Changes<Q>>,
-    // one more copy of the state now, which moves where time is searched
-    ahead: Option<State<Q>>,
+    // one more copy of the state now
+    ahead: StateAhead<Q>,
     // changes that are needed no more, for their memory
     spare: Changes<Q>,
     // what leads back to the root, if there is one
@@ -78,21 +72,14 @@ impl<Q: Exact> Model for EntryStates<Q> {
     ghost invariant = { λ e. KeepsEntry e.arrival e.past e.trail.state e.ahead (option_map (λ u. u.noted) e.undo) };
 }
 
-// The first changes get the atoms of the others, in exchange for their own.
+// The first changes get the atoms of the others, in exchange for their own. Where there are none, the memory stays.
 fn swap_atoms<Q: Exact>(changes: &mut Changes<Q>, others: &mut Changes<Q>)
     ensures { changes.new ≡ record { atoms = others.old.atoms; fluents = changes.old.fluents } }
 {
-    mem::swap(&mut changes.atoms, &mut others.atoms);
-}
-
-// Makes the changes in a state, where there is one.
-fn patch_some<Q: Exact>(state: &mut Option<State<Q>>, changes: &Changes<Q>)
-    requires { IfSome state.old (λ s. Within (length s.atoms) (length s.fluents) changes.now) }
-    ensures { state.new ≡ option_map (λ s. patched s changes.now) state.old }
-{
-    match state {
-        Some(state) => state.patch(changes),
-        None => {}
+    if others.atoms.is_empty() {
+        changes.atoms.clear();
+    } else {
+        mem::swap(&mut changes.atoms, &mut others.atoms);
     }
 }
 
@@ -149,6 +136,9 @@ fn copied_into<Q: Exact>(
 ) -> Result<Changes<Q>, AllocError>
     ensures { IfOk result (λ c. c ≡ changes.now) }
 {
+    if changes.atoms.is_empty() && changes.fluents.is_empty() {
+        return Ok(Changes::none(alloc));
+    }
     let mut copy = mem::replace(spare, Changes::none(alloc));
     copy.clear();
     copy.append(changes)?;
@@ -339,7 +329,7 @@ impl<Q: Exact> EntryStates<Q> {
             trail,
             arrival,
             past: Some(past),
-            ahead: None,
+            ahead: StateAhead::none(),
             spare: literals,
             undo: None,
             room: Room::new(alloc),
@@ -359,7 +349,7 @@ impl<Q: Exact> EntryStates<Q> {
         let most = self.most();
         note(&mut self.undo, self.trail.state(), &changes)?;
         self.past = noted(self.past.take(), &changes, most)?;
-        patch_some(&mut self.ahead, &changes);
+        self.ahead.patch(&changes);
         self.trail.step(&mut changes);
         self.spare = changes;
         Ok(())
@@ -378,29 +368,26 @@ impl<Q: Exact> EntryStates<Q> {
         mem::replace(&mut self.spare, Changes::none(alloc))
     }
 
-    // A state equal to the present one: the one ahead, or else a new copy.
-    fn take_ahead(&mut self, alloc: Global) -> Result<State<Q>, AllocError>
-        ensures state { IfOk result (λ s. s ≡ self.old.state) }
+    /// A state equal to the present one, to be moved ahead.
+    pub fn take_ahead(&mut self, alloc: Global) -> Result<Box<Ahead<Q>>, AllocError>
+        ensures state { IfOk result (λ b. b.value.state ≡ self.old.state) }
         ensures same { self.new ≡ self.old }
     {
-        match self.ahead.take() {
-            Some(state) => Ok(state),
-            None => self.trail.state().copy(alloc),
-        }
+        self.ahead.take(alloc, self.trail.state())
     }
 
-    /// How far a running set goes on, as `plus_stretch::reach` tells it, and the state there. Nothing
-    /// changes.
+    /// How far a running set goes on, as `plus_stretch::reach` tells it: the state ahead is moved there.
+    /// Nothing else changes.
     pub fn reach(
         &mut self,
-        alloc: Global,
         ground: &Ground<Q>,
         running: &Running<Q>,
         time: Q,
         until: Q,
         events: &[EventId],
         processes: &[ProcessId],
-    ) -> Result<Reached<Q>, Halt<Q>>
+        ahead: &mut Ahead<Q>,
+    ) -> Result<(), Halt<Q>>
         requires state { StateFits (length (ground.now.atoms.items)) (length (ground.now.fluents.items)) self.old.state }
         requires members { AreMembers (length (ground.now.processes.items)) (process_numbers running.now.members.items) }
         requires size { length (running.now.rates) ≡ length (self.old.state.fluents) }
@@ -412,63 +399,62 @@ impl<Q: Exact> EntryStates<Q> {
         requires other_events { OthersStill Q.fits (event_conditions (problem_of Q.value ground.now)) self.old.state running.now.rates (event_numbers events.now) }
         requires silent { OthersFalse (event_conditions (problem_of Q.value ground.now)) self.old.state (event_numbers events.now) }
         requires other_processes { OthersStill Q.fits (process_conditions (problem_of Q.value ground.now)) self.old.state running.now.rates (process_numbers processes.now) }
-        ensures told { ReachTold Q.value Q.fits (problem_of Q.value ground.now) (Q.value until) (Q.value time) self.old.state (process_numbers running.now.members.items) running.now.rates result }
-        ensures reached { IfOk result (λ r. IsReached self.old.state r.arrival.changes r.ahead) }
+        requires ahead { ahead.old.state ≡ self.old.state }
+        ensures told { StretchTold Q.value Q.fits (problem_of Q.value ground.now) (Q.value until) (Q.value time) self.old.state (process_numbers running.now.members.items) running.now.rates (arrived_at ahead.new.arrival result) }
+        ensures reached { OnOk result (IsReached self.old.state ahead.new.arrival.changes ahead.new.state) }
         ensures same { self.new ≡ self.old }
     {
-        match self.take_ahead(alloc) {
-            Err(_) => Err(Halt::Memory),
-            Ok(mut ahead) => match search::reach_among(
-                alloc,
-                ground,
-                self.trail.state(),
-                &mut ahead,
-                running,
-                time,
-                until,
-                events,
-                processes,
-                &mut self.room,
-            ) {
-                Err(halt) => Err(halt),
-                Ok(arrival) => Ok(Reached { arrival, ahead }),
-            },
-        }
+        search::reach_among(
+            ground,
+            self.trail.state(),
+            ahead,
+            running,
+            time,
+            until,
+            events,
+            processes,
+            &mut self.room,
+        )
     }
 
     /// Begins the next entry, in the state that is reached, with what the literals of its time change.
     pub fn enter(
         &mut self,
         alloc: Global,
-        mut moves: Changes<Q>,
-        ahead: State<Q>,
+        mut ahead: Box<Ahead<Q>>,
         mut literals: Changes<Q>,
     ) -> Result<(), AllocError>
-        requires reached { IsReached self.old.state moves ahead }
+        requires reached { IsReached self.old.state ahead.value.arrival.changes ahead.value.state }
         requires literals { RisesIn self.old.state literals }
         requires only { literals.fluents ≡ [] }
         ensures ok { OnOk result (self.new ≡ record {
-          state = patched (patched self.old.state moves) literals;
+          state = patched (patched self.old.state ahead.value.arrival.changes) literals;
           before = self.old.state;
-          arrival = patched self.old.state moves;
+          arrival = patched self.old.state ahead.value.arrival.changes;
           root = self.old.root;
         }) }
         ensures err { OnErr result (self.new ≡ self.old) }
     {
-        let mut ahead = Some(ahead);
-        self.enter_with(alloc, &mut moves, &mut ahead, &mut literals)
+        let lent: &mut Ahead<Q> = &mut ahead;
+        self.enter_with(
+            alloc,
+            &mut lent.arrival.changes,
+            &mut lent.state,
+            &mut literals,
+        )?;
+        self.ahead = StateAhead::some(ahead);
+        Ok(())
     }
 
-    // The same, with what is lent. In exchange it gets memory that is needed no more.
+    // The same, with what is lent: the state ahead becomes the present one, and the moves get memory that is needed no more.
     fn enter_with(
         &mut self,
         alloc: Global,
         moves: &mut Changes<Q>,
-        ahead: &mut Option<State<Q>>,
+        ahead: &mut State<Q>,
         literals: &mut Changes<Q>,
     ) -> Result<(), AllocError>
-        requires reached { IsReached self.old.state moves.old (patched self.old.state moves.old) }
-        requires ahead { ahead.old ≡ Some (patched self.old.state moves.old) }
+        requires reached { IsReached self.old.state moves.old ahead.old }
         requires literals { RisesIn self.old.state literals.old }
         requires only { literals.old.fluents ≡ [] }
         ensures ok { OnOk result (self.new ≡ record {
@@ -477,6 +463,7 @@ impl<Q: Exact> EntryStates<Q> {
           arrival = patched self.old.state moves.old;
           root = self.old.root;
         }) }
+        ensures ahead { OnOk result (ahead.new ≡ self.new.state) }
         ensures err { OnErr result (self.new ≡ self.old) }
     {
         let state = self.trail.state();
@@ -490,12 +477,12 @@ impl<Q: Exact> EntryStates<Q> {
         )?;
         let kept = catch_up(alloc, &mut self.arrival, &mut self.past, state)?;
         self.arrival.patch(moves);
-        patch_some(ahead, &past);
+        ahead.patch(&past);
         swap_atoms(moves, literals);
         self.trail.step(moves);
         mem::swap(&mut self.spare, moves);
-        mem::swap(&mut self.ahead, ahead);
         self.past = Some(renewed(kept, past));
+        self.ahead = StateAhead::none();
         Ok(())
     }
 
@@ -564,7 +551,7 @@ impl<Q: Exact> EntryStates<Q> {
             trail,
             arrival,
             past: Some(Changes::none(alloc)),
-            ahead: None,
+            ahead: StateAhead::none(),
             spare: Changes::none(alloc),
             undo,
             room: Room::new(alloc),
@@ -645,7 +632,7 @@ impl<Q: Exact> EntryStates<Q> {
         past.clear();
         self.past = Some(past);
         self.trail.restart(&way);
-        patch_some(&mut self.ahead, &way);
+        self.ahead.patch(&way);
         self.spare = way;
         self.undo = Some(undo);
         Ok(())
@@ -661,7 +648,7 @@ impl<Q: Exact> EntryStates<Q> {
             trail,
             arrival,
             past,
-            ahead: None,
+            ahead: StateAhead::none(),
             spare: Changes::none(alloc),
             undo,
             room: Room::new(alloc),

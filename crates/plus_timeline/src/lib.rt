@@ -1,6 +1,7 @@
 //! Plays a plan over a ground problem, one part of its history at a time.
 #![tactic(auto)]
 
+mod ahead;
 mod copies;
 mod effect;
 mod entry;

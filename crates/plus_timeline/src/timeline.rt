@@ -3,7 +3,7 @@ ghost use Rattle.std.specs.Prelude.{◌≡◌, ◌≤◌, ◌<◌, ◌↔◌, Is
 ghost use Rattle.plus_fraction.specs.Fraction.{◌<ℚ◌, ◌≤ℚ◌};
 ghost use Rattle.plus_model.specs.Firing.{firing};
 ghost use Rattle.plus_model.specs.History.{view_after, Act, Run as Runs, Round as Rounds};
-ghost use Rattle.plus_model.specs.Trajectory.{is_below, literals};
+ghost use Rattle.plus_model.specs.Trajectory.{literals};
 ghost use Rattle.plus_state.specs.View.{problem_of, action_of};
 ghost use Rattle.plus_state.specs.Changes.{patched, RisesIn, LeadsTo};
 ghost use Rattle.plus_state.specs.Fits.{StateFits, ActionFits};
@@ -13,7 +13,7 @@ ghost use Rattle.plus_still.specs.Others.{OthersStill};
 ghost use Rattle.plus_stretch.specs.Tests.{AllPass};
 ghost use Rattle.plus_timeline.specs.Serving.{Serves};
 ghost use Rattle.plus_timeline.specs.EntryStates.{IsReached};
-ghost use Rattle.plus_timeline.specs.Reaching.{ReachTold};
+ghost use Rattle.plus_stretch.specs.Arrives.{arrived_at, StretchTold};
 ghost use Rattle.plus_timeline.specs.Timeline.{TimelineView, begun, has_literal, next_of, event_numbers, process_numbers};
 ghost use Rattle.plus_timeline.specs.Asked.{round_tests};
 ghost use Rattle.plus_timeline.specs.Due.{DueTold};
@@ -26,11 +26,12 @@ ghost use Rattle.plus_timeline.specs.Closing.{CanClose, IsReachedBy};
 
 use crate::copies::{copied_cascade, copied_last};
 use crate::effect::action_changes_in;
-use crate::entry::{EntryStates, Reached};
+use crate::entry::EntryStates;
 use crate::literals::{are_there, bound, literal_changes};
 use crate::next::Next;
 use crate::stop::{Stop, cascade_stop, halt_stop, settle_stop};
 use plus_cascade::{Cascade, CascadeStop, DueRound, round_changes, round_changes_among};
+use plus_crossing::crossings::is_below;
 use plus_crossing::rates::Rates;
 use plus_number::consts::zero;
 use plus_number::exact::Exact;
@@ -42,9 +43,8 @@ use plus_state::states::State;
 use plus_state::term::{EventId, ProcessId};
 use plus_state::truth::holds;
 use plus_stretch::everyone::everyone;
-use plus_stretch::{Arrival, Halt};
+use plus_stretch::{Ahead, Halt};
 use std::alloc::{AllocError, Global};
-use std::cmp::Ordering;
 use std::marker::Model;
 use std::mem;
 
@@ -113,16 +113,6 @@ impl<Q: Exact> Model for Timeline<Q> {
         (length (t.states.state.atoms)) (length (t.states.state.fluents))
         t.cascade (event_numbers t.fired.items)
         (option_map (next_of Q.value) t.answer) t.entries t.most };
-}
-
-fn is_earlier<Q: Exact>(time: Q, other: Q) -> bool
-    ensures { result ≡ is_below (Q.value time) (Q.value other) }
-{
-    match time.order(other) {
-        Ordering::Less => true,
-        Ordering::Equal => false,
-        Ordering::Greater => false,
-    }
 }
 
 impl<Q: Exact> Timeline<Q> {
@@ -575,7 +565,7 @@ impl<Q: Exact> Timeline<Q> {
             (Q.value until) self.now self.now (Err stop)) }
     {
         let time = self.time();
-        if !is_earlier(time, bound(ground, time, until, self.next_literal)) {
+        if !is_below(time, bound(ground, time, until, self.next_literal)) {
             return Ok(false);
         }
         if self.is_full() {
@@ -675,12 +665,14 @@ impl<Q: Exact> Timeline<Q> {
     {
         let time = self.time();
         let latest = bound(ground, time, until, self.next_literal);
-        match self.reach(ground, latest, events, processes) {
+        let Ok(mut ahead) = self.take_ahead() else {
+            return Err(Stop::Memory);
+        };
+        match self.reach(ground, latest, events, processes, &mut ahead) {
             Err(halt) => Err(halt_stop(halt)),
-            Ok(reached) => {
-                let Reached { arrival, ahead } = reached;
-                let Arrival { time, changes, .. } = arrival;
-                match self.enter(ground, time, changes, ahead) {
+            Ok(()) => {
+                let time = ahead.arrival.time;
+                match self.enter(ground, ahead) {
                     Err(_) => Err(Stop::Memory),
                     Ok(()) => Ok(Next::Entry { time }),
                 }
@@ -688,14 +680,23 @@ impl<Q: Exact> Timeline<Q> {
         }
     }
 
-    // How far the running set goes on, at most up to this time.
+    // A state equal to the present one, to be moved ahead.
+    fn take_ahead(&mut self) -> Result<Box<Ahead<Q>>, AllocError>
+        ensures state { IfOk result (λ b. b.value.state ≡ self.old.now.state) }
+        ensures same { self.new ≡ self.old }
+    {
+        self.states.take_ahead(self.alloc)
+    }
+
+    // How far the running set goes on, at most up to this time: the state ahead is moved there.
     fn reach(
         &mut self,
         ground: &Ground<Q>,
         until: Q,
         events: &[EventId],
         processes: &[ProcessId],
-    ) -> Result<Reached<Q>, Halt<Q>>
+        ahead: &mut Ahead<Q>,
+    ) -> Result<(), Halt<Q>>
         requires serves { Serves (problem_of Q.value ground.now) self.old }
         requires runs { self.old.now.running ≡ Some self.old.running }
         requires later { self.old.now.time <ℚ Q.value until }
@@ -707,41 +708,37 @@ impl<Q: Exact> Timeline<Q> {
             self.old.now.state (event_numbers events.now) }
         requires other_processes { OthersStill Q.fits (process_conditions (problem_of Q.value ground.now))
             self.old.now.state self.old.rates (process_numbers processes.now) }
-        ensures told { ReachTold Q.value Q.fits (problem_of Q.value ground.now) (Q.value until)
-            self.old.now.time self.old.now.state self.old.running self.old.rates result }
-        ensures reached { IfOk result (λ r. IsReached self.old.now.state r.arrival.changes r.ahead) }
+        requires ahead { ahead.old.state ≡ self.old.now.state }
+        ensures told { StretchTold Q.value Q.fits (problem_of Q.value ground.now) (Q.value until)
+            self.old.now.time self.old.now.state self.old.running self.old.rates (arrived_at ahead.new.arrival result) }
+        ensures reached { OnOk result (IsReached self.old.now.state ahead.new.arrival.changes ahead.new.state) }
         ensures same { self.new ≡ self.old }
     {
         self.states.reach(
-            self.alloc,
             ground,
             &self.running,
             self.time,
             until,
             events,
             processes,
+            ahead,
         )
     }
 
-    // Begins the next entry, at this time and in the state ahead, to which these moves lead.
-    fn enter(
-        &mut self,
-        ground: &Ground<Q>,
-        time: Q,
-        moves: Changes<Q>,
-        ahead: State<Q>,
-    ) -> Result<(), AllocError>
+    // Begins the next entry, where the state ahead has arrived.
+    fn enter(&mut self, ground: &Ground<Q>, ahead: Box<Ahead<Q>>) -> Result<(), AllocError>
         requires serves { Serves (problem_of Q.value ground.now) self.old }
-        requires reached { IsReached self.old.now.state moves ahead }
+        requires reached { IsReached self.old.now.state ahead.value.arrival.changes ahead.value.state }
         requires room { self.old.entries < self.old.most }
-        ensures ok { OnOk result (EntersAt (Q.value time) (patched self.old.now.state moves)
-            (literals (problem_of Q.value ground.now) (Q.value time) (patched self.old.now.state moves))
-            (has_literal (problem_of Q.value ground.now) (Q.value time)) self.old self.new) }
+        ensures ok { OnOk result (EntersAt (Q.value ahead.value.arrival.time) (patched self.old.now.state ahead.value.arrival.changes)
+            (literals (problem_of Q.value ground.now) (Q.value ahead.value.arrival.time) (patched self.old.now.state ahead.value.arrival.changes))
+            (has_literal (problem_of Q.value ground.now) (Q.value ahead.value.arrival.time)) self.old self.new) }
         ensures err { OnErr result (self.new ≡ self.old) }
     {
+        let time = ahead.arrival.time;
         let literals = literal_changes(self.alloc, ground, time, &mut self.next_literal)?;
         let literal = are_there(&literals);
-        self.states.enter(self.alloc, moves, ahead, literals)?;
+        self.states.enter(self.alloc, ahead, literals)?;
         self.cascade.clear(&self.fired);
         self.fired.clear();
         self.time = time;

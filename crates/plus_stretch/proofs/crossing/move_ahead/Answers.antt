@@ -12,4 +12,4 @@ returns-in-Ok-clause-told g c = (nodes_pass _ _ c.in-Ok.ensures.told.0, comes_by
 
 pub returns-in-Ok-clause-along : goal.returns-in-Ok-clause-along
 returns-in-Ok-clause-along g c =
-    moves_along c.args.state.now c.args.rates.now (g.Q.Exact.value c.args.delay) c.args.ahead.now c.patch.new.self c.in-Ok.changes c.requires.along c.in-Ok.ensures.told.1 c.patch.ensures
+    moves_along c.args.state.now c.args.rates.now (g.Q.Exact.value c.args.delay) c.args.ahead.now.state c.patch.new.self c.moved_changes.new.changes c.requires.along c.in-Ok.ensures.told.1 c.patch.ensures

@@ -60,22 +60,22 @@ returns-in-Err-clause-along g c = c.cross_behind.ensures.along
 pub returns-in-Err-clause-arrived : goal.returns-in-Err-clause-arrived
 returns-in-Err-clause-arrived g c = tt
 
-pub returns-in-Ok-Some-clause-told : goal.returns-in-Ok-Some-clause-told
-returns-in-Ok-Some-clause-told g c =
+pub returns-in-Ok-true-clause-told : goal.returns-in-Ok-true-clause-told
+returns-in-Ok-true-clause-told g c =
     let e = next_member g.Q.Exact.value c.args.roots.now c.each.root-index c.root-item.result c.each-test.true c.root-item.is in
-    let h = rw c.in-Ok-Some.field-0-is at c.in-Ok-Some.ensures.told in
+    let h = rw c.in-Ok-true.field-0-test at c.in-Ok-true.ensures.told in
     walking_arrives (problem_of g.Q.Exact.value c.args.ground.now) _ _ _ _ _ c.requires.rates g.Q.Exact.value _ _ _ c.requires.length c.requires.linear _ _ (rw e at c.each.invariant.stepping).walking _ h.0 h.1
 
-pub returns-in-Ok-Some-clause-along : goal.returns-in-Ok-Some-clause-along
-returns-in-Ok-Some-clause-along g c = c.cross_behind.ensures.along
+pub returns-in-Ok-true-clause-along : goal.returns-in-Ok-true-clause-along
+returns-in-Ok-true-clause-along g c = c.cross_behind.ensures.along
 
-pub returns-in-Ok-Some-clause-arrived : goal.returns-in-Ok-Some-clause-arrived
-returns-in-Ok-Some-clause-arrived g c = rw c.in-Ok-Some.field-0-is at c.in-Ok-Some.ensures.arrived
+pub returns-in-Ok-true-clause-arrived : goal.returns-in-Ok-true-clause-arrived
+returns-in-Ok-true-clause-arrived g c = rw c.in-Ok-true.field-0-test at c.in-Ok-true.ensures.arrived
 
 pub each-preserved : goal.each-preserved
 each-preserved g c =
     let e = next_member g.Q.Exact.value c.args.roots.now c.each.root-index c.root-item.result c.each-test.true c.root-item.is in
-    let h = rw c.in-Ok-None.field-0-is at c.in-Ok-None.ensures.told in
+    let h = rw c.in-Ok-false.field-0-test at c.in-Ok-false.ensures.told in
     record {
       stepping = stepping_next _ (problem_of g.Q.Exact.value c.args.ground.now) _ _ _ _ _ _ _ _ c.requires.linear _ _ (rw e at c.each.invariant.stepping) _ c.up_to-count.ensures.first _ h.0 h.1 c.behind-rest.ensures;
       quiet = λ f. cc;

@@ -13,6 +13,6 @@ abbrev pub invariant-each : goal.invariant-each
 invariant-each g l = record {
   stepping : Stepping g.Q.Exact.fits (problem_of g.Q.Exact.value l.ground) (g.Q.Exact.value l.from) l.state (process_numbers l.running.members.items) l.running.rates (g.Q.Exact.value l.length) (map g.Q.Exact.value l.roots) (map g.Q.Exact.value (drop l.root-index l.roots)) (marks_of g.Q.Exact.value l.marks) (marks_of g.Q.Exact.value l.rest);
   quiet : l.is_first ≡ true → IsQuietAtFirst g.Q.Exact.fits (problem_of g.Q.Exact.value l.ground) (g.Q.Exact.value l.from) l.state (process_numbers l.running.members.items) l.running.rates (map g.Q.Exact.value (drop l.root-index l.roots));
-  along : IsAlong l.state l.running.rates l.ahead;
+  along : IsAlong l.state l.running.rates l.ahead.state;
   extent : IfSome l.extent (Extends l.state.fluents l.running.rates);
 }

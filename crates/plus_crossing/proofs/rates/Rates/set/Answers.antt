@@ -13,7 +13,7 @@ invariant_of-self-in-Err g c =
     let h = rw c.deref.ensures.value at c.in-Err.ensures in
     let most = c.greater-self-inside.ensures in
     let inside = given_below g.Q.Exact.value _ _ _ _ c.self.view_is c.requires in
-    rw c.in_ok-insert-in-Err.ensures.items (
+    rw c.in_ok-put_in-in-Err.ensures.ok (
       in_put _ _ _ _ _ (omega (arith, most.second)) (in_more _ _ _ most.first c.self.invariant.0),
       most.least _ c.self.invariant.1 (omega (arith, inside)),
       rises_put _ _ _ _ h.1 h.2 c.self.invariant.2,
@@ -24,8 +24,8 @@ returns-in-Ok-clause-ok g c =
     let h = rw c.deref.ensures.value at c.in-Ok.ensures in
     given_put g.Q.Exact.value _ _ _ c.args.fluent.0 c.args.rate _ c.self.view_is (here_set _ _ _ _ h c.self.invariant.2) (λ j ne. apart_set _ _ _ _ h j ne)
 
-pub returns-in_ok-insert-in-Err-clause-ok : goal.returns-in_ok-insert-in-Err-clause-ok
-returns-in_ok-insert-in-Err-clause-ok g c =
+pub returns-in_ok-put_in-in-Err-clause-ok : goal.returns-in_ok-put_in-in-Err-clause-ok
+returns-in_ok-put_in-in-Err-clause-ok g c =
     let h = rw c.deref.ensures.value at c.in-Err.ensures in
-    given_put g.Q.Exact.value c.self.inside.given.items c.insert.new.self.items _ c.args.fluent.0 c.args.rate _ c.self.view_is
-    (rw c.in_ok-insert-in-Err.ensures.items (here_put _ _ _ _ h.1)) (λ j ne. rw c.in_ok-insert-in-Err.ensures.items (apart_put _ _ _ _ j ne))
+    given_put g.Q.Exact.value c.self.inside.given.items c.put_in.new.given.items _ c.args.fluent.0 c.args.rate _ c.self.view_is
+    (rw c.in_ok-put_in-in-Err.ensures.ok (here_put _ _ _ _ h.1)) (λ j ne. rw c.in_ok-put_in-in-Err.ensures.ok (apart_put _ _ _ _ j ne))

@@ -4,7 +4,7 @@ use Rattle.plus_model.specs.Terms.{State}
 use Rattle.plus_state.specs.Changes.{Changes, TrailView, RisesIn, Within, patched}
 use Rattle.plus_timeline.specs.EntryStates.{EntryView, IsReached, KeepsEntry}
 use Rattle.plus_timeline.specs.Undo.{Notes, root_at}
-use Rattle.plus_timeline.proofs.Noting.{taken_leads, kept_noted, view_noted, step_of, step_in, literals_in, view_entered, kept_entered, on_err}
+use Rattle.plus_timeline.proofs.Noting.{taken_leads, kept_noted, view_noted, step_of, step_in, ahead_in, view_entered, ahead_entered, kept_entered, on_err}
 use Rattle.plus_timeline.proofs.entry.EntryStates.enter_with.Goals as goal
 
 pub returns-in_err-past-clause-err : goal.returns-in_err-past-clause-err
@@ -26,7 +26,7 @@ invariant_of-self-in_err-kept g c =
     let new = option_map (λ u. u.noted) c.note_entry.new.undo in
     let moves = c.args.moves.now in
     let literals = c.args.literals.now in
-    let reached = subst (λ (e : EntryView). IsReached e.state moves (patched e.state moves)) (sym c.self.view_is) c.requires.reached in
+    let reached = subst (λ (e : EntryView). IsReached e.state moves c.args.ahead.now) (sym c.self.view_is) c.requires.reached in
     let inside = (subst (λ (e : EntryView). RisesIn e.state literals) (sym c.self.view_is) c.requires.literals).within in
     let notes = subst (λ x. Notes x (step_of literals moves) old new) c.state-state.ensures c.in_ok-past.ensures.ok in
     subst (λ a. KeepsEntry a c.catch_up.new.past s c.self.inside.ahead new) (sym c.in_err-kept.ensures.err)
@@ -40,7 +40,7 @@ returns-in_err-kept-clause-err g c =
     let new = option_map (λ u. u.noted) c.note_entry.new.undo in
     let moves = c.args.moves.now in
     let literals = c.args.literals.now in
-    let reached = subst (λ (e : EntryView). IsReached e.state moves (patched e.state moves)) (sym c.self.view_is) c.requires.reached in
+    let reached = subst (λ (e : EntryView). IsReached e.state moves c.args.ahead.now) (sym c.self.view_is) c.requires.reached in
     let inside = (subst (λ (e : EntryView). RisesIn e.state literals) (sym c.self.view_is) c.requires.literals).within in
     let notes = subst (λ x. Notes x (step_of literals moves) old new) c.state-state.ensures c.in_ok-past.ensures.ok in
     let b = c.self.inside.trail.before in
@@ -53,15 +53,15 @@ returns-in_err-kept-clause-err g c =
 pub patch-requires : goal.patch-requires
 patch-requires g c =
     let moves = c.args.moves.now in
-    let reached = subst (λ (e : EntryView). IsReached e.state moves (patched e.state moves)) (sym c.self.view_is) c.requires.reached in
+    let reached = subst (λ (e : EntryView). IsReached e.state moves c.args.ahead.now) (sym c.self.view_is) c.requires.reached in
     subst (λ x. Within (length x.atoms) (length x.fluents) moves) (sym (c.in_ok-kept.ensures.ok ∙ c.state-state.ensures)) reached.rises.within
 
-pub patch_some-requires : goal.patch_some-requires
-patch_some-requires g c =
-    let s = c.args.self.now.state in
+pub patch-requires-2 : goal.patch-requires-2
+patch-requires-2 g c =
     let moves = c.args.moves.now in
-    let inside = subst (λ x. Within (length s.atoms) (length s.fluents) x) (sym c.in_ok-past.ensures.copy) c.requires.literals.within in
-    subst (λ o. IfSome o (λ x. Within (length x.atoms) (length x.fluents) c.in_ok-past.past)) (sym c.requires.ahead) (literals_in s moves c.in_ok-past.past inside)
+    let reached = subst (λ (e : EntryView). IsReached e.state moves c.args.ahead.now) (sym c.self.view_is) c.requires.reached in
+    let inside = (subst (λ (e : EntryView). RisesIn e.state c.args.literals.now) (sym c.self.view_is) c.requires.literals).within in
+    rw c.in_ok-past.ensures.copy (ahead_in _ _ moves c.args.literals.now reached inside)
 
 pub invariant_of-self-2 : goal.invariant_of-self-2
 invariant_of-self-2 g c =
@@ -70,15 +70,13 @@ invariant_of-self-2 g c =
     let new = option_map (λ u. u.noted) c.note_entry.new.undo in
     let moves = c.args.moves.now in
     let literals = c.args.literals.now in
-    let reached = subst (λ (e : EntryView). IsReached e.state moves (patched e.state moves)) (sym c.self.view_is) c.requires.reached in
+    let reached = subst (λ (e : EntryView). IsReached e.state moves c.args.ahead.now) (sym c.self.view_is) c.requires.reached in
     let inside = (subst (λ (e : EntryView). RisesIn e.state literals) (sym c.self.view_is) c.requires.literals).within in
     let notes = subst (λ x. Notes x (step_of literals moves) old new) c.state-state.ensures c.in_ok-past.ensures.ok in
     let steps = c.step.ensures ∙ ap (λ (x : Changes). record { state = patched s x; before = s }) c.swap_atoms.ensures in
     let arrives = c.patch.ensures ∙ ap (λ x. patched x moves) (c.in_ok-kept.ensures.ok ∙ c.state-state.ensures) in
-    let held = c.requires.ahead ∙ ap (λ (e : EntryView). Some (patched e.state moves)) (sym c.self.view_is) in
-    let put = c.swap-2.ensures.x_after ∙ c.patch_some.ensures ∙ ap (λ p. option_map (λ x. patched x p) c.args.ahead.now) c.in_ok-past.ensures.copy in
-    kept_entered s c.self.inside.trail.before c.self.inside.arrival old new c.args.self.now c.self.view_is c.step.new.self c.patch.new.self (patched s moves) moves literals
-    reached c.requires.only inside notes arrives steps c.renewed.result c.args.ahead.now c.swap-2.new.x (c.renewed.ensures ∙ c.in_ok-past.ensures.copy) held put c.self.invariant.inside
+    rw c.none.ensures (kept_entered s c.self.inside.trail.before c.self.inside.arrival old new c.args.self.now c.self.view_is c.step.new.self c.patch.new.self c.args.ahead.now moves literals
+    reached c.requires.only inside notes arrives steps c.renewed.result (c.renewed.ensures ∙ c.in_ok-past.ensures.copy) c.self.invariant.inside)
 
 pub returns-clause-ok : goal.returns-clause-ok
 returns-clause-ok g c =
@@ -87,10 +85,25 @@ returns-clause-ok g c =
     let new = option_map (λ u. u.noted) c.note_entry.new.undo in
     let moves = c.args.moves.now in
     let literals = c.args.literals.now in
-    let reached = subst (λ (e : EntryView). IsReached e.state moves (patched e.state moves)) (sym c.self.view_is) c.requires.reached in
+    let reached = subst (λ (e : EntryView). IsReached e.state moves c.args.ahead.now) (sym c.self.view_is) c.requires.reached in
     let inside = (subst (λ (e : EntryView). RisesIn e.state literals) (sym c.self.view_is) c.requires.literals).within in
     let notes = subst (λ x. Notes x (step_of literals moves) old new) c.state-state.ensures c.in_ok-past.ensures.ok in
     let steps = c.step.ensures ∙ ap (λ (x : Changes). record { state = patched s x; before = s }) c.swap_atoms.ensures in
     let arrives = c.patch.ensures ∙ ap (λ x. patched x moves) (c.in_ok-kept.ensures.ok ∙ c.state-state.ensures) in
-    view_entered s c.self.inside.trail.before c.self.inside.arrival old new c.args.self.now c.self.view_is c.step.new.self c.patch.new.self (patched s moves) moves literals
+    view_entered s c.self.inside.trail.before c.self.inside.arrival old new c.args.self.now c.self.view_is c.step.new.self c.patch.new.self c.args.ahead.now moves literals
     reached c.requires.only inside notes arrives steps
+
+pub returns-clause-ahead : goal.returns-clause-ahead
+returns-clause-ahead g c =
+    let s = c.self.inside.trail.state in
+    let old = option_map (λ u. u.noted) c.self.inside.undo in
+    let new = option_map (λ u. u.noted) c.note_entry.new.undo in
+    let moves = c.args.moves.now in
+    let literals = c.args.literals.now in
+    let reached = subst (λ (e : EntryView). IsReached e.state moves c.args.ahead.now) (sym c.self.view_is) c.requires.reached in
+    let inside = (subst (λ (e : EntryView). RisesIn e.state literals) (sym c.self.view_is) c.requires.literals).within in
+    let notes = subst (λ x. Notes x (step_of literals moves) old new) c.state-state.ensures c.in_ok-past.ensures.ok in
+    let steps = c.step.ensures ∙ ap (λ (x : Changes). record { state = patched s x; before = s }) c.swap_atoms.ensures in
+    let arrives = c.patch.ensures ∙ ap (λ x. patched x moves) (c.in_ok-kept.ensures.ok ∙ c.state-state.ensures) in
+    ahead_entered s c.self.inside.trail.before c.self.inside.arrival old new c.args.self.now c.self.view_is c.step.new.self c.patch.new.self c.args.ahead.now moves literals
+    reached c.requires.only inside notes arrives steps c.patch-2.new.self (c.patch-2.ensures ∙ ap (patched c.args.ahead.now) c.in_ok-past.ensures.copy)

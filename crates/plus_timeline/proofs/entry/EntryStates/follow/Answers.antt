@@ -32,8 +32,8 @@ restart-requires g c =
     let w : way ≡ joined (recalled to u) (recalled to v) = c.in_ok-lead_over.ensures.way in
     way_in view past u v way to h w
 
-pub patch_some-requires : goal.patch_some-requires
-patch_some-requires g c =
+pub patch-requires-3 : goal.patch-requires-3
+patch-requires-3 g c =
     let view : EntryView = record { state = c.self.inside.trail.state; before = c.self.inside.trail.before; arrival = c.self.inside.arrival; root = root_at c.self.inside.trail.state (option_map (λ u. u.noted) c.self.inside.undo) } in
     let past = c.args.past in
     let u = c.args.undo.noted in
@@ -57,7 +57,7 @@ invariant_of-self g c =
     record { past_leads = c.requires.past; size = c.requires.size; undo = c.requires.undo; other = c.requires.other; root = c.requires.root } in
     let w : way ≡ joined (recalled to u) (recalled to v) = c.in_ok-lead_over.ensures.way in
     kept_there view past u v way to h w c.restart.new.self c.patch.new.self c.patch-2.new.self c.restart.ensures c.patch.ensures c.patch-2.ensures c.lead_over.new.undo.noted
-    c.in_ok-lead_over.ensures.noted c.clear.new.self c.self.inside.ahead c.patch_some.new.state c.clear.ensures c.self.invariant.led.same c.patch_some.ensures
+    c.in_ok-lead_over.ensures.noted c.clear.new.self c.self.inside.ahead c.patch-3.new.self c.clear.ensures c.self.invariant.led.same c.patch-3.ensures
 
 pub returns-clause-ok : goal.returns-clause-ok
 returns-clause-ok g c =

@@ -34,7 +34,7 @@ invariant_of-self-2 g c =
     let rises = subst (λ (e : EntryView). RisesIn e.state c.args.changes) (sym c.self.view_is) c.requires in
     let is = ap (λ (t : TrailView). t.state) c.step.ensures in
     record {
-      led = led_on _ _ _ _ _ _ _ _ _ c.self.invariant.led rises c.take.ensures.value c.in_ok-self-inside.ensures is c.patch_some.ensures;
+      led = led_on _ _ _ _ _ _ _ _ _ c.self.invariant.led rises c.take.ensures.value c.in_ok-self-inside.ensures is c.patch.ensures;
       inside = inside_stepped s c.step.new.self.state c.args.changes old new is c.self.invariant.inside rises.within
           (subst (λ x. Notes x c.args.changes old new) c.state.ensures c.in_ok-note.ensures.ok);
     }

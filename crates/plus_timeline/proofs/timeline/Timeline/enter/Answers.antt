@@ -15,14 +15,15 @@ invariant_of-self-2 g c =
     let m = ap (λ (v : TimelineView). v.most) c.self.view_is in
     let room = c.requires.room in
     keeps_entry c.self.inside.states c.enter.new.self c.self.inside.cascade c.clear.new.self _ _ _ _ _ _ _ h
-    (fired_in_set c.clear.new.self _ _ f (c.clear.ensures.empty (fired_in_set _ _ _ (ap event_numbers c.deref.ensures.value) h.set_is))) (none_inside _ _ f)
-    (omega (arith, n, m, room)) (λ r. no_run _ (Entry (g.Q.Exact.value c.args.time)) _ _ refl (entry_is_none _ (g.Q.Exact.value c.args.time) refl) r)
-    c.args.moves c.in_ok-literals.literals c.in_ok-enter.ensures.ok
+    (fired_in_set c.clear.new.self _ _ f (c.clear.ensures.empty (fired_in_set _ _ _ (ap event_numbers c.deref-2.ensures.value) h.set_is))) (none_inside _ _ f)
+    (omega (arith, n, m, room)) (λ r. no_run _ (Entry (g.Q.Exact.value c.deref.result.now.arrival.time)) _ _ refl (entry_is_none _ (g.Q.Exact.value c.deref.result.now.arrival.time) refl) r)
+    c.args.ahead.value.arrival.changes c.in_ok-literals.literals c.in_ok-enter.ensures.ok
 
 pub returns-clause-ok : goal.returns-clause-ok
 returns-clause-ok g c =
     let P = problem_of g.Q.Exact.value c.args.ground.now in
-    let t = g.Q.Exact.value c.args.time in
+    let t = g.Q.Exact.value c.args.ahead.value.arrival.time in
     let f = ap event_numbers c.clear-2.ensures.items in
-    entry_view c.self.view_is (record { atoms = refl; fluents = refl }) c.enter.new.self _ c.clear.ensures.size P c.args.moves c.in_ok-literals.literals t c.are_there-literal.result _ _
-    c.in_ok-enter.ensures.ok c.in_ok-literals.ensures (literal_is P t c.in_ok-literals.literals c.are_there-literal.result c.in_ok-literals.ensures c.are_there-literal.ensures) f (omega arith)
+    let l = rw c.deref.ensures at c.in_ok-literals.ensures in
+    rw c.deref.ensures (entry_view c.self.view_is (record { atoms = refl; fluents = refl }) c.enter.new.self _ c.clear.ensures.size P c.args.ahead.value.arrival.changes c.in_ok-literals.literals t c.are_there-literal.result _ _
+    c.in_ok-enter.ensures.ok l (literal_is P t c.in_ok-literals.literals c.are_there-literal.result l c.are_there-literal.ensures) f (omega arith))

@@ -7,14 +7,14 @@ use Rattle.plus_timeline.specs.Advance.{AdvanceTold}
 use Rattle.plus_timeline.proofs.Advancing.{as_asked, as_later, full}
 use Rattle.plus_timeline.proofs.timeline.Timeline.must_close.Goals as goal
 
-pub returns-then-not-is_earlier-clause-told : goal.returns-then-not-is_earlier-clause-told
-returns-then-not-is_earlier-clause-told g c =
-    as_asked (problem_of g.Q.Exact.value c.args.ground.now).timed false _ _ _ _ c.if-not-is_earlier.ensures c.time-time.ensures c.bound.ensures
+pub returns-then-not-is_below-clause-told : goal.returns-then-not-is_below-clause-told
+returns-then-not-is_below-clause-told g c =
+    as_asked (problem_of g.Q.Exact.value c.args.ground.now).timed false _ _ _ _ c.if-not-is_below.ensures c.time-time.ensures c.bound.ensures
 
 pub returns-then-is_full-clause-full : goal.returns-then-is_full-clause-full
 returns-then-is_full-clause-full g c =
     let P = problem_of g.Q.Exact.value c.args.ground.now in
-    let l = as_later P.timed _ _ _ _ c.if-not-is_earlier.ensures c.time-time.ensures c.bound.ensures in
+    let l = as_later P.timed _ _ _ _ c.if-not-is_below.ensures c.time-time.ensures c.bound.ensures in
     let told = full g.Q.Exact.value g.Q.Exact.fits P (g.Q.Exact.value c.args.until) c.args.self.now c.requires.going c.args.self.now
     c.requires.moment c.requires.passed c.requires.still l (c.if-is_full.ensures.full refl) in
     subst (λ (n : ℕ). AdvanceTold g.Q.Exact.value g.Q.Exact.fits P (g.Q.Exact.value c.args.until) c.args.self.now c.args.self.now (Err (Limit (Happenings n)))) (sym c.most.ensures) told
@@ -23,6 +23,6 @@ pub returns-clause-told : goal.returns-clause-told
 returns-clause-told g c =
     let P = problem_of g.Q.Exact.value c.args.ground.now in
     record {
-      later = as_later P.timed _ _ _ _ c.if-not-is_earlier.ensures c.time-time.ensures c.bound.ensures;
+      later = as_later P.timed _ _ _ _ c.if-not-is_below.ensures c.time-time.ensures c.bound.ensures;
       room = c.if-is_full.ensures.room refl;
     }

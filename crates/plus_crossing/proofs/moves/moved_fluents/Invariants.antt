@@ -1,7 +1,7 @@
 use Rattle.std.proofs.Common.{drop}
 use Rattle.plus_state.specs.ChangesView.{fluent_changes}
 use Rattle.plus_crossing.proofs.Noting.{Noting}
-use Rattle.plus_crossing.proofs.moves.moved_changes.Given as goal
+use Rattle.plus_crossing.proofs.moves.moved_fluents.Given as goal
 
 abbrev pub invariant-each : goal.invariant-each
 invariant-each g l =
