@@ -1,5 +1,5 @@
 -- What a round answers.
-use Rattle.std.specs.Prelude.{◌≡◌, ◌≢◌, ℕ, Bool, List, [], Option, Some, None, Result, Ok, Err, MatchResult}
+use Rattle.std.specs.Prelude.{◌≡◌, ◌≢◌, ℕ, Bool, true, false, List, [], Option, Some, None, Result, Ok, Err, MatchResult}
 use Rattle.plus_fraction.specs.Fraction.{Fraction}
 use Rattle.plus_model.specs.Terms.{State, Problem}
 use Rattle.plus_model.specs.Joint as model
@@ -69,6 +69,12 @@ abbrev pub RoundChanges : {Q : Type 0} → (Q → Fraction) → (Fraction → Ty
 RoundChanges v fits P fired s r =
     MatchResult r (λ o. AllPass fits (round_steps P fired s) × IsDueRound P fired s o)
     (λ e. StopIs v fits (round_steps P fired s) e × NoRound P fired s e)
+
+-- what a call answers that puts a round in its place: it, if one is due
+abbrev pub if_due : {Q : Type 0} → DueRound Q → Result Bool (CascadeStop Q) → Result (Option (DueRound Q)) (CascadeStop Q)
+if_due r (Ok true) = Ok (Some r)
+if_due r (Ok false) = Ok None
+if_due r (Err e) = Err e
 
 -- the set afterwards: the events of the round have joined it, and after a refusal it is the same
 abbrev pub set_after : {Q : Type 0} → List Bool → Result (Option (FiredRound Q)) (CascadeStop Q) → List Bool

@@ -50,26 +50,26 @@ pub fn firing<Q: Exact>(
     }
 }
 
-// The events whose condition holds, in ground order, by a look at some of them, where of all others it
-// is known that they do not hold and that what they ask passes; in the memory of a list that is needed
-// no more.
+// Puts the events whose condition holds, in ground order, in place of those found before, whose memory it
+// takes, by a look at some events, where of all others it is known that they do not hold and that what
+// they ask passes. After a refusal what is found is not to be used.
 pub fn firing_among<Q: Exact>(
     ground: &Ground<Q>,
     state: &State<Q>,
     looked_at: &[EventId],
-    found: Vec<EventId>,
-) -> Result<Vec<EventId>, CascadeStop<Q>>
+    found: &mut Vec<EventId>,
+) -> Result<(), CascadeStop<Q>>
     requires state { StateFits (length (ground.now.atoms.items)) (length (ground.now.fluents.items)) state.now }
     requires members { AreMembers (length (ground.now.events.items)) (event_numbers looked_at.now) }
     requires pass { OthersPass Q.fits (event_conditions (problem_of Q.value ground.now)) state.now (event_numbers looked_at.now) }
     requires silent { OthersFalse (event_conditions (problem_of Q.value ground.now)) state.now (event_numbers looked_at.now) }
     ensures { MatchResult result
-        (λ events. AllFit Q.fits (condition_nodes ((problem_of Q.value ground.now).events) state.now)
-        × (event_numbers events.items ≡ firing_of (problem_of Q.value ground.now) state.now))
+        (λ _. AllFit Q.fits (condition_nodes ((problem_of Q.value ground.now).events) state.now)
+        × (event_numbers found.new.items ≡ firing_of (problem_of Q.value ground.now) state.now))
         (λ stop. ConditionStops Q.value Q.fits (condition_nodes ((problem_of Q.value ground.now).events) state.now) stop) }
 {
     match holding_in(ground, state, looked_at, found) {
-        Ok(found) => Ok(found),
+        Ok(()) => Ok(()),
         Err(stop) => Err(walk_stop(stop)),
     }
 }

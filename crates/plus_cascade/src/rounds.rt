@@ -8,7 +8,7 @@ ghost use Rattle.plus_state.specs.Changes.{RisesIn};
 ghost use Rattle.plus_state.specs.Numbers.{AreMembers, event_numbers};
 ghost use Rattle.plus_state.specs.Walk.{event_conditions, OthersFalse, OthersPass};
 ghost use Rattle.plus_cascade.specs.Steps.{condition_nodes};
-ghost use Rattle.plus_cascade.specs.Rounds.{Rounds, RoundChanges, of_joint, set_after};
+ghost use Rattle.plus_cascade.specs.Rounds.{Rounds, RoundChanges, if_due, of_joint, set_after};
 
 use crate::cascade::Cascade;
 use crate::firing::{changed_together_in, firing, firing_among};
@@ -20,7 +20,6 @@ use plus_state::states::State;
 use plus_state::term::{EventId, FluentId, Overflow};
 use std::alloc::Global;
 use std::fmt::Debug;
-use std::mem;
 use thiserror::Error;
 
 /// Why a round cannot be had.
@@ -77,37 +76,32 @@ fn joint_stop<Q: Exact>(stop: JointStop<Q>) -> CascadeStop<Q>
     }
 }
 
-// The round in which these events fire, which are all that hold, in the memory of the changes of a round
-// that is needed no more. Where there are none, the list of them is kept for another round.
+// Whether the round is due whose events are all that hold: whether there are any. Then what they change
+// together stands in it too, in place of other changes. After a refusal the changes are not to be used.
 #[inline(always)]
 fn fire<Q: Exact>(
     alloc: Global,
     cascade: &Cascade,
     ground: &Ground<Q>,
     state: &State<Q>,
-    events: Vec<EventId>,
-    spare: &mut DueRound<Q>,
-) -> Result<Option<DueRound<Q>>, CascadeStop<Q>>
+    round: &mut DueRound<Q>,
+) -> Result<bool, CascadeStop<Q>>
     requires state { StateFits (length (ground.now.atoms.items)) (length (ground.now.fluents.items)) state.now }
     requires events { length cascade.now ≡ length (ground.now.events.items) }
     requires pass { AllFit Q.fits (condition_nodes ((problem_of Q.value ground.now).events) state.now) }
-    requires all { event_numbers events.items ≡ firing_of (problem_of Q.value ground.now) state.now }
-    ensures told { RoundChanges Q.value Q.fits (problem_of Q.value ground.now) cascade.now state.now result }
-    ensures rises { IfOk result (λ o. IfSome o (λ r. RisesIn state.now r.changes)) }
+    requires all { event_numbers round.old.events.items ≡ firing_of (problem_of Q.value ground.now) state.now }
+    ensures told { RoundChanges Q.value Q.fits (problem_of Q.value ground.now) cascade.now state.now (if_due round.new result) }
+    ensures rises { IfOk (if_due round.new result) (λ o. IfSome o (λ r. RisesIn state.now r.changes)) }
 {
-    if events.is_empty() {
-        spare.events = events;
-        return Ok(None);
+    if round.events.is_empty() {
+        return Ok(false);
     }
-    match cascade.first_fired(&events) {
+    match cascade.first_fired(&round.events) {
         Some(event) => Err(CascadeStop::Repeats(event)),
-        None => {
-            let mut changes = mem::replace(&mut spare.changes, Changes::none(alloc));
-            match changed_together_in(&mut changes, alloc, ground, &events, state) {
-                Err(stop) => Err(joint_stop(stop)),
-                Ok(()) => Ok(Some(DueRound { events, changes })),
-            }
-        }
+        None => match changed_together_in(&mut round.changes, alloc, ground, &round.events, state) {
+            Err(stop) => Err(joint_stop(stop)),
+            Ok(()) => Ok(true),
+        },
     }
 }
 
@@ -129,35 +123,42 @@ pub fn round_changes<Q: Exact>(
     match firing(alloc, ground, state) {
         Err(stop) => Err(stop),
         Ok(events) => {
-            let mut spare = DueRound::none(alloc);
-            fire(alloc, cascade, ground, state, events, &mut spare)
+            let mut round = DueRound {
+                events,
+                changes: Changes::none(alloc),
+            };
+            match fire(alloc, cascade, ground, state, &mut round) {
+                Err(stop) => Err(stop),
+                Ok(true) => Ok(Some(round)),
+                Ok(false) => Ok(None),
+            }
         }
     }
 }
 
-/// The round that is due, by a look at some of the events, in ground order: of all others it is known
-/// that they do not hold and that what they ask passes. The answer is that of `round_changes`, in the
-/// memory of a round that is needed no more: whatever it is, the answer is the same.
+/// Whether a round is due, by a look at some of the events, in ground order: of all others it is known
+/// that they do not hold and that what they ask passes. Then the round stands in what was lent, in place
+/// of another one, whose memory it takes. But for want of memory the answer is that of `round_changes`,
+/// whatever was lent. Where no round is due, and after a refusal, what stands there tells nothing.
 pub fn round_changes_among<Q: Exact>(
     alloc: Global,
     cascade: &Cascade,
     ground: &Ground<Q>,
     state: &State<Q>,
     looked_at: &[EventId],
-    spare: &mut DueRound<Q>,
-) -> Result<Option<DueRound<Q>>, CascadeStop<Q>>
+    round: &mut DueRound<Q>,
+) -> Result<bool, CascadeStop<Q>>
     requires state { StateFits (length (ground.now.atoms.items)) (length (ground.now.fluents.items)) state.now }
     requires events { length cascade.now ≡ length (ground.now.events.items) }
     requires members { AreMembers (length (ground.now.events.items)) (event_numbers looked_at.now) }
     requires pass { OthersPass Q.fits (event_conditions (problem_of Q.value ground.now)) state.now (event_numbers looked_at.now) }
     requires silent { OthersFalse (event_conditions (problem_of Q.value ground.now)) state.now (event_numbers looked_at.now) }
-    ensures told { RoundChanges Q.value Q.fits (problem_of Q.value ground.now) cascade.now state.now result }
-    ensures rises { IfOk result (λ o. IfSome o (λ r. RisesIn state.now r.changes)) }
+    ensures told { RoundChanges Q.value Q.fits (problem_of Q.value ground.now) cascade.now state.now (if_due round.new result) }
+    ensures rises { IfOk (if_due round.new result) (λ o. IfSome o (λ r. RisesIn state.now r.changes)) }
 {
-    let found = mem::replace(&mut spare.events, Vec::new(alloc));
-    match firing_among(ground, state, looked_at, found) {
+    match firing_among(ground, state, looked_at, &mut round.events) {
         Err(stop) => Err(stop),
-        Ok(events) => fire(alloc, cascade, ground, state, events, spare),
+        Ok(()) => fire(alloc, cascade, ground, state, round),
     }
 }
 

@@ -131,36 +131,40 @@ pub fn holding_among<Q: Exact, I: Conditional>(
         × (map I.number found.items ≡ held_among (I.conditions (problem_of Q.value ground.now)) (map I.number looked_at.now) state.now))
         (λ stop. WalkStops Q.value Q.fits (all_asked (I.conditions (problem_of Q.value ground.now)) state.now) stop) }
 {
-    holding_in(ground, state, looked_at, Vec::new(alloc))
+    let mut found = Vec::new(alloc);
+    holding_in(ground, state, looked_at, &mut found)?;
+    Ok(found)
 }
 
-/// The same, in the memory of a list that is needed no more.
+/// Puts those of these members whose condition holds, in ground order, in place of others, whose memory
+/// it takes. But for want of memory the answer is that of `holding_among`. After a refusal what was lent
+/// tells nothing.
 #[inline(always)]
 pub fn holding_in<Q: Exact, I: Conditional>(
     ground: &Ground<Q>,
     state: &State<Q>,
     looked_at: &[I],
-    mut found: Vec<I>,
-) -> Result<Vec<I>, WalkStop<Q>>
+    found: &mut Vec<I>,
+) -> Result<(), WalkStop<Q>>
     requires state { StateFits (length (ground.now.atoms.items)) (length (ground.now.fluents.items)) state.now }
     requires members { AreMembers (length (I.conditions (problem_of Q.value ground.now))) (map I.number looked_at.now) }
     requires others { OthersPass Q.fits (I.conditions (problem_of Q.value ground.now)) state.now (map I.number looked_at.now) }
     ensures { MatchResult result
-        (λ held. AllFit Q.fits (all_asked (I.conditions (problem_of Q.value ground.now)) state.now)
-        × (map I.number held.items ≡ held_among (I.conditions (problem_of Q.value ground.now)) (map I.number looked_at.now) state.now))
+        (λ _. AllFit Q.fits (all_asked (I.conditions (problem_of Q.value ground.now)) state.now)
+        × (map I.number found.new.items ≡ held_among (I.conditions (problem_of Q.value ground.now)) (map I.number looked_at.now) state.now))
         (λ stop. WalkStops Q.value Q.fits (all_asked (I.conditions (problem_of Q.value ground.now)) state.now) stop) }
 {
     found.clear();
     'each: for member in looked_at {
         match holds(member.condition(ground), state) {
             Err(overflow) => return Err(WalkStop::Number(overflow)),
-            Ok(truth) => match append_if(&mut found, *member, truth) {
+            Ok(truth) => match append_if(found, *member, truth) {
                 Err(_) => return Err(WalkStop::Memory),
                 Ok(()) => {}
             },
         }
     }
-    Ok(found)
+    Ok(())
 }
 
 // The members with these numbers, all that there are.
