@@ -165,18 +165,14 @@ impl<Q: Exact> Rates<Q> {
         }
     }
 
-    /// All rates are 0, for so many fluents, in the memory of these, which are needed no more.
+    /// All rates become 0, for so many fluents. The memory stays.
     #[inline(always)]
-    pub fn renewed(mut self, fluents: usize) -> Rates<Q>
-        ensures { result ≡ replicate fluents (whole (pos 0)) }
+    pub fn renew(&mut self, fluents: usize)
+        ensures { self.new ≡ replicate fluents (whole (pos 0)) }
     {
         self.given.clear();
-        Rates {
-            fluents,
-            below: 0,
-            given: self.given,
-            guesses: self.guesses,
-        }
+        self.fluents = fluents;
+        self.below = 0;
     }
 
     /// Equal rates.

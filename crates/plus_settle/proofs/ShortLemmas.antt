@@ -1,24 +1,22 @@
 -- Where the processes that hold go on at their own rates, they are the running set.
-use Rattle.std.proofs.Common.{◌≡◌, ◌⊎◌, ℕ, ◌<◌, ◌≤◌, ◌+◌, zero, suc, Bool, true, false, not, List, [], ◌∷◌, ◌++◌, length, refl, ap, sym, subst, ◌∙◌, inl, inr, arith, append_assoc}
-use Rattle.std.proofs.lemmas.Bool.{cases_lt}
+use Rattle.std.proofs.Common.{◌≡◌, ℕ, ◌<◌, ◌+◌, zero, suc, Bool, true, false, not, List, [], ◌∷◌, ◌++◌, length, refl, ap, sym, subst, ◌∙◌, arith, append_assoc}
 use Rattle.std.proofs.lemmas.List.{append-nil}
-use Rattle.std.specs.Prelude.{Option, Some, None, Result, Ok, Err, IfOk, IsSomeAnd, slice_get, unwrap_or, map, pos, if◌then◌else◌}
+use Rattle.std.specs.Prelude.{Option, Some, None, Result, Ok, Err, OnOk, IsSomeAnd, slice_get, unwrap_or, map, pos, if◌then◌else◌}
 use Rattle.plus_fraction.specs.Fraction.{Fraction, whole}
 use Rattle.plus_model.specs.Terms.{Condition, Process, State, Problem}
 use Rattle.plus_model.specs.Value.{holds, is_zero}
 use Rattle.plus_model.specs.Firing.{numbers_of, is_in}
 use Rattle.plus_model.specs.Piece.{rate_of, after}
 use Rattle.plus_model.specs.Live.{live}
-use Rattle.plus_model.specs.Running.{IsRising, holding, rates, GoesOn, first_coupled}
+use Rattle.plus_model.specs.Running.{holding, rates, GoesOn, first_coupled}
 use Rattle.plus_model.proofs.Along.{from_zero}
-use Rattle.plus_model.proofs.Decide.{rising-numbers, place_of, in_numbers}
+use Rattle.plus_model.proofs.Decide.{rising-numbers, place_of}
 use Rattle.plus_model.proofs.Members.{same_exactly, in_first}
 use Rattle.plus_state.specs.Asked.{NodeFits, AllFit}
 use Rattle.plus_state.specs.Tests.{tests_of}
 use Rattle.plus_state.specs.Numbers.{AreMembers}
-use Rattle.plus_state.specs.Walk.{process_conditions, all_asked, OthersPass}
-use Rattle.plus_state.proofs.Testing.{pass_left, pass_right, fail_left, fail_right}
-use Rattle.plus_reads.specs.Reads.{fluents_read}
+use Rattle.plus_state.specs.Walk.{process_conditions, all_asked}
+use Rattle.plus_state.proofs.Testing.{pass_left, pass_right, fail_left}
 use Rattle.plus_reads.specs.Tables.{Covers, ReadAny}
 use Rattle.plus_reads.specs.Laws.{StandsStill}
 use Rattle.plus_reads.specs.declared.readers.Readers.{Readers}
@@ -31,11 +29,11 @@ use Rattle.plus_settle.specs.declared.stops.GoStop.TheVariants as go
 use Rattle.plus_settle.specs.declared.stops.SettleStop.{SettleStop}
 use Rattle.plus_settle.specs.declared.stops.SettleStop.TheVariants.{Unsettled, Coupled, NoValue, Number, Nonlinear, Memory}
 use Rattle.plus_settle.specs.Steps.{SettleStep, AllPass, FirstStop, Passes}
-use Rattle.plus_settle.specs.Rates.{rates_steps}
+use Rattle.plus_settle.specs.Rates.{rates_steps, as_given}
 use Rattle.plus_settle.specs.Members.{soon, process_numbers}
 use Rattle.plus_settle.specs.Confirms.{soon_steps, differ, confirm_steps, go_steps, first_other, GoStops}
 use Rattle.plus_settle.specs.Settles.{condition_nodes, chosen_steps, running_soon, settle_steps, StopIs, ChosenStops, NotSettled, IsRunning, SettleAnswers, of_go}
-use Rattle.plus_settle.specs.Among.{IsConfirmed, OthersConfirmed}
+use Rattle.plus_settle.specs.Among.{OthersConfirmed}
 use Rattle.plus_settle.specs.Uncoupled.{Uncoupled}
 use Rattle.plus_settle.proofs.MembersLemmas.{all_in}
 use Rattle.plus_settle.proofs.SettlesLemmas.{own_pass, coupled_stop, chosen_stop, last_stop, settles}
@@ -204,18 +202,28 @@ module _ {Q : Type 0} (v : Q → Fraction) (fits : Fraction → Type 0) (P : Pro
     soon_on : GoesOn P s first (running_soon P s first)
     soon_on = subst (GoesOn P s first) (are_soon P s first present n e) g
 
-    pub short_way : (result : Result (Running Q) (SettleStop Q)) → Uncoupled P present first result → SettleAnswers v fits P s result
-    short_way (Ok x) u =
-        let done = settles v fits P s present first a k b r present all_chosen (are_soon P s first present n e) soon_on first b r (own_pass v fits P s present first w e (sym u.2)) g u.2 in
-        (done.0, subst (λ (ms : List ℕ). IsRunning P s ms x.rates) (sym u.0) (subst (IsRunning P s present) (sym u.1) done.1))
-    short_way (Err (Unsettled p)) u = absurd u
-    short_way (Err (Coupled p f)) u =
-        last_stop v fits P s present first a k b r present all_chosen (are_soon P s first present n e) soon_on first b r (Coupled p f) (coupled_stop v fits P s present first p.0 f.0 w e (sym u)) (g, u)
-    short_way (Err (NoValue f)) u = absurd u
-    short_way (Err (Number o)) u = absurd u
-    short_way (Err (Nonlinear p c)) u = absurd u
-    short_way (Err Memory) u = (tt, tt)
+    -- where none of them reads a moving fluent, they are the running set
+    pub short_way : first_coupled P present first ≡ None → AllPass fits (settle_steps P s) × IsRunning P s present first
+    short_way u = settles v fits P s present first a k b r present all_chosen (are_soon P s first present n e) soon_on first b r (own_pass v fits P s present first w e (sym u)) g u
 
-pub short_members : {Q : Type 0} (P : Problem) (present : List ℕ) (rs : List Fraction) (n : ℕ) (result : Result (Running Q) (SettleStop Q)) → Uncoupled P present rs result → AreMembers n present → IfOk result (λ r. AreMembers n (process_numbers r.members.items))
-short_members P present rs n (Ok x) u m = subst (AreMembers n) (sym u.0) m
-short_members P present rs n (Err e) u m = tt
+    -- where one does, that is the stop
+    pub short_end : (stop : SettleStop Q) → Uncoupled P present first (Err stop) → StopIs v fits (settle_steps P s) stop × NotSettled P s stop
+    short_end (Unsettled p) u = absurd u
+    short_end (Coupled p f) u =
+        last_stop v fits P s present first a k b r present all_chosen (are_soon P s first present n e) soon_on first b r (Coupled p f) (coupled_stop v fits P s present first p.0 f.0 w e (sym u)) (g, u)
+    short_end (NoValue f) u = absurd u
+    short_end (Number o) u = absurd u
+    short_end (Nonlinear p c) u = absurd u
+    short_end Memory u = (tt, tt)
+
+    -- both, where the set with these members and rates is in its place
+    pub short_told : (x : Running Q) → process_numbers x.members.items ≡ present → x.rates ≡ first → (result : Result (Unit {0}) (SettleStop Q)) → Uncoupled P present first result → SettleAnswers v fits P s (as_given x result)
+    short_told x m c (Ok u) h =
+        let done = short_way h in
+        (done.0, subst (λ (ms : List ℕ). IsRunning P s ms x.rates) (sym m) (subst (IsRunning P s present) (sym c) done.1))
+    short_told x m c (Err stop) h = short_end stop h
+
+-- what holds in any case
+pub on_ok : {A H T : Type 0} (result : Result A H) → T → OnOk result T
+on_ok (Ok u) h = h
+on_ok (Err e) h = tt

@@ -69,6 +69,11 @@ NoRates r Memory = Unit {0}
 abbrev pub RatesTell : {Q A : Type 0} → (Q → Fraction) → (Fraction → Type 0) → List SettleStep → Result (List Fraction) ℕ → List Fraction → Result A (RateStop Q) → Type 0
 RatesTell v fits ns r new answer = MatchResult answer (λ _. AllPass fits ns × (r ≡ Ok new)) (λ e. RateStops v fits ns e × NoRates r e)
 
+-- what a call answers that puts its answer in place of another: this one, unless it stops
+abbrev pub as_given : {A H : Type 0} → A → Result (Unit {0}) H → Result A H
+as_given a (Ok u) = Ok a
+as_given a (Err h) = Err h
+
 abbrev pub NetRates : {Q : Type 0} → (Q → Fraction) → (Fraction → Type 0) → Problem → State → List ℕ → Result (List Fraction) (RateStop Q) → Type 0
 NetRates v fits P s members answer =
     MatchResult answer (λ rs. AllPass fits (rates_steps P s members) × (rates P s members ≡ Ok rs)) (λ e. RateStops v fits (rates_steps P s members) e × NoRates (rates P s members) e)

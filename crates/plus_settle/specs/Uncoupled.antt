@@ -3,14 +3,12 @@ use Rattle.std.specs.Prelude.{◌≡◌, ℕ, List, Some, None, Result, Ok, Err}
 use Rattle.plus_fraction.specs.Fraction.{Fraction}
 use Rattle.plus_model.specs.Terms.{Problem}
 use Rattle.plus_model.specs.Running.{first_coupled}
-use Rattle.plus_settle.specs.declared.settling.Running.{Running}
 use Rattle.plus_settle.specs.declared.stops.SettleStop.{SettleStop}
 use Rattle.plus_settle.specs.declared.stops.SettleStop.TheVariants.{Unsettled, Coupled, NoValue, Number, Nonlinear, Memory}
-use Rattle.plus_settle.specs.Members.{process_numbers}
 
--- the set with these members and rates, where none has; else the first that has, with the first such fluent
-abbrev pub Uncoupled : {Q : Type 0} → Problem → List ℕ → List Fraction → Result (Running Q) (SettleStop Q) → Type 0
-Uncoupled P members rs (Ok r) = (process_numbers r.members.items ≡ members) × (r.rates ≡ rs) × (first_coupled P members rs ≡ None)
+-- none of these members has one at these rates; else the first that has, with the first such fluent
+abbrev pub Uncoupled : {Q : Type 0} → Problem → List ℕ → List Fraction → Result (Unit {0}) (SettleStop Q) → Type 0
+Uncoupled P members rs (Ok u) = first_coupled P members rs ≡ None
 Uncoupled P members rs (Err (Unsettled p)) = ⊥
 Uncoupled P members rs (Err (Coupled p f)) = first_coupled P members rs ≡ Some (p.0, f.0)
 Uncoupled P members rs (Err (NoValue f)) = ⊥

@@ -1,5 +1,5 @@
 //! Net rates.
-ghost use Rattle.std.specs.Prelude.{◌≡◌, ◌<◌, [], ◌∷◌, length, map, replicate, pos, All, IfOk, MatchResult};
+ghost use Rattle.std.specs.Prelude.{◌≡◌, ◌<◌, [], ◌∷◌, length, map, replicate, pos, All, OnOk, MatchResult};
 ghost use Rattle.plus_fraction.specs.Fraction.{whole};
 ghost use Rattle.plus_model.specs.Value.{value as value_of, fluent_of};
 ghost use Rattle.plus_model.specs.Running.{rated, add_rates, rates as rates_of};
@@ -7,7 +7,7 @@ ghost use Rattle.plus_state.specs.View.{rate_of, problem_of, overflow_of};
 ghost use Rattle.plus_state.specs.Fits.{RateFits, StateFits};
 ghost use Rattle.plus_state.specs.Asked.{result_of, node};
 ghost use Rattle.plus_settle.specs.Steps.{asks, AllPass, FirstStop};
-ghost use Rattle.plus_settle.specs.Rates.{sign_of, rate_steps, add_rates_steps, rates_steps, RatesTell, NetRates};
+ghost use Rattle.plus_settle.specs.Rates.{sign_of, rate_steps, add_rates_steps, rates_steps, RatesTell, NetRates, as_given};
 ghost use Rattle.plus_settle.specs.Members.{process_numbers, AreMembers};
 
 use crate::stops::RateStop;
@@ -115,21 +115,21 @@ fn are_few<Q: Exact>(ground: &Ground<Q>, members: &[ProcessId]) -> bool {
     true
 }
 
-// All rates are 0, and the fluents that have a rate under these processes have their places, where they
-// are more than a few: in the memory of rates that are needed no more.
+// All rates become 0, and the fluents that have a rate under these processes get their places, where they
+// are more than a few.
 #[inline(always)]
 fn with_places<Q: Exact>(
     alloc: Global,
     ground: &Ground<Q>,
     members: &[ProcessId],
     fluents: usize,
-    room: Rates<Q>,
-) -> Result<Rates<Q>, AllocError>
-    ensures { IfOk result (λ rates. rates ≡ replicate fluents (whole (pos 0))) }
+    rates: &mut Rates<Q>,
+) -> Result<(), AllocError>
+    ensures { OnOk result (rates.new ≡ replicate fluents (whole (pos 0))) }
 {
-    let mut rates = room.renewed(fluents);
+    rates.renew(fluents);
     if are_few(ground, members) {
-        return Ok(rates);
+        return Ok(());
     }
     let mut numbers = Vec::with_capacity(alloc, members.len())?;
     'each: for member in members {
@@ -138,33 +138,33 @@ fn with_places<Q: Exact>(
         }
     }
     rates.make_places(alloc, numbers)?;
-    Ok(rates)
+    Ok(())
 }
 
 /// The net rate of each fluent under these processes, which stand in ground order: the sum of their
 /// rates on it, all read in this state. The refusal is the first step that stops: members in order, of
 /// each its rates in order, of each the amount, then a missing value, then the sum; or want of memory.
-/// They stand in the memory of the rates `room`, which are needed no more.
+/// They take the place of other rates; after a refusal those say nothing.
 #[inline(always)]
 pub fn net_rates<Q: Exact>(
     alloc: Global,
     ground: &Ground<Q>,
     members: &[ProcessId],
     state: &State<Q>,
-    room: Rates<Q>,
-) -> Result<Rates<Q>, RateStop<Q>>
+    rates: &mut Rates<Q>,
+) -> Result<(), RateStop<Q>>
     requires state { StateFits (length (ground.now.atoms.items)) (length (ground.now.fluents.items)) state.now }
     requires members { AreMembers (length (ground.now.processes.items)) (process_numbers members.now) }
-    ensures size { IfOk result (λ rs. length rs ≡ length (state.now.fluents)) }
-    ensures told { NetRates Q.value Q.fits (problem_of Q.value ground.now) state.now (process_numbers members.now) result }
+    ensures size { OnOk result (length rates.new ≡ length (state.now.fluents)) }
+    ensures told { NetRates Q.value Q.fits (problem_of Q.value ground.now) state.now (process_numbers members.now) (as_given rates.new result) }
 {
-    let mut rates = with_places(alloc, ground, members, state.fluents() as usize, room)?;
+    with_places(alloc, ground, members, state.fluents() as usize, rates)?;
     'each: for member in members {
         let own = &ground.processes[member.0 as usize].rates;
-        match add_all(&mut rates, own, state) {
+        match add_all(rates, own, state) {
             Err(stop) => return Err(stop),
             Ok(()) => {}
         }
     }
-    Ok(rates)
+    Ok(())
 }

@@ -1,11 +1,11 @@
 //! Settling.
-ghost use Rattle.std.specs.Prelude.{◌≡◌, Ok, length, IfOk};
+ghost use Rattle.std.specs.Prelude.{◌≡◌, Ok, length, IfOk, OnOk};
 ghost use Rattle.plus_model.specs.Running.{holding as holding_of, rates as rates_of};
 ghost use Rattle.plus_state.specs.View.{problem_of};
 ghost use Rattle.plus_state.specs.Fits.{StateFits};
 ghost use Rattle.plus_state.specs.Asked.{AllFit};
 ghost use Rattle.plus_settle.specs.Steps.{AllPass};
-ghost use Rattle.plus_settle.specs.Rates.{rates_steps};
+ghost use Rattle.plus_settle.specs.Rates.{rates_steps, as_given};
 ghost use Rattle.plus_settle.specs.Members.{process_numbers, AreMembers};
 ghost use Rattle.plus_settle.specs.Settles.{condition_nodes, of_rate, OwnRates, Confirmed, own_then, SettleAnswers};
 ghost use Rattle.plus_settle.specs.Uncoupled.{Uncoupled};
@@ -51,22 +51,22 @@ fn rate_stop<Q: Exact>(stop: RateStop<Q>) -> SettleStop<Q>
     }
 }
 
-// The net rates under these processes, in the memory of rates that are needed no more.
+// Puts the net rates under these processes in place of other rates.
 #[inline(always)]
 pub fn own_rates<Q: Exact>(
     alloc: Global,
     ground: &Ground<Q>,
     members: &[ProcessId],
     state: &State<Q>,
-    room: Rates<Q>,
-) -> Result<Rates<Q>, SettleStop<Q>>
+    rates: &mut Rates<Q>,
+) -> Result<(), SettleStop<Q>>
     requires state { StateFits (length (ground.now.atoms.items)) (length (ground.now.fluents.items)) state.now }
     requires members { AreMembers (length (ground.now.processes.items)) (process_numbers members.now) }
-    ensures size { IfOk result (λ rs. length rs ≡ length (state.now.fluents)) }
-    ensures told { OwnRates Q.value Q.fits (problem_of Q.value ground.now) state.now (process_numbers members.now) result }
+    ensures size { OnOk result (length rates.new ≡ length (state.now.fluents)) }
+    ensures told { OwnRates Q.value Q.fits (problem_of Q.value ground.now) state.now (process_numbers members.now) (as_given rates.new result) }
 {
-    match net_rates(alloc, ground, members, state, room) {
-        Ok(rates) => Ok(rates),
+    match net_rates(alloc, ground, members, state, rates) {
+        Ok(()) => Ok(()),
         Err(stop) => Err(rate_stop(stop)),
     }
 }
@@ -115,24 +115,25 @@ pub fn settle_from<Q: Exact>(
     ensures size { IfOk result (λ r. length r.rates ≡ length (ground.now.fluents.items)) }
 {
     let members = chosen(alloc, ground, state, first)?;
-    let rates = own_rates(alloc, ground, &members, state, Rates::zero(alloc, 0))?;
+    let mut rates = Rates::zero(alloc, 0);
+    own_rates(alloc, ground, &members, state, &mut rates)?;
     confirmed(ground, &members, state, &rates)?;
     Ok(Running { members, rates })
 }
 
-// The set of these members, which go on at these rates, where none of them reads a moving fluent.
+// Whether none of these members reads a fluent that moves at these rates.
 pub fn uncoupled<Q: Exact>(
     ground: &Ground<Q>,
-    members: Vec<ProcessId>,
-    rates: Rates<Q>,
-) -> Result<Running<Q>, SettleStop<Q>>
-    requires members { AreMembers (length (ground.now.processes.items)) (process_numbers members.items) }
-    requires rates { length rates ≡ length (ground.now.fluents.items) }
-    ensures { Uncoupled (problem_of Q.value ground.now) (process_numbers members.items) rates result }
+    members: &[ProcessId],
+    rates: &Rates<Q>,
+) -> Result<(), SettleStop<Q>>
+    requires members { AreMembers (length (ground.now.processes.items)) (process_numbers members.now) }
+    requires rates { length rates.now ≡ length (ground.now.fluents.items) }
+    ensures { Uncoupled (problem_of Q.value ground.now) (process_numbers members.now) rates.now result }
 {
-    match first_coupled(ground, &members, &rates) {
+    match first_coupled(ground, members, rates) {
         Some((process, fluent)) => Err(SettleStop::Coupled(process, fluent)),
-        None => Ok(Running { members, rates }),
+        None => Ok(()),
     }
 }
 
@@ -154,10 +155,17 @@ pub fn settle<Q: Exact>(
     ensures size { IfOk result (λ r. length r.rates ≡ length (ground.now.fluents.items)) }
 {
     let present = holding(alloc, ground, state)?;
-    let first = own_rates(alloc, ground, &present, state, Rates::zero(alloc, 0))?;
+    let mut first = Rates::zero(alloc, 0);
+    own_rates(alloc, ground, &present, state, &mut first)?;
     match first_other(ground, &present, state, &first) {
         Err(stop) => Err(settle_stop(stop)),
         Ok(Some(_)) => settle_from(alloc, ground, &present, state, &first),
-        Ok(None) => uncoupled(ground, present, first),
+        Ok(None) => {
+            uncoupled(ground, &present, &first)?;
+            Ok(Running {
+                members: present,
+                rates: first,
+            })
+        }
     }
 }

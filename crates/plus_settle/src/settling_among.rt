@@ -1,5 +1,5 @@
 //! Settling, where it is known which processes hold and who reads what.
-ghost use Rattle.std.specs.Prelude.{◌≡◌, length, IfOk};
+ghost use Rattle.std.specs.Prelude.{◌≡◌, length, OnOk};
 ghost use Rattle.plus_model.specs.Running.{holding as holding_of};
 ghost use Rattle.plus_state.specs.View.{problem_of};
 ghost use Rattle.plus_state.specs.Fits.{StateFits};
@@ -7,6 +7,7 @@ ghost use Rattle.plus_state.specs.Asked.{AllFit};
 ghost use Rattle.plus_state.specs.Walk.{process_conditions};
 ghost use Rattle.plus_reads.specs.Tables.{AreBelow, Covers};
 ghost use Rattle.plus_settle.specs.Members.{process_numbers, AreMembers};
+ghost use Rattle.plus_settle.specs.Rates.{as_given};
 ghost use Rattle.plus_settle.specs.Settles.{condition_nodes, SettleAnswers};
 
 use crate::among::first_other_among;
@@ -14,42 +15,48 @@ use crate::choices::settle_stop;
 use crate::moving::MovingReaders;
 use crate::settling::{Running, own_rates, settle_from, uncoupled};
 use crate::stops::SettleStop;
-use plus_crossing::rates::Rates;
 use plus_number::exact::Exact;
 use plus_state::problem::Ground;
 use plus_state::states::State;
-use plus_state::term::ProcessId;
 use std::alloc::{AllocError, Global};
 
-/// The running set of a state and its net rates, as `settle`, where these are the processes that hold
-/// in it and what their conditions ask is known to pass. Only the processes are looked at that read a
-/// fluent that moves: where those that hold go on at their own rates, they are the running set. The rates
-/// stand in the memory of `room`, which are needed no more.
+/// Makes these the running set of a state and its net rates, as `settle`, where the members are the
+/// processes that hold in it and what their conditions ask is known to pass. Only the processes are looked
+/// at that read a fluent that moves: where those that hold go on at their own rates, they are the running
+/// set. The rates take the place of others. After a refusal the set says nothing.
 pub fn settle_among<Q: Exact>(
     alloc: Global,
     ground: &Ground<Q>,
-    present: Vec<ProcessId>,
     state: &State<Q>,
     readers: &mut MovingReaders,
-    room: Rates<Q>,
-) -> Result<Running<Q>, SettleStop<Q>>
+    running: &mut Running<Q>,
+) -> Result<(), SettleStop<Q>>
     requires state { StateFits (length (ground.now.atoms.items)) (length (ground.now.fluents.items)) state.now }
     requires pass { AllFit Q.fits (condition_nodes ((problem_of Q.value ground.now).processes) state.now) }
-    requires present { process_numbers present.items ≡ holding_of (problem_of Q.value ground.now) state.now }
+    requires present { process_numbers running.old.members.items ≡ holding_of (problem_of Q.value ground.now) state.now }
     requires readers { Covers (process_conditions (problem_of Q.value ground.now)) readers.old.index.processes }
     requires below { AreBelow (length (process_conditions (problem_of Q.value ground.now))) readers.old.index.processes }
-    ensures told { SettleAnswers Q.value Q.fits (problem_of Q.value ground.now) state.now result }
-    ensures members { IfOk result (λ r. AreMembers (length (ground.now.processes.items)) (process_numbers r.members.items)) }
-    ensures size { IfOk result (λ r. length r.rates ≡ length (ground.now.fluents.items)) }
+    ensures told { SettleAnswers Q.value Q.fits (problem_of Q.value ground.now) state.now (as_given running.new result) }
+    ensures members { OnOk result (AreMembers (length (ground.now.processes.items)) (process_numbers running.new.members.items)) }
+    ensures size { OnOk result (length running.new.rates ≡ length (ground.now.fluents.items)) }
     ensures index { readers.new.index ≡ readers.old.index }
 {
-    let first = own_rates(alloc, ground, &present, state, room)?;
-    match readers.refresh(&first) {
+    own_rates(alloc, ground, &running.members, state, &mut running.rates)?;
+    match readers.refresh(&running.rates) {
         Err(_) => Err(SettleStop::Memory),
-        Ok(()) => match first_other_among(ground, &present, state, &first, readers.processes()) {
+        Ok(()) => match first_other_among(
+            ground,
+            &running.members,
+            state,
+            &running.rates,
+            readers.processes(),
+        ) {
             Err(stop) => Err(settle_stop(stop)),
-            Ok(Some(_)) => settle_from(alloc, ground, &present, state, &first),
-            Ok(None) => uncoupled(ground, present, first),
+            Ok(Some(_)) => {
+                *running = settle_from(alloc, ground, &running.members, state, &running.rates)?;
+                Ok(())
+            }
+            Ok(None) => uncoupled(ground, &running.members, &running.rates),
         },
     }
 }

@@ -54,6 +54,7 @@ pub fn moved_on<Q: Exact>(
     ensures fit { IfOk result (λ next. StateFits (length (ground.now.atoms.items)) (length (ground.now.fluents.items)) next) }
 {
     let members = holding(alloc, ground, state)?;
-    let rates = net_rates(alloc, ground, &members, state, Rates::zero(alloc, 0))?;
+    let mut rates = Rates::zero(alloc, 0);
+    net_rates(alloc, ground, &members, state, &mut rates)?;
     Ok(moved(alloc, state, &rates, interval)?)
 }

@@ -1,4 +1,5 @@
 use Rattle.std.proofs.Common.{◌<◌, length, get_or, arith}
+use Rattle.std.proofs.lemmas.Result.{err_from_is_err_and}
 use Rattle.plus_state.specs.View.{problem_of}
 use Rattle.plus_settle.proofs.MembersLemmas.{next_number, no_number, below_all, all_fit, process_fits, rates_here}
 use Rattle.plus_settle.proofs.RatesLemmas.{summing_start, summing_inside, summing_next, summing_stop, summing_end}
@@ -6,7 +7,7 @@ use Rattle.plus_settle.proofs.net.net_rates.Goals as goal
 
 pub each-init : goal.each-init
 each-init g c =
-    summing_start _ (problem_of g.Q.Exact.value c.args.ground.now) _ _ _ _ c.in_ok-rates.ensures c.fluents.ensures (below_all g.Q.Exact.value c.args.ground.now _ c.requires.members.inside)
+    summing_start _ (problem_of g.Q.Exact.value c.args.ground.now) _ _ _ _ c.in_ok-with_places.ensures c.fluents.ensures (below_all g.Q.Exact.value c.args.ground.now _ c.requires.members.inside)
 
 pub index-requires : goal.index-requires
 index-requires g c =
@@ -38,3 +39,8 @@ each-preserved g c =
 
 pub returns-clause-told : goal.returns-clause-told
 returns-clause-told g c = summing_end _ _ _ _ _ (rw (no_number c.args.members.now c.each.member-index c.each-test.false) at c.each.invariant)
+
+pub returns-in_err-with_places-clause-told : goal.returns-in_err-with_places-clause-told
+returns-in_err-with_places-clause-told g c =
+    let p = err_from_is_err_and c.from_residual.result c.from_residual.ensures.1 in
+    rw (p.1, p.2) (tt, tt)
