@@ -228,15 +228,8 @@ woken_by v (Some b) (Some a) t c p q l h w e =
       woken = subst (λ (x : List ℕ). AddsReaders v.kept.index.processes c b x) k (subst (λ (x : Readers). AddsReaders x c b a) q h);
     }
 
--- where what is kept stays
-pub kept_same : (old new : Kept) → new ≡ old → new ≡ record old { processes = new.processes }
-kept_same old new e = e ∙ ap (λ (x : Kept). record old { processes = x.processes }) (sym e)
-
-pub may_still : (fits : Fraction → Type 0) (P : Problem) (old : IndexedView) (new : Kept) → Knows fits P old → new ≡ old.kept → (w : List ℕ) → new.processes ≡ Some w → MayHold fits P old.line.now.state w
-may_still fits P old new k e w h = k.processes w (ap (λ (x : Kept). x.processes) (sym e) ∙ h)
-
 -- the processes that wait do not hang on the events that do
-pub woken_before : (v u : IndexedView) → u ≡ record v { kept = record v.kept { events = None } } → (w : List ℕ) → ProcessesWoken u w → ProcessesWoken v w
-woken_before v u e w h =
-    let k : ProcessesWoken (record v { kept = record v.kept { events = None } }) w = subst (λ (x : IndexedView). ProcessesWoken x w) e h in
-    record { before = k.before; were = k.were; changes = k.changes; leads = k.leads; woken = k.woken }
+pub woken_before : (line : TimelineView) (k u : Kept) → u ≡ record k { events = None } → (w : List ℕ) → ProcessesWoken (record { line = line; kept = u }) w → ProcessesWoken (record { line = line; kept = k }) w
+woken_before line k u e w h =
+    let x : ProcessesWoken (record { line = line; kept = record k { events = None } }) w = subst (λ (y : Kept). ProcessesWoken (record { line = line; kept = y }) w) e h in
+    record { before = x.before; were = x.were; changes = x.changes; leads = x.leads; woken = x.woken }

@@ -19,14 +19,12 @@ ghost use Rattle.plus_timeline.specs.Advance.{IsAhead, AdvanceTold};
 ghost use Rattle.plus_indexed.specs.Knows.{MayHold, Knows};
 ghost use Rattle.plus_indexed.specs.Waking.{WokenBy, StillWoken, EventsAfter, ProcessesWoken, ProcessesAfter};
 
-use crate::settled::present_among;
-use crate::waiting::{Waiting, still_waiting};
-use crate::waking::{emptied, still_woken, woken};
-use plus_cascade::{CascadeStop, DueRound};
+use crate::kept::Kept;
+use plus_cascade::DueRound;
 use plus_crossing::rates::Rates;
 use plus_number::exact::Exact;
 use plus_reads::Index;
-use plus_settle::{MovingReaders, Running, SettleStop, holding, settle_among};
+use plus_settle::Running;
 use plus_state::changes::Changes;
 use plus_state::problem::{Action, Ground};
 use plus_state::states::State;
@@ -35,32 +33,20 @@ use plus_timeline::stop::{cascade_stop, settle_stop};
 use plus_timeline::{Next, Stop, Timeline};
 use std::alloc::{AllocError, Global};
 use std::marker::Model;
-use std::mem;
 use std::rc::Rc;
 
 /// A timeline with an index of its problem, which its copies share, and with what is known of the
 /// present state.
 #[derive(Drop)]
 pub struct Indexed<Q: Exact> {
-    alloc: Global,
     timeline: Timeline<Q>,
-    readers: MovingReaders,
-    // the events that are to be looked at where a round may be due, and the processes where the entry is
-    // closed; all of them where there is no list
-    events: Option<Vec<EventId>>,
-    processes: Option<Waiting>,
-    // room for numbers and for processes, which many steps use
-    numbers: Vec<u32>,
-    listed: Vec<ProcessId>,
-    // the running set before the last one, whose memory the next one takes
+    kept: Kept,
+    // a running set and a round that are needed no more, whose memory the next ones take
     room: Running<Q>,
-    // a round that is needed no more, whose memory the next one takes
     spare: DueRound<Q>,
 }
 
 impl<Q: Exact> Model for Indexed<Q> {
-    ghost use Rattle.std.specs.Prelude.{option_map};
-    ghost use Rattle.plus_state.specs.Numbers.{event_numbers};
     ghost use Rattle.plus_indexed.specs.Indexed.{IndexedView};
     ghost use Rattle.plus_indexed.specs.IndexedCode.{coded_indexed};
 
@@ -68,26 +54,7 @@ impl<Q: Exact> Model for Indexed<Q> {
 
     ghost coded = { coded_indexed };
 
-    ghost view = { λ i. record {
-      line = i.timeline;
-      kept = record {
-        index = i.readers.index;
-        events = option_map (λ w. event_numbers w.items) i.events;
-        processes = i.processes;
-      };
-    } };
-}
-
-fn copied_events(
-    alloc: Global,
-    events: &Option<Vec<EventId>>,
-) -> Result<Option<Vec<EventId>>, AllocError>
-    ensures { IfOk result (λ o. option_map (λ w. event_numbers w.items) o ≡ option_map (λ w. event_numbers w.items) events.now) }
-{
-    match events {
-        Some(events) => Ok(Some(Vec::from_slice(alloc, events)?)),
-        None => Ok(None),
-    }
+    ghost view = { λ i. record { line = i.timeline; kept = i.kept } };
 }
 
 // A running set that has no memory.
@@ -96,32 +63,6 @@ fn no_room<Q: Exact>(alloc: Global) -> Running<Q> {
         members: Vec::new(alloc),
         rates: Rates::zero(alloc, 0),
     }
-}
-
-fn copied_processes(
-    alloc: Global,
-    processes: &Option<Waiting>,
-) -> Result<Option<Waiting>, AllocError>
-    ensures { IfOk result (λ o. o ≡ processes.now) }
-{
-    match processes {
-        Some(processes) => Ok(Some(processes.copy(alloc)?)),
-        None => Ok(None),
-    }
-}
-
-// Both lists once more.
-fn copied_lists(
-    alloc: Global,
-    events: &Option<Vec<EventId>>,
-    processes: &Option<Waiting>,
-) -> Result<(Option<Vec<EventId>>, Option<Waiting>), AllocError>
-    ensures events { IfOk result (λ r. option_map (λ w. event_numbers w.items) r.0 ≡ option_map (λ w. event_numbers w.items) events.now) }
-    ensures processes { IfOk result (λ r. r.1 ≡ processes.now) }
-{
-    let events = copied_events(alloc, events)?;
-    let processes = copied_processes(alloc, processes)?;
-    Ok((events, processes))
 }
 
 impl<Q: Exact> Indexed<Q> {
@@ -139,13 +80,8 @@ impl<Q: Exact> Indexed<Q> {
         let timeline = Timeline::begin(alloc, ground, happenings)?;
         let index = Index::new(alloc, ground)?;
         Ok(Indexed {
-            alloc,
             timeline,
-            readers: MovingReaders::new(alloc, Rc::new(alloc, index)?),
-            events: None,
-            processes: None,
-            numbers: Vec::new(alloc),
-            listed: Vec::new(alloc),
+            kept: Kept::new(alloc, Rc::new(alloc, index)?),
             room: no_room(alloc),
             spare: DueRound::none(alloc),
         })
@@ -170,7 +106,7 @@ impl<Q: Exact> Indexed<Q> {
         }
         match self.next(ground, until) {
             Ok(next) => {
-                self.wake(next);
+                self.kept.wake(&self.timeline, next);
                 Ok(next)
             }
             Err(stop) => {
@@ -194,7 +130,7 @@ impl<Q: Exact> Indexed<Q> {
     {
         match self.timeline.act(ground, action, line) {
             Ok(()) => {
-                self.wake_by_step();
+                self.kept.wake_by_step(&self.timeline);
                 Ok(())
             }
             Err(stop) => Err(stop),
@@ -275,17 +211,11 @@ impl<Q: Exact> Indexed<Q> {
     pub fn copy(&self, alloc: Global) -> Result<Indexed<Q>, AllocError>
         ensures { IfOk result (λ t. t ≡ self.now) }
     {
-        let (events, processes) = copied_lists(alloc, &self.events, &self.processes)?;
-        let readers = self.readers.copy(alloc)?;
+        let kept = self.kept.copy(alloc)?;
         let timeline = self.timeline.copy(alloc)?;
         Ok(Indexed {
-            alloc,
             timeline,
-            readers,
-            events,
-            processes,
-            numbers: Vec::new(alloc),
-            listed: Vec::new(alloc),
+            kept,
             room: no_room(alloc),
             spare: DueRound::none(alloc),
         })
@@ -293,19 +223,6 @@ impl<Q: Exact> Indexed<Q> {
 }
 
 impl<Q: Exact> Indexed<Q> {
-    // The round that is due, in the memory of one that is needed no more.
-    fn due(&mut self, ground: &Ground<Q>) -> Result<Option<DueRound<Q>>, CascadeStop<Q>>
-        requires knows { Knows Q.fits (problem_of Q.value ground.now) self.old }
-        ensures told { DueTold Q.value Q.fits (problem_of Q.value ground.now) self.old.line.now.fired self.old.line.now.state result }
-        ensures rises { IfOk result (λ o. IfSome o (λ r. RisesIn self.old.line.now.state r.changes)) }
-        ensures same { self.new ≡ self.old }
-    {
-        match &self.events {
-            Some(events) => self.timeline.due_among(ground, events, &mut self.spare),
-            None => self.timeline.due(ground),
-        }
-    }
-
     // Does one thing. A refusal changes nothing.
     fn next(&mut self, ground: &Ground<Q>, until: Q) -> Result<Next<Q>, Stop<Q>>
         requires going { IsGoing self.old.line }
@@ -319,18 +236,15 @@ impl<Q: Exact> Indexed<Q> {
             MayHold Q.fits (problem_of Q.value ground.now) self.old.line.now.state w }
     {
         if self.timeline.is_running() {
-            return self.pass(ground, until);
+            return self.kept.pass(ground, &mut self.timeline, until);
         }
-        match self.due(ground) {
+        match self.kept.due(ground, &self.timeline, &mut self.spare) {
             Err(stop) => Err(cascade_stop(stop)),
-            Ok(Some(round)) => match self.timeline.put_round(round) {
+            Ok(true) => match self.timeline.put_round(&mut self.spare) {
                 Err(_) => Err(Stop::Memory),
-                Ok(spare) => {
-                    self.spare = spare;
-                    Ok(Next::Round)
-                }
+                Ok(()) => Ok(Next::Round),
             },
-            Ok(None) => self.rest(ground, until),
+            Ok(false) => self.rest(ground, until),
         }
     }
 
@@ -355,188 +269,13 @@ impl<Q: Exact> Indexed<Q> {
                 self.timeline.arrive();
                 Ok(Next::There)
             }
-            Ok(true) => match self.settled(ground) {
+            Ok(true) => match self.kept.settled(ground, &self.timeline, &mut self.room) {
                 Err(stop) => Err(settle_stop(stop)),
-                Ok(running) => {
-                    self.room = self.timeline.run(running);
+                Ok(()) => {
+                    self.timeline.run(&mut self.room);
                     Ok(Next::Run)
                 }
             },
         }
-    }
-
-    // The processes that hold in the present state, in the memory of a list that is needed no more.
-    fn present(
-        &mut self,
-        ground: &Ground<Q>,
-        room: Vec<ProcessId>,
-    ) -> Result<Vec<ProcessId>, SettleStop<Q>>
-        requires knows { Knows Q.fits (problem_of Q.value ground.now) self.old }
-        ensures told { MatchResult result
-            (λ present. AllFit Q.fits (condition_nodes ((problem_of Q.value ground.now).processes) self.old.line.now.state)
-            × (process_numbers present.items ≡ holding_of (problem_of Q.value ground.now) self.old.line.now.state))
-            (λ stop. ConditionStops Q.value Q.fits (condition_nodes ((problem_of Q.value ground.now).processes) self.old.line.now.state) stop) }
-        ensures same { self.new ≡ self.old }
-    {
-        match &self.processes {
-            Some(waiting) => match waiting.in_order(&mut self.numbers, &mut self.listed) {
-                Err(_) => Err(SettleStop::Memory),
-                Ok(()) => present_among(ground, self.timeline.state(), &self.listed, room),
-            },
-            None => holding(self.alloc, ground, self.timeline.state()),
-        }
-    }
-
-    // The running set of the present state. The processes that hold in it wait from now on.
-    fn settled(&mut self, ground: &Ground<Q>) -> Result<Running<Q>, SettleStop<Q>>
-        requires knows { Knows Q.fits (problem_of Q.value ground.now) self.old }
-        ensures told { SettleAnswers Q.value Q.fits (problem_of Q.value ground.now) self.old.line.now.state result }
-        ensures line { self.new.line ≡ self.old.line }
-        ensures kept { self.new.kept ≡ record (self.old.kept) { processes = self.new.kept.processes } }
-        ensures processes { (w : List ℕ) → self.new.kept.processes ≡ Some w →
-            MayHold Q.fits (problem_of Q.value ground.now) self.old.line.now.state w }
-    {
-        let Running { members, rates } = mem::replace(&mut self.room, no_room(self.alloc));
-        match self.present(ground, members) {
-            Err(stop) => Err(stop),
-            Ok(present) => {
-                let before = self.processes.take();
-                self.processes = Waiting::anew(self.alloc, before, &present).ok();
-                settle_among(
-                    self.alloc,
-                    ground,
-                    present,
-                    self.timeline.state(),
-                    &mut self.readers,
-                    rates,
-                )
-            }
-        }
-    }
-
-    // Goes on along the running set, to the next entry.
-    fn pass(&mut self, ground: &Ground<Q>, until: Q) -> Result<Next<Q>, Stop<Q>>
-        requires going { IsGoing self.old.line }
-        requires knows { Knows Q.fits (problem_of Q.value ground.now) self.old }
-        requires runs { self.old.line.now.running ≡ Some self.old.line.running }
-        requires room { self.old.line.entries < self.old.line.most }
-        requires later { self.old.line.now.time <ℚ Q.value until }
-        ensures told { AdvanceTold Q.value Q.fits (problem_of Q.value ground.now) (Q.value until)
-            self.old.line self.new.line result }
-        ensures line { OnErr result (self.new.line ≡ self.old.line) }
-        ensures kept { self.new.kept ≡ self.old.kept }
-    {
-        match self.readers.refresh(self.timeline.rates()) {
-            Err(_) => Err(Stop::Memory),
-            Ok(()) => self.timeline.pass_among(
-                ground,
-                until,
-                self.readers.events(),
-                self.readers.processes(),
-            ),
-        }
-    }
-
-    // Those that fired in the last round, and the readers of what it changed. None where memory is wanting.
-    // The list of events that wait lends its memory.
-    fn after_round(&mut self) -> Option<Vec<EventId>>
-        ensures kept { self.new ≡ record (self.old) { kept = record (self.old.kept) { events = None } } }
-        ensures woken { IfSome result (λ w. WokenBy self.old (self.old.line.events) (event_numbers w.items)) }
-    {
-        let room = emptied(self.alloc, self.events.take());
-        woken(
-            &self.readers.index().events,
-            self.timeline.changes(),
-            self.timeline.events(),
-            &mut self.numbers,
-            room,
-        )
-        .ok()
-    }
-
-    // The events that wait, and the readers of what the last step changed. None where memory is wanting,
-    // or where all wait.
-    #[inline(always)]
-    fn after_step(&mut self) -> Option<Vec<EventId>>
-        ensures kept { self.new ≡ record (self.old) { kept = record (self.old.kept) { events = None } } }
-        ensures woken { IfSome result (λ w. StillWoken self.old (event_numbers w.items)) }
-    {
-        match self.events.take() {
-            Some(first) => still_woken(
-                &self.readers.index().events,
-                self.timeline.changes(),
-                first,
-                &mut self.numbers,
-            )
-            .ok(),
-            None => None,
-        }
-    }
-
-    // Notes who waits after this part of the history.
-    #[inline(always)]
-    fn wake(&mut self, next: Next<Q>)
-        ensures kept { self.new ≡ record (self.old) {
-          kept = record (self.old.kept) {
-            events = self.new.kept.events;
-            processes = self.new.kept.processes;
-          };
-        } }
-        ensures events { (w : List ℕ) → self.new.kept.events ≡ Some w → EventsAfter next self.old w }
-        ensures processes { (w : List ℕ) → self.new.kept.processes ≡ Some w → ProcessesAfter next self.old w }
-    {
-        match next {
-            Next::Round => {
-                let events = self.after_round();
-                self.note(events);
-            }
-            Next::Entry { .. } => self.wake_by_step(),
-            Next::Run => self.none_waits(),
-            Next::There => self.none_waits(),
-        }
-    }
-
-    // Those wait besides that read what the last step changed.
-    #[inline(always)]
-    fn wake_by_step(&mut self)
-        ensures kept { self.new ≡ record (self.old) {
-          kept = record (self.old.kept) {
-            events = self.new.kept.events;
-            processes = self.new.kept.processes;
-          };
-        } }
-        ensures events { (w : List ℕ) → self.new.kept.events ≡ Some w → StillWoken self.old w }
-        ensures processes { (w : List ℕ) → self.new.kept.processes ≡ Some w → ProcessesWoken self.old w }
-    {
-        let events = self.after_step();
-        self.note(events);
-    }
-
-    // These events wait, and besides the processes that read what the last step changed.
-    #[inline(always)]
-    fn note(&mut self, events: Option<Vec<EventId>>)
-        ensures kept { self.new ≡ record (self.old) {
-          kept = record (self.old.kept) {
-            events = option_map (λ w. event_numbers w.items) events;
-            processes = self.new.kept.processes;
-          };
-        } }
-        ensures woken { (w : List ℕ) → self.new.kept.processes ≡ Some w → ProcessesWoken self.old w }
-    {
-        self.events = events;
-        let waiting = self.processes.take();
-        self.processes = still_waiting(
-            waiting,
-            &self.readers.index().processes,
-            self.timeline.changes(),
-        );
-    }
-
-    // No event waits.
-    fn none_waits(&mut self)
-        ensures { self.new ≡ record (self.old) { kept = record (self.old.kept) { events = Some [] } } }
-    {
-        let events = emptied(self.alloc, self.events.take());
-        self.events = Some(events);
     }
 }

@@ -9,6 +9,7 @@
 #![tactic(auto)]
 
 pub mod indexed;
+mod kept;
 mod settled;
 mod waiting;
 mod waking;

@@ -25,26 +25,25 @@ fn walk_stop<Q: Exact>(stop: WalkStop<Q>) -> SettleStop<Q>
     }
 }
 
-/// The processes whose condition holds, as `plus_settle::holding`, by a look at some of them. Of all
-/// others it is known that they do not hold and that what they ask passes. They stand in the memory of the
-/// list `room`, which is needed no more.
+/// Puts the processes whose condition holds, as `plus_settle::holding` tells them, in place of others, by a
+/// look at some of them. Of all others it is known that they do not hold and that what they ask passes.
 pub fn present_among<Q: Exact>(
     ground: &Ground<Q>,
     state: &State<Q>,
     looked_at: &[ProcessId],
-    room: Vec<ProcessId>,
-) -> Result<Vec<ProcessId>, SettleStop<Q>>
+    members: &mut Vec<ProcessId>,
+) -> Result<(), SettleStop<Q>>
     requires state { StateFits (length (ground.now.atoms.items)) (length (ground.now.fluents.items)) state.now }
     requires members { AreMembers (length (process_conditions (problem_of Q.value ground.now))) (process_numbers looked_at.now) }
     requires pass { OthersPass Q.fits (process_conditions (problem_of Q.value ground.now)) state.now (process_numbers looked_at.now) }
     requires silent { OthersFalse (process_conditions (problem_of Q.value ground.now)) state.now (process_numbers looked_at.now) }
     ensures { MatchResult result
-        (λ present. AllFit Q.fits (condition_nodes ((problem_of Q.value ground.now).processes) state.now)
-        × (process_numbers present.items ≡ holding_of (problem_of Q.value ground.now) state.now))
+        (λ _. AllFit Q.fits (condition_nodes ((problem_of Q.value ground.now).processes) state.now)
+        × (process_numbers members.new.items ≡ holding_of (problem_of Q.value ground.now) state.now))
         (λ stop. ConditionStops Q.value Q.fits (condition_nodes ((problem_of Q.value ground.now).processes) state.now) stop) }
 {
-    match holding_in(ground, state, looked_at, room) {
-        Ok(present) => Ok(present),
+    match holding_in(ground, state, looked_at, members) {
+        Ok(()) => Ok(()),
         Err(stop) => Err(walk_stop(stop)),
     }
 }

@@ -336,7 +336,7 @@ impl<Q: Exact> EntryStates<Q> {
         })
     }
 
-    /// Makes a step within the entry.
+    /// Makes a step within the entry. Its memory is kept for another one.
     #[inline(always)]
     pub fn step(&mut self, mut changes: Changes<Q>) -> Result<(), AllocError>
         requires { RisesIn self.old.state changes }
@@ -346,12 +346,26 @@ impl<Q: Exact> EntryStates<Q> {
         }) }
         ensures err { OnErr result (self.new ≡ self.old) }
     {
-        let most = self.most();
-        note(&mut self.undo, self.trail.state(), &changes)?;
-        self.past = noted(self.past.take(), &changes, most)?;
-        self.ahead.patch(&changes);
-        self.trail.step(&mut changes);
+        self.step_with(&mut changes)?;
         self.spare = changes;
+        Ok(())
+    }
+
+    /// The same, with what is lent. In exchange it gets memory that is needed no more.
+    #[inline(always)]
+    pub fn step_with(&mut self, changes: &mut Changes<Q>) -> Result<(), AllocError>
+        requires { RisesIn self.old.state changes.old }
+        ensures ok { OnOk result (self.new ≡ record self.old {
+          state = patched self.old.state changes.old;
+          before = self.old.state;
+        }) }
+        ensures err { OnErr result (self.new ≡ self.old) }
+    {
+        let most = self.most();
+        note(&mut self.undo, self.trail.state(), changes)?;
+        self.past = noted(self.past.take(), changes, most)?;
+        self.ahead.patch(changes);
+        self.trail.step(changes);
         Ok(())
     }
 

@@ -16,6 +16,7 @@ ghost use Rattle.plus_timeline.specs.EntryStates.{IsReached};
 ghost use Rattle.plus_stretch.specs.Arrives.{arrived_at, StretchTold};
 ghost use Rattle.plus_timeline.specs.Timeline.{TimelineView, begun, has_literal, next_of, event_numbers, process_numbers};
 ghost use Rattle.plus_timeline.specs.Asked.{round_tests};
+ghost use Rattle.plus_cascade.specs.Rounds.{if_due};
 ghost use Rattle.plus_timeline.specs.Due.{DueTold};
 ghost use Rattle.plus_timeline.specs.Stops.{IsGoing};
 ghost use Rattle.plus_timeline.specs.Act.{ActTold};
@@ -477,9 +478,9 @@ impl<Q: Exact> Timeline<Q> {
         }
         match self.due(ground) {
             Err(stop) => Err(cascade_stop(stop)),
-            Ok(Some(round)) => match self.put_round(round) {
+            Ok(Some(mut round)) => match self.put_round(&mut round) {
                 Err(_) => Err(Stop::Memory),
-                Ok(_spare) => Ok(Next::Round),
+                Ok(()) => Ok(Next::Round),
             },
             Ok(None) => self.rest(ground, until),
         }
@@ -494,21 +495,21 @@ impl<Q: Exact> Timeline<Q> {
         round_changes(self.alloc, &self.cascade, ground, self.state())
     }
 
-    /// A step of `advance`: the round that is due, by a look at some of the events, in ground order. Of
-    /// all others it is known that they do not hold and that what they ask passes. It uses the memory of a
-    /// round that is needed no more: whatever it is, the answer is the same.
+    /// A step of `advance`: whether a round is due, by a look at some of the events, in ground order. Of
+    /// all others it is known that they do not hold and that what they ask passes. The round that is due
+    /// stands in what was lent then, in place of another one.
     pub fn due_among(
         &self,
         ground: &Ground<Q>,
         looked_at: &[EventId],
-        spare: &mut DueRound<Q>,
-    ) -> Result<Option<DueRound<Q>>, CascadeStop<Q>>
+        round: &mut DueRound<Q>,
+    ) -> Result<bool, CascadeStop<Q>>
         requires serves { Serves (problem_of Q.value ground.now) self.now }
         requires members { AreMembers (length (ground.now.events.items)) (event_numbers looked_at.now) }
         requires pass { OthersPass Q.fits (event_conditions (problem_of Q.value ground.now)) self.now.now.state (event_numbers looked_at.now) }
         requires silent { OthersFalse (event_conditions (problem_of Q.value ground.now)) self.now.now.state (event_numbers looked_at.now) }
-        ensures told { DueTold Q.value Q.fits (problem_of Q.value ground.now) self.now.now.fired self.now.now.state result }
-        ensures rises { IfOk result (λ o. IfSome o (λ r. RisesIn self.now.now.state r.changes)) }
+        ensures told { DueTold Q.value Q.fits (problem_of Q.value ground.now) self.now.now.fired self.now.now.state (if_due round.new result) }
+        ensures rises { IfOk (if_due round.new result) (λ o. IfSome o (λ r. RisesIn self.now.now.state r.changes)) }
     {
         round_changes_among(
             self.alloc,
@@ -516,39 +517,34 @@ impl<Q: Exact> Timeline<Q> {
             ground,
             self.state(),
             looked_at,
-            spare,
+            round,
         )
     }
 
-    /// A step of `advance`: all events of the round that is due fire. The answer is memory of a round that
-    /// is needed no more, whatever stands in it.
+    /// A step of `advance`: all events of the round that is due fire. What was lent is memory then that is
+    /// needed no more, whatever stands in it.
     #[inline(always)]
-    pub fn put_round(&mut self, round: DueRound<Q>) -> Result<DueRound<Q>, AllocError>
-        requires events { All (λ e. e < self.old.event_count) (event_numbers round.events.items) }
-        requires rises { RisesIn self.old.now.state round.changes }
+    pub fn put_round(&mut self, round: &mut DueRound<Q>) -> Result<(), AllocError>
+        requires events { All (λ e. e < self.old.event_count) (event_numbers round.old.events.items) }
+        requires rises { RisesIn self.old.now.state round.old.changes }
         ensures ok { OnOk result (self.new ≡ record (self.old) {
           now = view_after (self.old.now)
-              (Rounds (event_numbers round.events.items) (patched self.old.now.state round.changes));
+              (Rounds (event_numbers round.old.events.items) (patched self.old.now.state round.old.changes));
           before = self.old.now.state;
-          events = event_numbers round.events.items;
+          events = event_numbers round.old.events.items;
           answer = Some Next.Round;
           acted = false;
         }) }
         ensures err { OnErr result (self.new ≡ self.old) }
     {
-        let DueRound { events, changes } = round;
-        self.fired.reserve(events.len())?;
-        let spare = self.states.take_spare(self.alloc);
-        self.states.step(changes)?;
-        self.fired.extend_from_slice(&events)?;
-        self.cascade.add(&events);
-        let events = mem::replace(&mut self.events, events);
+        self.fired.reserve(round.events.len())?;
+        self.states.step_with(&mut round.changes)?;
+        self.fired.extend_from_slice(&round.events)?;
+        self.cascade.add(&round.events);
+        mem::swap(&mut self.events, &mut round.events);
         self.answer = Some(Next::Round);
         self.acted = false;
-        Ok(DueRound {
-            events,
-            changes: spare,
-        })
+        Ok(())
     }
 
     /// A step of `advance` where no event holds: whether the entry is to be closed, or else the time is
@@ -594,29 +590,29 @@ impl<Q: Exact> Timeline<Q> {
             }
             Ok(true) => match settle(self.alloc(), ground, self.state()) {
                 Err(stop) => Err(settle_stop(stop)),
-                Ok(running) => {
-                    self.run(running);
+                Ok(mut running) => {
+                    self.run(&mut running);
                     Ok(Next::Run)
                 }
             },
         }
     }
 
-    /// A step of `advance` where the entry is to be closed: this set runs from now on. Answers the set that
-    /// ran before, for its memory.
-    pub fn run(&mut self, running: Running<Q>) -> Running<Q>
+    /// A step of `advance` where the entry is to be closed: this set runs from now on. In exchange the one
+    /// that ran before is lent back, for its memory.
+    pub fn run(&mut self, running: &mut Running<Q>)
         requires { self.old.entries < self.old.most }
         ensures { self.new ≡ record (self.old) {
-          now = view_after (self.old.now) (Runs (process_numbers running.members.items));
-          running = process_numbers running.members.items;
-          rates = running.rates;
+          now = view_after (self.old.now) (Runs (process_numbers running.old.members.items));
+          running = process_numbers running.old.members.items;
+          rates = running.old.rates;
           answer = Some Next.Run;
           acted = false;
         } }
     {
         self.answer = Some(Next::Run);
         self.acted = false;
-        mem::replace(&mut self.running, running)
+        mem::swap(&mut self.running, running);
     }
 
     /// A step of `advance`: goes on along the running set, to the next entry.

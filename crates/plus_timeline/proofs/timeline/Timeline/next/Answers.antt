@@ -29,8 +29,8 @@ put_round-requires-clause-events g c =
 pub put_round-requires-clause-rises : goal.put_round-requires-clause-rises
 put_round-requires-clause-rises g c = rw c.in-Ok-Some.field-0-is at c.in-Ok-Some.ensures.rises
 
-pub returns-in-Ok-clause-told : goal.returns-in-Ok-clause-told
-returns-in-Ok-clause-told g c =
+pub returns-in-Ok-Some-clause-told : goal.returns-in-Ok-Some-clause-told
+returns-in-Ok-Some-clause-told g c =
     fires g.Q.Exact.value g.Q.Exact.fits (problem_of g.Q.Exact.value c.args.ground.now) (g.Q.Exact.value c.args.until) c.args.self.now c.requires.going c.put_round.new.self
     (c.if-is_running.ensures.rests refl) c.in-Ok-Some.round (rw c.in-Ok-Some.field-0-is at c.in-Ok-Some.ensures.told) c.in-Ok.ensures.ok
 

@@ -9,18 +9,15 @@ use Rattle.plus_settle.specs.Settles.{SettleAnswers, condition_nodes}
 use Rattle.plus_settle.proofs.SettlesLemmas.{holding_stop}
 use Rattle.plus_indexed.specs.Indexed.{IndexedView}
 use Rattle.plus_indexed.proofs.Present.{those_hold, kept_present}
-use Rattle.plus_indexed.proofs.indexed.Indexed.settled.Goals as goal
+use Rattle.plus_indexed.proofs.kept.Kept.settled.Goals as goal
 
 pub returns-in-Err-clause-told : goal.returns-in-Err-clause-told
-returns-in-Err-clause-told g c =
-    let P = problem_of g.Q.Exact.value c.args.ground.now in
-    subst (λ (s : State). SettleAnswers g.Q.Exact.value g.Q.Exact.fits P s (Err c.in-Err.stop)) (ap (λ (v : IndexedView). v.line.now.state) c.self.view_is)
-    (holding_stop g.Q.Exact.value _ P _ c.in-Err.stop c.in-Err.ensures.told)
+returns-in-Err-clause-told g c = holding_stop g.Q.Exact.value _ (problem_of g.Q.Exact.value c.args.ground.now) _ c.in-Err.stop c.in-Err.ensures.told
 
 pub returns-in-Ok-clause-processes : goal.returns-in-Ok-clause-processes
 returns-in-Ok-clause-processes g c =
     let P = problem_of g.Q.Exact.value c.args.ground.now in
-    let s = c.args.self.now.line.now.state in
-    let told = subst (λ (x : State). AllFit g.Q.Exact.fits (condition_nodes P.processes x) × (process_numbers c.in-Ok.present.items ≡ holding P x)) (ap (λ (v : IndexedView). v.line.now.state) c.self.view_is) c.in-Ok.ensures.told in
-    kept_present g.Q.Exact.fits P s c.anew.result c.ok.result c.deref.result.now c.in-Ok.present.items c.ok.ensures.value c.anew.ensures c.deref.ensures.value
+    let s = c.args.timeline.now.now.state in
+    let told = c.in-Ok.ensures.told in
+    kept_present g.Q.Exact.fits P s c.anew.result c.ok.result c.deref.result.now c.present.new.members.items c.ok.ensures.value c.anew.ensures c.deref.ensures.value
     (those_hold g.Q.Exact.fits P s _ told.0 told.1)

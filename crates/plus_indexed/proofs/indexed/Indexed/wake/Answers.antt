@@ -1,5 +1,0 @@
-use Rattle.plus_indexed.proofs.Knowing.{woken_before}
-use Rattle.plus_indexed.proofs.indexed.Indexed.wake.Goals as goal
-
-pub returns-in-Round-clause-processes : goal.returns-in-Round-clause-processes
-returns-in-Round-clause-processes g c = λ w h. rw c.in-Round.is (woken_before c.args.self.now _ c.after_round-events.ensures.kept w (c.note.ensures.woken w h))

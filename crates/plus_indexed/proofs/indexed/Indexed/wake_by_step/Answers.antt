@@ -1,5 +1,0 @@
-use Rattle.plus_indexed.proofs.Knowing.{woken_before}
-use Rattle.plus_indexed.proofs.indexed.Indexed.wake_by_step.Goals as goal
-
-pub returns-clause-processes : goal.returns-clause-processes
-returns-clause-processes g c = λ w h. woken_before _ _ c.after_step-events.ensures.kept w (c.note.ensures.woken w h)
