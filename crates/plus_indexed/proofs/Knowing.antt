@@ -9,7 +9,6 @@ use Rattle.std.specs.declared.alloc.Global.{Global}
 use Rattle.plus_state.specs.declared.term.EventId.{EventId}
 use Rattle.plus_model.specs.History.{view_after, Round as Rounds}
 use Rattle.plus_cascade.specs.declared.rounds.DueRound.{DueRound}
-use Rattle.plus_timeline.specs.declared.stop.Stop.{Stop}
 use Rattle.plus_timeline.specs.Due.{DueTold}
 use Rattle.plus_timeline.proofs.Advancing.{fires}
 use Rattle.plus_fraction.specs.Fraction.{Fraction}

@@ -1,23 +1,18 @@
 //! A timeline, and what is kept between its calls.
-ghost use Rattle.std.specs.Prelude.{◌≡◌, ◌≤◌, ◌<◌, [], ℕ, true, false, List, Option, Some, None, option_map, IfOk, IfSome, OnOk, OnErr, MatchResult};
-ghost use Rattle.plus_fraction.specs.Fraction.{◌<ℚ◌, ◌≤ℚ◌};
+ghost use Rattle.std.specs.Prelude.{◌≡◌, ◌≤◌, ◌<◌, [], ℕ, true, false, List, Some, None, IfOk, OnOk, OnErr};
+ghost use Rattle.plus_fraction.specs.Fraction.{◌≤ℚ◌};
 ghost use Rattle.plus_model.specs.Firing.{firing};
-ghost use Rattle.plus_model.specs.Running.{holding as holding_of};
-ghost use Rattle.plus_state.specs.Asked.{AllFit};
 ghost use Rattle.plus_state.specs.View.{problem_of, action_of};
-ghost use Rattle.plus_state.specs.Changes.{LeadsTo, RisesIn};
+ghost use Rattle.plus_state.specs.Changes.{LeadsTo};
 ghost use Rattle.plus_state.specs.Fits.{StateFits, ActionFits};
-ghost use Rattle.plus_settle.specs.Settles.{condition_nodes, ConditionStops, SettleAnswers};
 ghost use Rattle.plus_stretch.specs.Tests.{AllPass};
 ghost use Rattle.plus_timeline.specs.Asked.{round_tests};
 ghost use Rattle.plus_timeline.specs.Timeline.{begun, event_numbers, process_numbers};
-ghost use Rattle.plus_timeline.specs.Due.{DueTold};
 ghost use Rattle.plus_timeline.specs.Stops.{IsGoing};
 ghost use Rattle.plus_timeline.specs.Act.{ActTold};
 ghost use Rattle.plus_timeline.specs.Finish.{IsPaused, FinishTold, TakesNoMemory};
 ghost use Rattle.plus_timeline.specs.Advance.{IsAhead, AdvanceTold};
 ghost use Rattle.plus_indexed.specs.Knows.{MayHold, Knows};
-ghost use Rattle.plus_indexed.specs.Waking.{WokenBy, StillWoken, EventsAfter, ProcessesWoken, ProcessesAfter};
 
 use crate::kept::Kept;
 use plus_cascade::DueRound;

@@ -1,5 +1,5 @@
 //! A timeline: a history that is played one part at a time, and of which only the view is kept.
-ghost use Rattle.std.specs.Prelude.{◌≡◌, ◌≤◌, ◌<◌, ◌↔◌, IsTrue, ℕ, suc, Bool, true, false, Option, Some, None, Ok, Err, List, [], length, map, option_map, All, IfOk, IfErr, IfSome, MatchBool, OnOk, OnErr};
+ghost use Rattle.std.specs.Prelude.{◌≡◌, ◌≤◌, ◌<◌, ◌↔◌, IsTrue, true, false, Option, Some, None, Ok, Err, [], length, option_map, All, IfOk, IfErr, IfSome, MatchBool, OnOk, OnErr};
 ghost use Rattle.plus_fraction.specs.Fraction.{◌<ℚ◌, ◌≤ℚ◌};
 ghost use Rattle.plus_model.specs.Firing.{firing};
 ghost use Rattle.plus_model.specs.History.{view_after, Act, Run as Runs, Round as Rounds};

@@ -1,7 +1,6 @@
-use Rattle.std.proofs.Common.{◌≡◌, ◌<◌, length, ap, refl, sym, subst, ◌∙◌}
-use Rattle.std.specs.Prelude.{Ok, Err, None, Some, All}
+use Rattle.std.proofs.Common.{◌≡◌, length, ap, refl, sym, subst}
+use Rattle.std.specs.Prelude.{Ok, Err, None, Some}
 use Rattle.plus_state.specs.View.{problem_of}
-use Rattle.plus_state.specs.Numbers.{event_numbers}
 use Rattle.plus_timeline.specs.declared.stop.Stop.{Stop}
 use Rattle.plus_timeline.specs.Timeline.{TimelineView}
 use Rattle.plus_timeline.specs.Advance.{AdvanceTold, IsAhead}

@@ -1,4 +1,4 @@
-use Rattle.std.proofs.Common.{ap, sym, subst, ◌∙◌}
+use Rattle.std.proofs.Common.{ap, sym, subst}
 use Rattle.std.specs.Prelude.{Err, Ok}
 use Rattle.plus_state.specs.View.{problem_of}
 use Rattle.plus_timeline.specs.declared.stop.Stop.{Stop}

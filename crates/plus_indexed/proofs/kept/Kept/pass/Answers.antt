@@ -1,9 +1,8 @@
-use Rattle.std.proofs.Common.{ℕ, length, ap, sym, subst, ◌∙◌}
+use Rattle.std.proofs.Common.{ℕ, length, ap, subst, ◌∙◌}
 use Rattle.plus_state.specs.Numbers.{AreMembers, event_numbers, process_numbers}
 use Rattle.plus_state.specs.View.{problem_of}
-use Rattle.plus_state.specs.Walk.{event_conditions, process_conditions, OthersFalse}
+use Rattle.plus_state.specs.Walk.{event_conditions, process_conditions}
 use Rattle.plus_crossing.specs.Rated.{moving_of}
-use Rattle.plus_still.specs.Others.{OthersStill}
 use Rattle.plus_cascade.proofs.FiringLemmas.{all_conditions}
 use Rattle.plus_settle.proofs.MovingLemmas.{events_now, processes_now}
 use Rattle.plus_indexed.specs.Indexed.{Kept}

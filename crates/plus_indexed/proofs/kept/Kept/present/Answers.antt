@@ -1,6 +1,5 @@
-use Rattle.std.proofs.Common.{◌≡◌, List, length, ap, sym, subst, ◌∙◌}
-use Rattle.std.specs.Prelude.{MatchResult, Vec}
-use Rattle.std.specs.declared.alloc.Global.{Global}
+use Rattle.std.proofs.Common.{◌≡◌, List, length, sym, subst}
+use Rattle.std.specs.Prelude.{MatchResult}
 use Rattle.plus_model.specs.Terms.{State}
 use Rattle.plus_model.specs.Running.{holding}
 use Rattle.plus_state.specs.Asked.{AllFit}

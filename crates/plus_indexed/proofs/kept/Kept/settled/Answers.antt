@@ -1,13 +1,5 @@
-use Rattle.std.proofs.Common.{◌≡◌, ap, subst}
-use Rattle.std.specs.Prelude.{Err}
-use Rattle.plus_model.specs.Terms.{State}
-use Rattle.plus_model.specs.Running.{holding}
-use Rattle.plus_state.specs.Asked.{AllFit}
-use Rattle.plus_state.specs.Numbers.{process_numbers}
 use Rattle.plus_state.specs.View.{problem_of}
-use Rattle.plus_settle.specs.Settles.{SettleAnswers, condition_nodes}
 use Rattle.plus_settle.proofs.SettlesLemmas.{holding_stop}
-use Rattle.plus_indexed.specs.Indexed.{IndexedView}
 use Rattle.plus_indexed.proofs.Present.{those_hold, kept_present}
 use Rattle.plus_indexed.proofs.kept.Kept.settled.Goals as goal
 

@@ -1,7 +1,7 @@
 use Rattle.std.proofs.Common.{length, refl, ap, sym, subst, ◌∙◌}
-use Rattle.std.specs.Prelude.{Option, Some, IfSome, option_map}
+use Rattle.std.specs.Prelude.{Option, option_map}
 use Rattle.plus_model.specs.Terms.{State}
-use Rattle.plus_state.specs.Changes.{Changes, TrailView, RisesIn, Within, patched}
+use Rattle.plus_state.specs.Changes.{Changes, RisesIn, Within, patched}
 use Rattle.plus_timeline.specs.EntryStates.{EntryView, IsReached, KeepsEntry}
 use Rattle.plus_timeline.specs.Undo.{Notes, root_at}
 use Rattle.plus_timeline.proofs.Noting.{taken_leads, kept_noted, view_noted, step_of, step_in, ahead_in, view_entered, ahead_entered, kept_entered, on_err}

@@ -1,4 +1,4 @@
-use Rattle.std.proofs.Common.{◌≡◌, ◌∙◌, ap, sym, subst}
+use Rattle.std.proofs.Common.{◌≡◌, ◌∙◌, ap, subst}
 use Rattle.plus_model.specs.Terms.{State}
 use Rattle.plus_timeline.specs.EntryStates.{EntryView}
 use Rattle.plus_state.specs.View.{problem_of}
