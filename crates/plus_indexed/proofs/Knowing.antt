@@ -2,9 +2,7 @@
 use Rattle.std.proofs.Common.{◌≡◌, ℕ, ◌<◌, false, List, [], refl, ap, sym, subst, ◌∙◌, length}
 use Rattle.std.proofs.lemmas.List.{length-map}
 use Rattle.std.proofs.lemmas.List.Elements.{All-nil}
-use Rattle.std.specs.Prelude.{Option, Some, None, Result, Ok, Err, IfSome, IfOk, IsSomeAnd, option_map, Vec}
-use Rattle.std.specs.Result.{result_ok}
-use Rattle.std.specs.declared.alloc.AllocError.{AllocError}
+use Rattle.std.specs.Prelude.{Option, Some, None, Ok, IfSome, IsSomeAnd, option_map, Vec}
 use Rattle.std.specs.declared.alloc.Global.{Global}
 use Rattle.plus_state.specs.declared.term.EventId.{EventId}
 use Rattle.plus_model.specs.History.{view_after, Round as Rounds}
@@ -43,7 +41,7 @@ use Rattle.plus_timeline.specs.Advance.{AdvanceTold}
 use Rattle.plus_timeline.proofs.Serving.{begun_serves, advance_serves, act_serves}
 use Rattle.plus_indexed.specs.Indexed.{IndexedView, Kept}
 use Rattle.plus_indexed.specs.Woken.{AreWoken, AddsReaders}
-use Rattle.plus_indexed.specs.Waking.{StillWoken, EventsAfter, ProcessesWoken, ProcessesAfter}
+use Rattle.plus_indexed.specs.Waking.{WokenBy, StillWoken, EventsAfter, ProcessesWoken, ProcessesAfter}
 use Rattle.plus_indexed.specs.Knows.{Wait, MayHold, IsAtRest, Knows}
 use Rattle.plus_indexed.proofs.Quieting.{moment_quiet, closing_rests}
 use Rattle.plus_indexed.proofs.Present.{may_hold_after}
@@ -183,16 +181,20 @@ of_numbers R (Some w) h ns e = let k : event_numbers w.items ≡ ns = cc in subs
 pub wait_at : (fits : Fraction → Type 0) (P : Problem) (line : TimelineView) (i : Index) (o : Option (Vec EventId Global)) (ps : Option (List ℕ)) (es : Vec EventId Global) (xs : List EventId) → Knows fits P (record { line = line; kept = record { index = i; events = numbers o; processes = ps } }) → o ≡ Some es → xs ≡ es.items → Wait fits P line.now.state (event_numbers xs)
 wait_at fits P line i o ps es xs k e f = k.events (event_numbers xs) (ap numbers e ∙ ap (λ (ys : List EventId). Some (event_numbers ys)) (sym f))
 
-pub still_by : (line : TimelineView) (i j : Index) (o : Option (Vec EventId Global)) (ps : Option (List ℕ)) (es : Vec EventId Global) (xs : List EventId) (c : Changes) (r : Result (Vec EventId Global) AllocError) (got : Option (Vec EventId Global)) → o ≡ Some es → xs ≡ es.items → j ≡ i → LeadsTo line.before c line.now.state → IfOk r (λ events. AreWoken j.events c (event_numbers xs) (event_numbers events.items)) → got ≡ result_ok r → IfSome got (λ w. StillWoken (record { line = line; kept = record { index = i; events = numbers o; processes = ps } }) (event_numbers w.items))
-still_by line i j o ps es xs c (Ok events) got e f g l h k =
-    subst (λ (x : Option (Vec EventId Global)). IfSome x (λ w. StillWoken (record { line = line; kept = record { index = i; events = numbers o; processes = ps } }) (event_numbers w.items))) (sym k)
-    (record {
-      before = event_numbers xs;
-      waited = ap numbers e ∙ ap (λ (ys : List EventId). Some (event_numbers ys)) (sym f);
-      by = record { changes = c; leads = l; woken = subst (λ (x : Index). AreWoken x.events c (event_numbers xs) (event_numbers events.items)) g h };
-    })
-still_by line i j o ps es xs c (Err x) got e f g l h k =
-    subst (λ (x : Option (Vec EventId Global)). IfSome x (λ w. StillWoken (record { line = line; kept = record { index = i; events = numbers o; processes = ps } }) (event_numbers w.items))) (sym k) tt
+pub woken_so : (line : TimelineView) (kept : Kept) (i j : Index) (o : Option (Vec EventId Global)) (c : Changes) (first : List ℕ) → i ≡ kept.index → j ≡ i → LeadsTo line.before c line.now.state → IfSome o (λ w. AreWoken j.events c first (event_numbers w.items)) → (w : List ℕ) → numbers o ≡ Some w → WokenBy (record { line = line; kept = kept }) first w
+woken_so line kept i j None c first m e l h w k = absurd (none_some w k)
+woken_so line kept i j (Some v) c first m e l h w k =
+    let q : event_numbers v.items ≡ w = cc in
+    record { changes = c; leads = l; woken = subst (λ (x : Index). AreWoken x.events c first w) (e ∙ m) (subst (λ (ws : List ℕ). AreWoken j.events c first ws) q h) }
+
+pub still_so : (line : TimelineView) (kept : Kept) (i j : Index) (old new : Option (Vec EventId Global)) (c : Changes) → i ≡ kept.index → numbers old ≡ kept.events → j ≡ i → LeadsTo line.before c line.now.state → IfSome new (λ a. IsSomeAnd old (λ b. AreWoken j.events c (event_numbers b.items) (event_numbers a.items))) → (w : List ℕ) → numbers new ≡ Some w → StillWoken (record { line = line; kept = kept }) w
+still_so line kept i j old None c m n e l h w k = absurd (none_some w k)
+still_so line kept i j None (Some v) c m n e l h w k = absurd h
+still_so line kept i j (Some b) (Some v) c m n e l h w k = record {
+  before = event_numbers b.items;
+  waited = sym n;
+  by = woken_so line kept i j (Some v) c (event_numbers b.items) m e l h w k;
+}
 
 pub fires_as : {Q : Type 0} (value : Q → Fraction) (fits : Fraction → Type 0) (P : Problem) (u : Fraction) (T L new : TimelineView) → T ≡ L → L.ended ≡ false → T.now.running ≡ None → (r : DueRound Q) → DueTold value fits P L.now.fired L.now.state (Ok (Some r)) → new ≡ record T { now = view_after T.now (Rounds (event_numbers r.events.items) (patched T.now.state r.changes)); before = T.now.state; events = event_numbers r.events.items; answer = Some Round; acted = false } → AdvanceTold value fits P u L new (Ok Round)
 fires_as value fits P u T L new e g m r d n =
@@ -228,7 +230,7 @@ woken_by v (Some b) (Some a) t c p q l h w e =
     }
 
 -- the processes that wait do not hang on the events that do
-pub woken_before : (line : TimelineView) (k u : Kept) → u ≡ record k { events = None } → (w : List ℕ) → ProcessesWoken (record { line = line; kept = u }) w → ProcessesWoken (record { line = line; kept = k }) w
-woken_before line k u e w h =
-    let x : ProcessesWoken (record { line = line; kept = record k { events = None } }) w = subst (λ (y : Kept). ProcessesWoken (record { line = line; kept = y }) w) e h in
+pub woken_before : (line : TimelineView) (k u : Kept) (e : Option (List ℕ)) → u ≡ record k { events = e } → (w : List ℕ) → ProcessesWoken (record { line = line; kept = u }) w → ProcessesWoken (record { line = line; kept = k }) w
+woken_before line k u e i w h =
+    let x : ProcessesWoken (record { line = line; kept = record k { events = e } }) w = subst (λ (y : Kept). ProcessesWoken (record { line = line; kept = y }) w) i h in
     record { before = x.before; were = x.were; changes = x.changes; leads = x.leads; woken = x.woken }

@@ -1,9 +1,7 @@
 -- The processes that hold, and those that may hold after a step.
 use Rattle.std.proofs.Common.{◌≡◌, ℕ, zero, suc, ◌+◌, ◌<◌, true, false, List, [], ◌∷◌, length, get_or, ap, sym, subst, ◌∙◌, inl, inr, arith}
 use Rattle.std.proofs.lemmas.List.{length-map}
-use Rattle.std.specs.Prelude.{Option, Some, None, Result, Ok, Err, IfOk, slice_get, All, ◌↔◌}
-use Rattle.std.specs.Result.{result_ok}
-use Rattle.std.specs.declared.alloc.AllocError.{AllocError}
+use Rattle.std.specs.Prelude.{Option, Some, None, slice_get, All, ◌↔◌, IfSome}
 use Rattle.plus_fraction.specs.Fraction.{Fraction}
 use Rattle.plus_model.specs.Terms.{Condition, Process, State, Problem}
 use Rattle.plus_model.specs.Value.{holds}
@@ -114,11 +112,8 @@ adds_as t c before all after a same = record {
 }
 
 -- those that hold are kept, where there is memory for them
-pub kept_present : (fits : Fraction → Type 0) (P : Problem) (s : State) (r : Result (List ℕ) AllocError) (o : Option (List ℕ)) (xs ys : List ProcessId) → o ≡ result_ok r → IfOk r (λ w. w ≡ process_numbers xs) → xs ≡ ys → MayHold fits P s (process_numbers ys) → (w : List ℕ) → o ≡ Some w → MayHold fits P s w
-kept_present fits P s (Ok v) o xs ys k h e m w f =
+pub kept_present : (fits : Fraction → Type 0) (P : Problem) (s : State) (o : Option (List ℕ)) (xs ys : List ProcessId) → IfSome o (λ w. w ≡ process_numbers xs) → xs ≡ ys → MayHold fits P s (process_numbers ys) → (w : List ℕ) → o ≡ Some w → MayHold fits P s w
+kept_present fits P s None xs ys h e m w f = cc
+kept_present fits P s (Some v) xs ys h e m w f =
     let q : v ≡ w = cc in
     subst (MayHold fits P s) (ap process_numbers (sym e) ∙ sym h ∙ q) m
-kept_present fits P s (Err x) o xs ys k h e m w f = absurd (none_is o w k f)
-  where
-    none_is : (o : Option (List ℕ)) (w : List ℕ) → o ≡ None → o ≡ Some w → ⊥
-    none_is o w k f = cc

@@ -16,8 +16,8 @@ ghost use Rattle.plus_indexed.specs.Knows.{MayHold, Knows};
 ghost use Rattle.plus_indexed.specs.Waking.{WokenBy, StillWoken, EventsAfter, ProcessesWoken, ProcessesAfter};
 
 use crate::settled::present_among;
-use crate::waiting::{Waiting, still_waiting};
-use crate::waking::{emptied, still_woken, woken};
+use crate::waiting::{Waiting, put_waiting, still_waiting};
+use crate::waking::{none_woken, put_woken, still_woken};
 use plus_cascade::{CascadeStop, DueRound};
 use plus_number::exact::Exact;
 use plus_reads::Index;
@@ -201,8 +201,7 @@ impl Kept {
         match self.present(ground, timeline, &mut running.members) {
             Err(stop) => Err(stop),
             Ok(()) => {
-                let before = self.processes.take();
-                self.processes = Waiting::anew(self.alloc, before, &running.members).ok();
+                put_waiting(self.alloc, &running.members, &mut self.processes);
                 settle_among(
                     self.alloc,
                     ground,
@@ -242,43 +241,56 @@ impl Kept {
         }
     }
 
-    // Those that fired in the last round, and the readers of what it changed. None where memory is wanting.
-    // The list of events that wait lends its memory.
-    fn after_round<Q: Exact>(&mut self, timeline: &Timeline<Q>) -> Option<Vec<EventId>>
-        ensures kept { self.new ≡ record (self.old) { events = None } }
-        ensures woken { IfSome result (λ w. WokenBy (record { line = timeline.now; kept = self.old }) timeline.now.events (event_numbers w.items)) }
+    // Those events wait that fired in the last round, and the readers of what it changed.
+    fn wake_by_round<Q: Exact>(&mut self, timeline: &Timeline<Q>)
+        ensures kept { self.new ≡ record (self.old) { events = self.new.events } }
+        ensures woken { (w : List ℕ) → self.new.events ≡ Some w → WokenBy (record { line = timeline.now; kept = self.old }) timeline.now.events w }
     {
-        let room = emptied(self.alloc, self.events.take());
-        woken(
+        put_woken(
+            self.alloc,
             &self.readers.index().events,
             timeline.changes(),
             timeline.events(),
             &mut self.numbers,
-            room,
-        )
-        .ok()
+            &mut self.events,
+        );
     }
 
-    // The events that wait, and the readers of what the last step changed. None where memory is wanting,
-    // or where all wait.
+    // Those events wait besides that read what the last step changed.
     #[inline(always)]
-    fn after_step<Q: Exact>(&mut self, timeline: &Timeline<Q>) -> Option<Vec<EventId>>
-        ensures kept { self.new ≡ record (self.old) { events = None } }
-        ensures woken { IfSome result (λ w. StillWoken (record { line = timeline.now; kept = self.old }) (event_numbers w.items)) }
+    fn wake_events<Q: Exact>(&mut self, timeline: &Timeline<Q>)
+        ensures kept { self.new ≡ record (self.old) { events = self.new.events } }
+        ensures woken { (w : List ℕ) → self.new.events ≡ Some w → StillWoken (record { line = timeline.now; kept = self.old }) w }
     {
-        match self.events.take() {
-            Some(first) => still_woken(
-                &self.readers.index().events,
-                timeline.changes(),
-                first,
-                &mut self.numbers,
-            )
-            .ok(),
-            None => None,
-        }
+        still_woken(
+            &self.readers.index().events,
+            timeline.changes(),
+            &mut self.numbers,
+            &mut self.events,
+        );
     }
 
-    // Notes who waits after this part of the history.
+    // Those processes wait besides that read what the last step changed.
+    #[inline(always)]
+    fn wake_processes<Q: Exact>(&mut self, timeline: &Timeline<Q>)
+        ensures kept { self.new ≡ record (self.old) { processes = self.new.processes } }
+        ensures woken { (w : List ℕ) → self.new.processes ≡ Some w → ProcessesWoken (record { line = timeline.now; kept = self.old }) w }
+    {
+        still_waiting(
+            &self.readers.index().processes,
+            timeline.changes(),
+            &mut self.processes,
+        );
+    }
+
+    // No event waits.
+    fn none_waits(&mut self)
+        ensures { self.new ≡ record (self.old) { events = Some [] } }
+    {
+        none_woken(self.alloc, &mut self.events);
+    }
+
+    /// Notes who waits after this part of the history.
     #[inline(always)]
     pub fn wake<Q: Exact>(&mut self, timeline: &Timeline<Q>, next: Next<Q>)
         ensures kept { self.new ≡ record (self.old) {
@@ -290,8 +302,8 @@ impl Kept {
     {
         match next {
             Next::Round => {
-                let events = self.after_round(timeline);
-                self.note(timeline, events);
+                self.wake_by_round(timeline);
+                self.wake_processes(timeline);
             }
             Next::Entry { .. } => self.wake_by_step(timeline),
             Next::Run => self.none_waits(),
@@ -299,7 +311,7 @@ impl Kept {
         }
     }
 
-    // Those wait besides that read what the last step changed.
+    /// Those wait besides that read what the last step changed.
     #[inline(always)]
     pub fn wake_by_step<Q: Exact>(&mut self, timeline: &Timeline<Q>)
         ensures kept { self.new ≡ record (self.old) {
@@ -309,33 +321,7 @@ impl Kept {
         ensures events { (w : List ℕ) → self.new.events ≡ Some w → StillWoken (record { line = timeline.now; kept = self.old }) w }
         ensures processes { (w : List ℕ) → self.new.processes ≡ Some w → ProcessesWoken (record { line = timeline.now; kept = self.old }) w }
     {
-        let events = self.after_step(timeline);
-        self.note(timeline, events);
-    }
-
-    // These events wait, and besides the processes that read what the last step changed.
-    #[inline(always)]
-    fn note<Q: Exact>(&mut self, timeline: &Timeline<Q>, events: Option<Vec<EventId>>)
-        ensures kept { self.new ≡ record (self.old) {
-          events = option_map (λ w. event_numbers w.items) events;
-          processes = self.new.processes;
-        } }
-        ensures woken { (w : List ℕ) → self.new.processes ≡ Some w → ProcessesWoken (record { line = timeline.now; kept = self.old }) w }
-    {
-        self.events = events;
-        let waiting = self.processes.take();
-        self.processes = still_waiting(
-            waiting,
-            &self.readers.index().processes,
-            timeline.changes(),
-        );
-    }
-
-    // No event waits.
-    fn none_waits(&mut self)
-        ensures { self.new ≡ record (self.old) { events = Some [] } }
-    {
-        let events = emptied(self.alloc, self.events.take());
-        self.events = Some(events);
+        self.wake_events(timeline);
+        self.wake_processes(timeline);
     }
 }

@@ -13,9 +13,6 @@ use plus_state::term::ProcessId;
 use std::alloc::{AllocError, Global};
 use std::marker::Model;
 
-// How many readers most steps add.
-const FEW: usize = 8;
-
 /// The numbers of processes, in any order, each maybe more than once. So many steps take the time of what
 /// they add, and of putting all in order now and then.
 #[derive(Drop)]
@@ -44,84 +41,82 @@ fn sort_once(numbers: &mut Vec<u32>) -> Result<(), AllocError>
     Ok(())
 }
 
-// These numbers, and behind them the readers of all that is changed.
+// Puts the numbers of these processes in place of others.
 #[inline(always)]
-fn and_readers<Q: Exact>(
+fn put_numbers(processes: &[ProcessId], numbers: &mut Vec<u32>) -> Result<(), AllocError>
+    ensures { IfOk result (λ _. numbers.new.items ≡ process_numbers processes.now) }
+{
+    numbers.clear();
+    'each: for process in processes {
+        numbers.push(process.0)?;
+    }
+    Ok(())
+}
+
+// Where these numbers have become twice as many, they are put in order, each once.
+#[inline(always)]
+fn thin(numbers: &mut Vec<u32>, different: &mut usize) -> Result<(), AllocError>
+    ensures { IfOk result (λ _. (k : ℕ) → is_in numbers.new.items k ≡ true ↔ is_in numbers.old.items k ≡ true) }
+{
+    if numbers.len() / 2 <= *different {
+        return Ok(());
+    }
+    sort_once(numbers)?;
+    *different = numbers.len();
+    Ok(())
+}
+
+// Appends the readers of all that is changed.
+#[inline(always)]
+fn append_readers<Q: Exact>(
     readers: &Readers,
     changes: &Changes<Q>,
-    mut numbers: Vec<u32>,
-) -> Result<Vec<u32>, AllocError>
-    ensures { IfOk result (λ after. AddsReaders readers.now changes.now numbers.items after.items) }
+    numbers: &mut Vec<u32>,
+) -> Result<(), AllocError>
+    ensures { IfOk result (λ _. AddsReaders readers.now changes.now numbers.old.items numbers.new.items) }
 {
     'atoms: for change in &changes.atoms {
-        readers.atoms.append_readers(change.atom.0, &mut numbers)?;
+        readers.atoms.append_readers(change.atom.0, numbers)?;
     }
     'fluents: for change in &changes.fluents {
-        readers
-            .fluents
-            .append_readers(change.fluent.0, &mut numbers)?;
+        readers.fluents.append_readers(change.fluent.0, numbers)?;
     }
-    Ok(numbers)
-}
-
-// These numbers: where they have become twice as many, in order and each once.
-#[inline(always)]
-fn thinned(mut numbers: Vec<u32>, different: usize) -> Result<Waiting, AllocError>
-    ensures { IfOk result (λ w. (k : ℕ) → is_in w k ≡ true ↔ is_in numbers.items k ≡ true) }
-{
-    if numbers.len() / 2 <= different {
-        return Ok(Waiting { numbers, different });
-    }
-    sort_once(&mut numbers)?;
-    let different = numbers.len();
-    Ok(Waiting { numbers, different })
-}
-
-// No numbers: in the memory of those that waited, if there are any, or else with room for so many and
-// a few more.
-fn room(alloc: Global, before: Option<Waiting>, count: usize) -> Result<Vec<u32>, AllocError>
-    ensures { IfOk result (λ numbers. numbers.items ≡ []) }
-{
-    match before {
-        Some(waiting) => {
-            let Waiting { mut numbers, .. } = waiting;
-            numbers.clear();
-            Ok(numbers)
-        }
-        None => Vec::with_capacity(alloc, count.saturating_add(FEW)),
-    }
+    Ok(())
 }
 
 impl Waiting {
-    /// These processes, in the memory of those that waited before.
-    pub fn anew(
-        alloc: Global,
-        before: Option<Waiting>,
-        processes: &[ProcessId],
-    ) -> Result<Waiting, AllocError>
-        ensures { IfOk result (λ w. w ≡ process_numbers processes.now) }
+    /// None.
+    pub fn none(alloc: Global) -> Waiting
+        ensures { result ≡ [] }
     {
-        let mut numbers = room(alloc, before, processes.len())?;
-        'each: for process in processes {
-            numbers.push(process.0)?;
+        Waiting {
+            numbers: Vec::new(alloc),
+            different: 0,
         }
-        let different = numbers.len();
-        Ok(Waiting { numbers, different })
     }
 
-    /// These, and the readers of all that is changed.
+    /// These processes, in place of others.
     #[inline(always)]
-    pub fn with_readers<Q: Exact>(
-        self,
+    pub fn put(&mut self, processes: &[ProcessId]) -> Result<(), AllocError>
+        ensures { IfOk result (λ _. self.new ≡ process_numbers processes.now) }
+    {
+        put_numbers(processes, &mut self.numbers)?;
+        self.different = self.numbers.len();
+        Ok(())
+    }
+
+    /// Adds the readers of all that is changed.
+    #[inline(always)]
+    pub fn add_readers<Q: Exact>(
+        &mut self,
         readers: &Readers,
         changes: &Changes<Q>,
-    ) -> Result<Waiting, AllocError>
-        ensures { IfOk result (λ w. AddsReaders readers.now changes.now self w) }
+    ) -> Result<(), AllocError>
+        ensures { IfOk result (λ _. AddsReaders readers.now changes.now self.old self.new) }
     {
-        let Waiting { numbers, different } = self;
-        let numbers = and_readers(readers, changes, numbers)?;
-        let waiting = thinned(numbers, different)?;
-        Ok(waiting)
+        append_readers(readers, changes, &mut self.numbers)?;
+        thin(&mut self.numbers, &mut self.different)?;
+        Ok(())
     }
 
     /// They in ground order, each once: in place of others, whose memory they take. So do their numbers.
@@ -151,17 +146,37 @@ impl Waiting {
     }
 }
 
-/// Those that wait, and the readers of all that is changed. None where memory is wanting, or where all wait.
+/// These processes wait, in place of others. All do where memory is wanting.
+#[inline(always)]
+pub fn put_waiting(alloc: Global, processes: &[ProcessId], waiting: &mut Option<Waiting>)
+    ensures { IfSome waiting.new (λ w. w ≡ process_numbers processes.now) }
+{
+    if waiting.is_none() {
+        *waiting = Some(Waiting::none(alloc));
+    }
+    let all_told = match waiting {
+        Some(those) => those.put(processes).is_ok(),
+        None => false,
+    };
+    if !all_told {
+        *waiting = None;
+    }
+}
+
+/// The readers of all that is changed wait besides. All do where all did, or where memory is wanting.
 #[inline(always)]
 pub fn still_waiting<Q: Exact>(
-    waiting: Option<Waiting>,
     readers: &Readers,
     changes: &Changes<Q>,
-) -> Option<Waiting>
-    ensures { IfSome result (λ after. IsSomeAnd waiting (λ before. AddsReaders readers.now changes.now before after)) }
+    waiting: &mut Option<Waiting>,
+)
+    ensures { IfSome waiting.new (λ after. IsSomeAnd waiting.old (λ before. AddsReaders readers.now changes.now before after)) }
 {
-    match waiting {
-        Some(before) => before.with_readers(readers, changes).ok(),
-        None => None,
+    let all_told = match waiting {
+        Some(those) => those.add_readers(readers, changes).is_ok(),
+        None => false,
+    };
+    if !all_told {
+        *waiting = None;
     }
 }

@@ -11,5 +11,5 @@ returns-in-Ok-clause-processes g c =
     let P = problem_of g.Q.Exact.value c.args.ground.now in
     let s = c.args.timeline.now.now.state in
     let told = c.in-Ok.ensures.told in
-    kept_present g.Q.Exact.fits P s c.anew.result c.ok.result c.deref.result.now c.present.new.members.items c.ok.ensures.value c.anew.ensures c.deref.ensures.value
+    kept_present g.Q.Exact.fits P s c.put_waiting.new.waiting c.deref.result.now c.present.new.members.items c.put_waiting.ensures c.deref.ensures.value
     (those_hold g.Q.Exact.fits P s _ told.0 told.1)

@@ -5,7 +5,7 @@ use Rattle.plus_state.specs.Changes.{Changes}
 use Rattle.plus_reads.proofs.Waking.{gathers_none, gathers_at, gathers_more, gathers_all, atoms_named, fluents_named}
 use Rattle.plus_indexed.specs.Woken.{AddsReaders}
 use Rattle.plus_indexed.proofs.Present.{adds}
-use Rattle.plus_indexed.proofs.waiting.and_readers.Goals as goal
+use Rattle.plus_indexed.proofs.waiting.append_readers.Goals as goal
 
 pub atoms-init : goal.atoms-init
 atoms-init g c = gathers_none _ _
@@ -30,4 +30,4 @@ returns g c =
     let ats = c.changes.inside.atoms.items in let fs = c.changes.inside.fluents.items in
     let p = gathers_all _ t.atoms _ _ _ _ _ c.atoms-test.false (ap (map _) c.deref-change-items.ensures.value ∙ atoms_named ats) c.atoms.invariant in
     let q = gathers_all _ t.fluents _ _ _ _ _ c.fluents-test.false (ap (map _) c.deref-change-items-2.ensures.value ∙ fluents_named v fs) c.fluents.invariant in
-    subst (λ (ch : Changes). AddsReaders t ch c.args.numbers.items c.fluents.numbers.items) c.changes.view_is (adds t _ _ _ _ p q)
+    subst (λ (ch : Changes). AddsReaders t ch c.args.numbers.now.items c.fluents.numbers.items) c.changes.view_is (adds t _ _ _ _ p q)
