@@ -2,8 +2,8 @@
 
 use plus_explain::{Ending, Kept, append_place, append_reasons, word_for};
 use plus_io::{Freeing, Shelf, Sink};
-use plus_pair::pair::release;
-use plus_pair::texts::pair_of;
+use plus_reply::pair::pair::release;
+use plus_reply::pair::texts::pair_of;
 use plus_plan::PlanForm;
 use plus_replay::append_unmet;
 use plus_types::Typed;

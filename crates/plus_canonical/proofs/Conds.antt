@@ -11,17 +11,17 @@ use Rattle.plus_tree.specs.declared.terms.Comparison.{Comparison}
 use Rattle.plus_tree.specs.declared.terms.Comparison.TheVariants as comparisons
 use Rattle.plus_tree.specs.Expr.{Expr}
 use Rattle.plus_tree.specs.Cond.{Cond, Conds, c_all, c_any, c_not, c_imply, c_forall, c_exists, c_atom, c_same, c_compare, no_conds, more_conds}
-use Rattle.plus_reading.specs.declared.words.Allowed.TheVariants.{Terms}
+use Rattle.plus_parser.specs.declared.phrases.words.Allowed.TheVariants.{Terms}
 use Rattle.plus_tokens.specs.Items.{Piece}
-use Rattle.plus_reading.specs.Spells.{Wrapped, room_after, sign_of, SpellsExpr}
-use Rattle.plus_forms.specs.SpellsForms.{SpellsCond, SpellsConds}
+use Rattle.plus_parser.specs.Phrases.Spells.{Wrapped, room_after, sign_of, SpellsExpr}
+use Rattle.plus_parser.specs.Forms.SpellsForms.{SpellsCond, SpellsConds}
 use Rattle.plus_printer.specs.Words.{word, use_text, term_text, variables_text}
 use Rattle.plus_printer.specs.Canon.{expr_text, cond_text, conds_text}
 use Rattle.plus_canonical.specs.Same.{no_span, bare_term, bare_typed, bare_expr, bare_cond, bare_conds}
 use Rattle.plus_canonical.proofs.Lexes.{Ended, at_space, Reads, Both, both, turn, join, piece, Nothing, none_reads}
-use Rattle.plus_reading.proofs.Level.{is_flat, level_at, level_none, level_append, level_expr}
-use Rattle.plus_reading.proofs.TypedLists.{level_variables}
-use Rattle.plus_forms.proofs.FormLevels.{level_term, level_cond, level_conds}
+use Rattle.plus_parser.proofs.PhraseLemmas.Level.{is_flat, level_at, level_none, level_append, level_expr}
+use Rattle.plus_parser.proofs.PhraseLemmas.TypedLists.{level_variables}
+use Rattle.plus_parser.proofs.FormLemmas.FormLevels.{level_term, level_cond, level_conds}
 use Rattle.plus_canonical.proofs.Smalls.{IsSmall, Fine, fine_at, fine_split, fine_within, fine_form, even_both}
 use Rattle.plus_canonical.proofs.Forms.{head_even, name_reads, op_reads, spaced_before, loosen, head_reads, Again}
 use Rattle.plus_canonical.proofs.Pairs.{pair_even, PairForm, pair_reads, one_reads}

@@ -9,7 +9,7 @@ use Rattle.plus_tree.specs.declared.trees.Head.{Head}
 use Rattle.plus_tree.specs.declared.trees.Schema.{Schema}
 use Rattle.plus_tree.specs.declared.trees.Domain.{Domain}
 use Rattle.plus_tokens.specs.Items.{Piece}
-use Rattle.plus_reading.specs.Grammar.{around}
+use Rattle.plus_parser.specs.Phrases.Grammar.{around}
 use Rattle.plus_parser.specs.declared.parts.DomainParts.{DomainParts}
 use Rattle.plus_parser.specs.ReadingDomain.{no_parts, domain_made}
 use Rattle.plus_parser.specs.SpellsDomain.{DomainPart, SpellsDomainPart, with_domain_part, DomainTokens, Spells, SpellsWithin}
@@ -17,7 +17,7 @@ use Rattle.plus_printer.specs.Words.{word, typed_text, domain_opening, predicate
 use Rattle.plus_printer.specs.Canon.{section, requirements_text, head_text, heads_text, schemas_text, declared_text, happening_text, domain_text}
 use Rattle.plus_canonical.specs.Same.{bare_spelled, bare_typed, bare_head, bare_schema, bare_domain, SameDomain}
 use Rattle.plus_canonical.proofs.Lexes.{Any, Reads, Both, both, turn, join, piece, IsToken}
-use Rattle.plus_reading.proofs.Level.{Even, even_append, even_there}
+use Rattle.plus_parser.proofs.PhraseLemmas.Level.{Even, even_append, even_there}
 use Rattle.plus_parser.proofs.Sections.{frame_even, body_short}
 use Rattle.plus_parser.proofs.DomainLaws.{domain_level}
 use Rattle.plus_canonical.proofs.Smalls.{Fine, lexical}

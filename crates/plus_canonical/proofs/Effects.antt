@@ -11,19 +11,19 @@ use Rattle.plus_tree.specs.declared.trees.LeafNode.TheVariants.{Add, Delete, Ass
 use Rattle.plus_tree.specs.Expr.{Expr}
 use Rattle.plus_tree.specs.Cond.{Cond}
 use Rattle.plus_tree.specs.Effect.{Effect, Effects, e_all, e_forall, e_when, e_leaf, no_effects, more_effects}
-use Rattle.plus_reading.specs.declared.words.Allowed.TheVariants.{Terms}
+use Rattle.plus_parser.specs.declared.phrases.words.Allowed.TheVariants.{Terms}
 use Rattle.plus_tokens.specs.Items.{Piece}
-use Rattle.plus_reading.specs.Spells.{Wrapped, Chain, room_after, SpellsUse, SpellsExpr}
-use Rattle.plus_forms.specs.SpellsForms.{SpellsChange, SpellsLeafNode, SpellsLeaf, SpellsSimple, SpellsEffect, SpellsEffects}
+use Rattle.plus_parser.specs.Phrases.Spells.{Wrapped, Chain, room_after, SpellsUse, SpellsExpr}
+use Rattle.plus_parser.specs.Forms.SpellsForms.{SpellsChange, SpellsLeafNode, SpellsLeaf, SpellsSimple, SpellsEffect, SpellsEffects}
 use Rattle.plus_printer.specs.Words.{word, spaced, use_text, variables_text}
 use Rattle.plus_printer.specs.Canon.{expr_text, cond_text, write_text, node_text, leaf_text, leaves_text, effect_text, effects_text}
 use Rattle.plus_canonical.specs.Same.{no_span, bare_use, bare_typed, bare_expr, bare_cond, bare_node, bare_leaf, bare_effect, bare_effects}
 use Rattle.plus_canonical.proofs.Lexes.{Ended, at_space, Any, Reads, Both, both, turn, join, piece, Nothing, none_reads}
-use Rattle.plus_reading.proofs.Level.{Level, is_flat, level_at, level_none, level_append, level_use, level_expr}
-use Rattle.plus_reading.proofs.TypedLists.{level_variables}
-use Rattle.plus_forms.proofs.FormLevels.{level_cond, level_leaf}
-use Rattle.plus_forms.proofs.LeafLaws.{level_simple}
-use Rattle.plus_forms.proofs.EffectLaws.{level_effect, level_effects}
+use Rattle.plus_parser.proofs.PhraseLemmas.Level.{Level, is_flat, level_at, level_none, level_append, level_use, level_expr}
+use Rattle.plus_parser.proofs.PhraseLemmas.TypedLists.{level_variables}
+use Rattle.plus_parser.proofs.FormLemmas.FormLevels.{level_cond, level_leaf}
+use Rattle.plus_parser.proofs.FormLemmas.LeafLaws.{level_simple}
+use Rattle.plus_parser.proofs.FormLemmas.EffectLaws.{level_effect, level_effects}
 use Rattle.plus_canonical.proofs.Smalls.{IsSmall, Fine, fine_at, fine_split, fine_within, fine_form, even_both, even_more}
 use Rattle.plus_canonical.proofs.Forms.{name_reads, spaced_before, loosen, HeadForm, head_reads, head_even, Again, AllOf, chain_fine, chain_level, spaced_leads, spaced_again}
 use Rattle.plus_canonical.proofs.Pairs.{PairForm, pair_even, pair_reads, one_reads}

@@ -6,14 +6,14 @@ use Rattle.plus_tokens.specs.declared.span.Span.{Span}
 use Rattle.plus_tree.specs.declared.terms.Use.{Use}
 use Rattle.plus_tree.specs.declared.terms.Literal.{Literal}
 use Rattle.plus_tree.specs.Expr.{Expr, Exprs, x_number, x_clock, x_fluent, x_sum, x_product, x_minus, x_difference, x_quotient, no_exprs, more_exprs}
-use Rattle.plus_reading.specs.declared.words.Allowed.TheVariants.{Terms}
+use Rattle.plus_parser.specs.declared.phrases.words.Allowed.TheVariants.{Terms}
 use Rattle.plus_tokens.specs.Items.{Piece}
-use Rattle.plus_reading.specs.Spells.{room_after, AreMany, SpellsExpr, SpellsExprs}
+use Rattle.plus_parser.specs.Phrases.Spells.{room_after, AreMany, SpellsExpr, SpellsExprs}
 use Rattle.plus_printer.specs.Words.{word, use_text, literal_text}
 use Rattle.plus_printer.specs.Canon.{expr_text, exprs_text}
 use Rattle.plus_canonical.specs.Same.{no_span, bare_literal, bare_expr, bare_exprs}
 use Rattle.plus_canonical.proofs.Lexes.{Ended, at_space, Reads, Both, both, turn, join, piece, Nothing, none_reads}
-use Rattle.plus_reading.proofs.Level.{is_flat, level_append, level_expr, level_exprs}
+use Rattle.plus_parser.proofs.PhraseLemmas.Level.{is_flat, level_append, level_expr, level_exprs}
 use Rattle.plus_canonical.proofs.Smalls.{AreLexical, lexical_at, Fine, fine_at, fine_split, fine_form, even_token, even_both}
 use Rattle.plus_canonical.proofs.Forms.{head_even, op_reads, clock_reads, spaced_before, loosen, head_reads, Again}
 use Rattle.plus_canonical.proofs.Pairs.{pair_even, pair_reads, one_reads}

@@ -8,12 +8,12 @@ use Rattle.plus_tokens.specs.Spelling.{op_bytes}
 use Rattle.plus_tokens.specs.declared.span.Span.{Span}
 use Rattle.plus_tokens.specs.Lowered.{lowered}
 use Rattle.plus_tokens.specs.Items.{Piece}
-use Rattle.plus_reading.specs.Grammar.{around}
-use Rattle.plus_reading.specs.Spells.{Wrapped, Chain, room_after}
+use Rattle.plus_parser.specs.Phrases.Grammar.{around}
+use Rattle.plus_parser.specs.Phrases.Spells.{Wrapped, Chain, room_after}
 use Rattle.plus_printer.specs.Words.{word, spaced}
 use Rattle.plus_canonical.proofs.Lexes.{Ended, at_space, at_close, Any, kind_stops, Reads, Both, both, turn, join, piece, IsToken, token_reads, Nothing, space_reads, none_reads}
 use Rattle.plus_canonical.proofs.Smalls.{IsSmall, AreLexical, left, right, lexical_at, Fine, fine_at, fine_split, even_form, even_both}
-use Rattle.plus_reading.proofs.Level.{Even, Level, is_flat, level_at, level_none, level_append}
+use Rattle.plus_parser.proofs.PhraseLemmas.Level.{Even, Level, is_flat, level_at, level_none, level_append}
 
 -- ---- single tokens
 

@@ -9,9 +9,9 @@ use Rattle.plus_tokens.proofs.Read as spelling
 use Rattle.plus_tokens.specs.Spelling.{IsGapToEnd}
 use Rattle.plus_tokens.specs.declared.span.Span.{Span}
 use Rattle.plus_tokens.specs.Items.{Piece, tok, items_at, items_of}
-use Rattle.plus_reading.specs.Grammar.{around}
+use Rattle.plus_parser.specs.Phrases.Grammar.{around}
 use Rattle.plus_tokens.proofs.Items.{at_none}
-use Rattle.plus_reading.proofs.Tokens.{toks, toks_all}
+use Rattle.plus_parser.proofs.PhraseLemmas.Tokens.{toks, toks_all}
 use Rattle.plus_parser.specs.SpellsDomain.{Framed}
 use Rattle.plus_canonical.proofs.Lexes.{Ended, at_close, Any, Read, Reads, Both, both, turn, join, piece, IsToken}
 use Rattle.plus_canonical.proofs.Smalls.{IsSmall}

@@ -5,16 +5,16 @@ use Rattle.plus_tree.specs.declared.names.Spelled.{Spelled}
 use Rattle.plus_tree.specs.declared.trees.Head.{Head}
 use Rattle.plus_tree.specs.declared.trees.Schema.{Schema}
 use Rattle.plus_tree.specs.declared.trees.Domain.{Domain}
-use Rattle.plus_reading.specs.declared.words.Allowed.TheVariants.{Names}
+use Rattle.plus_parser.specs.declared.phrases.words.Allowed.TheVariants.{Names}
 use Rattle.plus_tokens.specs.Items.{Piece}
 use Rattle.plus_parser.specs.declared.parts.DomainParts.{DomainParts}
 use Rattle.plus_parser.specs.ReadingDomain.{no_parts, domain_made}
 use Rattle.plus_parser.specs.SpellsDomain.{DomainPart, d_requirements, d_types, d_constants, d_predicates, d_functions, d_action, d_process, d_event, SpellsRequirement, SpellsHead, SpellsDomainPart, with_domain_part, DomainTokens}
 use Rattle.std.proofs.lemmas.Bool.{cond-false}
-use Rattle.plus_reading.specs.Words.{is_keyword}
-use Rattle.plus_reading.proofs.Names.{keyword_says}
-use Rattle.plus_reading.proofs.Level.{Level, is_flat}
-use Rattle.plus_reading.proofs.TypedLists.{level_listing, level_list}
+use Rattle.plus_parser.specs.Phrases.Words.{is_keyword}
+use Rattle.plus_parser.proofs.PhraseLemmas.Names.{keyword_says}
+use Rattle.plus_parser.proofs.PhraseLemmas.Level.{Level, is_flat}
+use Rattle.plus_parser.proofs.PhraseLemmas.TypedLists.{level_listing, level_list}
 use Rattle.plus_parser.specs.Keywords.{domain_part_of}
 use Rattle.plus_parser.specs.declared.keywords.DomainWord.{DomainWord}
 use Rattle.plus_parser.specs.declared.keywords.DomainWord.TheVariants as domains

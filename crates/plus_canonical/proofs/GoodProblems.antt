@@ -6,21 +6,21 @@ use Rattle.plus_tree.specs.declared.terms.TypedName.{TypedName}
 use Rattle.plus_tree.specs.declared.trees.Init.{Init}
 use Rattle.plus_tree.specs.declared.trees.Problem.{Problem}
 use Rattle.plus_tree.specs.Cond.{Cond}
-use Rattle.plus_reading.specs.declared.words.Allowed.TheVariants.{Names}
+use Rattle.plus_parser.specs.declared.phrases.words.Allowed.TheVariants.{Names}
 use Rattle.plus_tokens.specs.Items.{Piece}
 use Rattle.plus_parser.specs.declared.parts.ProblemParts.{ProblemParts}
 use Rattle.plus_parser.specs.ReadingProblem.{no_problem_parts, problem_made}
 use Rattle.plus_parser.specs.SpellsDomain.{SpellsRequirement}
 use Rattle.plus_parser.specs.SpellsProblem.{SpellsInit, ProblemPart, p_domain, p_requirements, p_objects, p_init, p_goal, p_metric, SpellsProblemPart, with_problem_part, ProblemTokens}
 use Rattle.std.proofs.lemmas.Bool.{cond-false}
-use Rattle.plus_reading.specs.Words.{is_keyword}
-use Rattle.plus_reading.proofs.Names.{keyword_says}
-use Rattle.plus_reading.proofs.Level.{Level, is_flat, level_none, level_flat}
-use Rattle.plus_reading.proofs.TypedLists.{level_list}
+use Rattle.plus_parser.specs.Phrases.Words.{is_keyword}
+use Rattle.plus_parser.proofs.PhraseLemmas.Names.{keyword_says}
+use Rattle.plus_parser.proofs.PhraseLemmas.Level.{Level, is_flat, level_none, level_flat}
+use Rattle.plus_parser.proofs.PhraseLemmas.TypedLists.{level_list}
 use Rattle.plus_parser.specs.Keywords.{problem_part_of}
 use Rattle.plus_parser.specs.declared.keywords.ProblemWord.{ProblemWord}
 use Rattle.plus_parser.specs.declared.keywords.ProblemWord.TheVariants as problems
-use Rattle.plus_forms.proofs.FormLevels.{level_cond}
+use Rattle.plus_parser.proofs.FormLemmas.FormLevels.{level_cond}
 use Rattle.plus_parser.proofs.Skips.{level_balanced}
 use Rattle.plus_parser.proofs.Sections.{body_even}
 use Rattle.plus_canonical.proofs.Smalls.{Fine, IsSmall, AreLexical, left, name_small, within, lexical_at}

@@ -6,10 +6,10 @@ use Rattle.plus_tokens.specs.declared.token.Kind.TheVariants as kinds
 use Rattle.plus_tree.specs.declared.names.Spelled.{Spelled}
 use Rattle.plus_tree.specs.declared.terms.TypedName.{TypedName}
 use Rattle.plus_tree.specs.declared.trees.Head.{Head}
-use Rattle.plus_reading.specs.declared.words.Allowed.TheVariants.{Variables}
+use Rattle.plus_parser.specs.declared.phrases.words.Allowed.TheVariants.{Variables}
 use Rattle.plus_tokens.specs.Items.{Piece}
-use Rattle.plus_reading.specs.Words.{is_plain_head, word_head}
-use Rattle.plus_reading.specs.Spells.{Chain, added}
+use Rattle.plus_parser.specs.Phrases.Words.{is_plain_head, word_head}
+use Rattle.plus_parser.specs.Phrases.Spells.{Chain, added}
 use Rattle.plus_parser.specs.declared.parts.Functions.{Functions}
 use Rattle.plus_parser.specs.ReadingDomain.{no_functions}
 use Rattle.plus_parser.specs.SpellsDomain.{SpellsHead, FunctionPart, f_head, f_number, SpellsFunctionPart, with_function, SpellsFunctions}
@@ -17,9 +17,9 @@ use Rattle.plus_printer.specs.Words.{word, spaced, variable_text}
 use Rattle.plus_printer.specs.Canon.{head_text}
 use Rattle.plus_canonical.specs.Same.{no_span, bare_spelled, bare_typed, bare_head}
 use Rattle.plus_canonical.proofs.Lexes.{Ended, Reads, turn, piece}
-use Rattle.plus_reading.proofs.Level.{Level, is_flat, level_at, level_none, level_flat, level_wrapped}
-use Rattle.plus_reading.proofs.Names.{plain_name as plain_kind}
-use Rattle.plus_reading.proofs.TypedLists.{level_list}
+use Rattle.plus_parser.proofs.PhraseLemmas.Level.{Level, is_flat, level_at, level_none, level_flat, level_wrapped}
+use Rattle.plus_parser.proofs.PhraseLemmas.Names.{plain_name as plain_kind}
+use Rattle.plus_parser.proofs.PhraseLemmas.TypedLists.{level_list}
 use Rattle.plus_canonical.proofs.Smalls.{Fine, fine_form, AreLexical, within}
 use Rattle.plus_canonical.proofs.Forms.{head_even, chain_fine, chain_level, name_reads, loosen, HeadForm, head_reads, Again, AllOf, spaced_leads}
 use Rattle.plus_canonical.proofs.Terms.{PlainName, plain_name}

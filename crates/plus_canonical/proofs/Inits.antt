@@ -8,16 +8,16 @@ use Rattle.plus_tree.specs.declared.terms.Use.{Use}
 use Rattle.plus_tree.specs.declared.terms.Literal.{Literal}
 use Rattle.plus_tree.specs.declared.trees.Init.{Init}
 use Rattle.plus_tree.specs.declared.trees.Init.TheVariants.{Holds, Absent, Value, At, AtNot}
-use Rattle.plus_reading.specs.declared.words.Allowed.{Allowed}
-use Rattle.plus_reading.specs.declared.words.Allowed.TheVariants.{Terms, Names}
+use Rattle.plus_parser.specs.declared.phrases.words.Allowed.{Allowed}
+use Rattle.plus_parser.specs.declared.phrases.words.Allowed.TheVariants.{Terms, Names}
 use Rattle.plus_tokens.specs.Items.{Piece}
-use Rattle.plus_reading.specs.Spells.{Wrapped, SpellsUse, IsNumber}
+use Rattle.plus_parser.specs.Phrases.Spells.{Wrapped, SpellsUse, IsNumber}
 use Rattle.plus_parser.specs.SpellsProblem.{SpellsNot, IsTime, SpellsTimed, SpellsInit}
 use Rattle.plus_printer.specs.Words.{word, use_text, literal_text}
 use Rattle.plus_printer.specs.Canon.{absent_text, timed_text, init_text}
 use Rattle.plus_canonical.specs.Same.{no_span, bare_use, bare_literal, bare_init}
 use Rattle.plus_canonical.proofs.Lexes.{Ended, Reads, turn, piece}
-use Rattle.plus_reading.proofs.Level.{Level, is_flat, level_none, level_flat, level_append, level_wrapped, level_use, number_flat}
+use Rattle.plus_parser.proofs.PhraseLemmas.Level.{Level, is_flat, level_none, level_flat, level_append, level_wrapped, level_use, number_flat}
 use Rattle.plus_canonical.proofs.Smalls.{IsSmall, AreLexical, Fine, Inside, fine_split, fine_behind, fine_form}
 use Rattle.plus_canonical.proofs.Forms.{head_even, name_reads, op_reads, loosen, Again}
 use Rattle.plus_canonical.proofs.Pairs.{pair_even, PairForm, pair_reads, one_reads}

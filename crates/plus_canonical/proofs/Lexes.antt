@@ -17,7 +17,7 @@ use Rattle.plus_tokens.specs.declared.span.Span.{Span}
 use Rattle.plus_tokens.specs.Lowered.{lowered}
 use Rattle.plus_tokens.specs.Items.{Piece, piece_of, items_at}
 use Rattle.plus_tokens.proofs.Items.{at_token, at_none, at_fault}
-use Rattle.plus_reading.proofs.Tokens.{toks, toks-append}
+use Rattle.plus_parser.proofs.PhraseLemmas.Tokens.{toks, toks-append}
 
 -- ---- what may stand behind
 

@@ -8,19 +8,19 @@ use Rattle.plus_tokens.specs.declared.token.Op.TheVariants.{Minus}
 use Rattle.plus_tokens.specs.declared.span.Span.{Span}
 use Rattle.plus_tree.specs.declared.names.Spelled.{Spelled}
 use Rattle.plus_tree.specs.declared.terms.TypedName.{TypedName}
-use Rattle.plus_reading.specs.declared.words.Allowed.{Allowed}
-use Rattle.plus_reading.specs.declared.words.Allowed.TheVariants.{Names, Variables}
+use Rattle.plus_parser.specs.declared.phrases.words.Allowed.{Allowed}
+use Rattle.plus_parser.specs.declared.phrases.words.Allowed.TheVariants.{Names, Variables}
 use Rattle.plus_tokens.specs.Items.{Piece}
-use Rattle.plus_reading.specs.Words.{is_allowed}
-use Rattle.plus_reading.specs.Grammar.{named_of, of_type, object_type, Listing, no_names, typed_by, all_typed}
-use Rattle.plus_reading.specs.Spells.{Chain, added, ListPart, l_name, l_type, SpellsListPart, with_list_part, SpellsListing, SpellsList, SpellsVariables}
+use Rattle.plus_parser.specs.Phrases.Words.{is_allowed}
+use Rattle.plus_parser.specs.Phrases.Grammar.{named_of, of_type, object_type, Listing, no_names, typed_by, all_typed}
+use Rattle.plus_parser.specs.Phrases.Spells.{Chain, added, ListPart, l_name, l_type, SpellsListPart, with_list_part, SpellsListing, SpellsList, SpellsVariables}
 use Rattle.plus_parser.specs.ReadingDomain.{is_own_type}
 use Rattle.plus_parser.specs.SpellsDomain.{SpellsTypes}
 use Rattle.plus_printer.specs.Words.{word, spaced, typed_text, variable_text, listed, variables_text}
 use Rattle.plus_canonical.specs.Same.{bare_typed}
 use Rattle.plus_canonical.proofs.Lexes.{Ended, at_space, Any, Reads, Both, both, turn, join, piece, IsToken, none_reads}
-use Rattle.plus_reading.proofs.Level.{is_flat, allowed_flat, even_wrapped}
-use Rattle.plus_reading.proofs.TypedLists.{level_list}
+use Rattle.plus_parser.proofs.PhraseLemmas.Level.{is_flat, allowed_flat, even_wrapped}
+use Rattle.plus_parser.proofs.PhraseLemmas.TypedLists.{level_list}
 use Rattle.plus_canonical.proofs.Smalls.{Fine, fine_within, even_first, even_token, IsSmall, AreLexical, name_small, within, lexical_at}
 use Rattle.plus_canonical.proofs.Forms.{name_reads, variable_reads, op_reads, spaced_before, Form, form_reads, Again, AllOf, chain_all, spaced_leads, spaced_again, none_again, more_again}
 use Rattle.plus_canonical.proofs.Terms.{fixed, named_small}

@@ -17,9 +17,9 @@ use Rattle.plus_tokens.specs.Items.{Piece}
 use Rattle.plus_tokens.specs.declared.numeral.Numeral.{Numeral}
 use Rattle.plus_tokens.specs.Numeral.{numeral, numeral_of, piece_numeral}
 use Rattle.plus_tokens.proofs.Numerals.{spelled_lowered}
-use Rattle.plus_reading.specs.Literals.{trimmed, numeral_literal, kind_literal}
-use Rattle.plus_reading.specs.Words.{is_unsigned, kind_time}
-use Rattle.plus_reading.specs.Spells as spells
+use Rattle.plus_parser.specs.Phrases.Literals.{trimmed, numeral_literal, kind_literal}
+use Rattle.plus_parser.specs.Phrases.Words.{is_unsigned, kind_time}
+use Rattle.plus_parser.specs.Phrases.Spells as spells
 use Rattle.plus_parser.specs.SpellsProblem.{IsTime}
 use Rattle.plus_printer.specs.Words.{word, padded, pointed, number_text, sign_text, literal_text}
 use Rattle.plus_canonical.specs.Same.{bare_literal}

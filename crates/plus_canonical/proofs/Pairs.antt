@@ -3,9 +3,9 @@ use Rattle.std.proofs.Common.{◌≡◌, ℕ, suc, true, List, [], ◌∷◌, �
 use Rattle.plus_tokens.specs.declared.token.Kind.{Kind}
 use Rattle.plus_tokens.specs.declared.span.Span.{Span}
 use Rattle.plus_tokens.specs.Items.{Piece}
-use Rattle.plus_reading.specs.Spells.{Wrapped}
+use Rattle.plus_parser.specs.Phrases.Spells.{Wrapped}
 use Rattle.plus_canonical.proofs.Lexes.{Ended, at_space, Any, Reads, Both, both, turn, join, piece, IsToken}
-use Rattle.plus_reading.proofs.Level.{Even, is_flat, even_append}
+use Rattle.plus_parser.proofs.PhraseLemmas.Level.{Even, is_flat, even_append}
 use Rattle.plus_canonical.proofs.Smalls.{even_form}
 use Rattle.plus_canonical.proofs.Forms.{spaced_before, spaced_behind, HeadForm, head_reads}
 

@@ -6,11 +6,11 @@ use Rattle.plus_tree.specs.declared.names.Spelled.{Spelled}
 use Rattle.plus_tree.specs.declared.terms.TypedName.{TypedName}
 use Rattle.plus_tree.specs.declared.trees.Init.{Init}
 use Rattle.plus_tree.specs.Cond.{Cond}
-use Rattle.plus_reading.specs.declared.words.Allowed.TheVariants.{Names}
+use Rattle.plus_parser.specs.declared.phrases.words.Allowed.TheVariants.{Names}
 use Rattle.plus_tokens.specs.Items.{Piece}
-use Rattle.plus_reading.specs.Spells.{Wrapped, Chain}
+use Rattle.plus_parser.specs.Phrases.Spells.{Wrapped, Chain}
 use Rattle.plus_parser.specs.declared.parts.ProblemParts.{ProblemParts}
-use Rattle.plus_forms.specs.SpellsForms.{SpellsCond}
+use Rattle.plus_parser.specs.Forms.SpellsForms.{SpellsCond}
 use Rattle.plus_parser.specs.SpellsDomain.{SpellsRequirement}
 use Rattle.plus_parser.specs.SpellsProblem.{SpellsInit, ProblemPart, p_domain, p_requirements, p_objects, p_init, p_goal, SpellsProblemPart, with_problem_part}
 use Rattle.plus_printer.specs.Words.{word, spaced, typed_text, requirements_opening}

@@ -9,8 +9,8 @@ use Rattle.plus_tree.specs.declared.trees.Init.{Init}
 use Rattle.plus_tree.specs.declared.trees.Problem.{Problem}
 use Rattle.plus_tree.specs.Cond.{Cond}
 use Rattle.plus_tokens.specs.Items.{Piece}
-use Rattle.plus_reading.specs.Grammar.{around}
-use Rattle.plus_reading.specs.Spells.{room_step, room_after}
+use Rattle.plus_parser.specs.Phrases.Grammar.{around}
+use Rattle.plus_parser.specs.Phrases.Spells.{room_step, room_after}
 use Rattle.plus_parser.specs.declared.parts.ProblemParts.{ProblemParts}
 use Rattle.plus_parser.specs.ReadingProblem.{no_problem_parts, problem_made}
 use Rattle.plus_parser.specs.SpellsDomain.{Framed}
@@ -19,7 +19,7 @@ use Rattle.plus_printer.specs.Words.{word, spaced, typed_text, problem_opening}
 use Rattle.plus_printer.specs.Canon.{section, requirements_text, cond_text, init_text, for_text, titled_text, stated_text, problem_text}
 use Rattle.plus_canonical.specs.Same.{bare_spelled, bare_typed, bare_init, bare_cond, bare_problem, SameProblem}
 use Rattle.plus_canonical.proofs.Lexes.{Any, Reads, Both, both, turn, join, piece, IsToken}
-use Rattle.plus_reading.proofs.Level.{Even, after_name, even_append, even_there}
+use Rattle.plus_parser.proofs.PhraseLemmas.Level.{Even, after_name, even_append, even_there}
 use Rattle.plus_parser.proofs.Sections.{frame_even, body_short}
 use Rattle.plus_parser.proofs.ProblemLaws.{problem_level}
 use Rattle.plus_canonical.proofs.Smalls.{Fine, lexical}

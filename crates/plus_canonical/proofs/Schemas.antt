@@ -9,10 +9,10 @@ use Rattle.plus_tree.specs.declared.trees.Schema.{Schema}
 use Rattle.plus_tree.specs.Cond.{Cond}
 use Rattle.plus_tree.specs.Effect.{Effect}
 use Rattle.plus_tokens.specs.Items.{Piece}
-use Rattle.plus_reading.specs.Grammar.{nowhere, spelled_of}
-use Rattle.plus_reading.specs.Spells.{Wrapped, SpellsVariables}
+use Rattle.plus_parser.specs.Phrases.Grammar.{nowhere, spelled_of}
+use Rattle.plus_parser.specs.Phrases.Spells.{Wrapped, SpellsVariables}
 use Rattle.plus_parser.specs.declared.parts.Keys.{Keys}
-use Rattle.plus_forms.specs.SpellsForms.{SpellsCond, SpellsEffect}
+use Rattle.plus_parser.specs.Forms.SpellsForms.{SpellsCond, SpellsEffect}
 use Rattle.plus_parser.specs.ReadingDomain.{no_keys, or_all, or_nothing, schema_made}
 use Rattle.plus_parser.specs.SpellsDomain.{Key, k_parameters, k_condition, k_effect, SpellsKey, with_key, SpellsSchema}
 use Rattle.plus_printer.specs.Words.{word, variables_text, precondition_key}
@@ -20,15 +20,15 @@ use Rattle.plus_printer.specs.Canon.{cond_text, effect_text, keys_text, schema_t
 use Rattle.plus_canonical.specs.Same.{no_span, bare_spelled, bare_typed, bare_cond, bare_effect, bare_schema}
 use Rattle.plus_canonical.proofs.Lexes.{Ended, at_space, Any, Reads, Both, both, turn, join, piece, IsToken}
 use Rattle.std.proofs.lemmas.Bool.{cond-false}
-use Rattle.plus_reading.specs.Words.{is_keyword}
-use Rattle.plus_reading.proofs.Names.{keyword_says}
-use Rattle.plus_reading.proofs.Level.{Even, Level, is_flat, level_at, level_flat}
-use Rattle.plus_reading.proofs.TypedLists.{level_variables}
+use Rattle.plus_parser.specs.Phrases.Words.{is_keyword}
+use Rattle.plus_parser.proofs.PhraseLemmas.Names.{keyword_says}
+use Rattle.plus_parser.proofs.PhraseLemmas.Level.{Even, Level, is_flat, level_at, level_flat}
+use Rattle.plus_parser.proofs.PhraseLemmas.TypedLists.{level_variables}
 use Rattle.plus_parser.specs.Keywords.{key_of}
 use Rattle.plus_parser.specs.declared.keywords.KeyWord.{KeyWord}
 use Rattle.plus_parser.specs.declared.keywords.KeyWord.TheVariants as keys
-use Rattle.plus_forms.proofs.FormLevels.{level_cond}
-use Rattle.plus_forms.proofs.EffectLaws.{level_effect}
+use Rattle.plus_parser.proofs.FormLemmas.FormLevels.{level_cond}
+use Rattle.plus_parser.proofs.FormLemmas.EffectLaws.{level_effect}
 use Rattle.plus_canonical.proofs.Smalls.{Fine, fine_at, fine_behind, even_first, even_both, IsSmall, name_small}
 use Rattle.plus_canonical.proofs.Forms.{head_even, chain_fine, chain_level, name_reads, keyword_reads, spaced_before, loosen, HeadForm, Again, AllOf}
 use Rattle.plus_canonical.proofs.Terms.{fixed}

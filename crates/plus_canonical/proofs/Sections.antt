@@ -5,13 +5,13 @@ use Rattle.plus_tokens.specs.declared.token.Kind.TheVariants as kinds
 use Rattle.plus_tokens.specs.declared.span.Span.{Span}
 use Rattle.plus_tree.specs.declared.names.Spelled.{Spelled}
 use Rattle.plus_tokens.specs.Items.{Piece}
-use Rattle.plus_reading.specs.Spells.{room_after, Wrapped, Chain, added}
+use Rattle.plus_parser.specs.Phrases.Spells.{room_after, Wrapped, Chain, added}
 use Rattle.plus_parser.specs.SpellsDomain.{SpellsRequirement}
 use Rattle.plus_printer.specs.Words.{word, spaced}
 use Rattle.plus_printer.specs.Canon.{section, keyword_text}
 use Rattle.plus_canonical.specs.Same.{bare_spelled}
 use Rattle.plus_canonical.proofs.Lexes.{Ended, Any, Reads, Both, turn, join, piece, Nothing, line_reads, none_reads}
-use Rattle.plus_reading.proofs.Level.{Level, is_flat, level_at, level_none, level_flat, level_wrapped}
+use Rattle.plus_parser.proofs.PhraseLemmas.Level.{Level, is_flat, level_at, level_none, level_flat, level_wrapped}
 use Rattle.plus_canonical.proofs.Smalls.{Fine, fine_form, even_token, IsSmall, AreLexical, keyword_small, lexical_at}
 use Rattle.plus_canonical.proofs.Forms.{head_even, keyword_reads, spaced_before, after_both, HeadForm, head_reads, Again, AllOf, spaced_leads, spaced_again}
 

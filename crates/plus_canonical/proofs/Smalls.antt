@@ -17,8 +17,8 @@ use Rattle.plus_tokens.proofs.Read.{read}
 use Rattle.plus_tokens.specs.declared.span.Span.{Span}
 use Rattle.plus_tokens.specs.Lowered.{lowered}
 use Rattle.plus_tokens.specs.Items.{Piece, Item, tok, piece_of, items_step, items_from}
-use Rattle.plus_reading.specs.Spells.{Wrapped, room_step, room_after}
-use Rattle.plus_reading.proofs.Level.{Even, Level, is_flat, after_flat, level_flat, split_append, split_wrapped, even_wrapped, even_append}
+use Rattle.plus_parser.specs.Phrases.Spells.{Wrapped, room_step, room_after}
+use Rattle.plus_parser.proofs.PhraseLemmas.Level.{Even, Level, is_flat, after_flat, level_flat, split_append, split_wrapped, even_wrapped, even_append}
 
 -- ---- tokens of a text
 

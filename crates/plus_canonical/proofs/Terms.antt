@@ -13,16 +13,16 @@ use Rattle.plus_tree.specs.declared.terms.Term.{Term}
 use Rattle.plus_tree.specs.declared.terms.Term.TheVariants.{Object, Variable}
 use Rattle.plus_tree.specs.declared.terms.Use.{Use}
 use Rattle.plus_tokens.specs.Lowered.{lowered}
-use Rattle.plus_reading.specs.declared.words.Allowed.{Allowed}
-use Rattle.plus_reading.specs.declared.words.Allowed.TheVariants as allows
+use Rattle.plus_parser.specs.declared.phrases.words.Allowed.{Allowed}
+use Rattle.plus_parser.specs.declared.phrases.words.Allowed.TheVariants as allows
 use Rattle.plus_tokens.specs.Items.{Piece}
-use Rattle.plus_reading.specs.Words.{is_name, is_variable, is_allowed, is_plain, is_plain_head, kind_head, word_head, op_head}
-use Rattle.plus_reading.specs.Grammar.{spelled_of, bare_of, named_of, term_of}
-use Rattle.plus_reading.specs.Spells.{Chain, SpellsArgument, SpellsUse}
+use Rattle.plus_parser.specs.Phrases.Words.{is_name, is_variable, is_allowed, is_plain, is_plain_head, kind_head, word_head, op_head}
+use Rattle.plus_parser.specs.Phrases.Grammar.{spelled_of, bare_of, named_of, term_of}
+use Rattle.plus_parser.specs.Phrases.Spells.{Chain, SpellsArgument, SpellsUse}
 use Rattle.plus_printer.specs.Words.{word, spaced, term_text, use_text}
 use Rattle.plus_canonical.specs.Same.{bare_spelled, bare_term, bare_use}
 use Rattle.plus_canonical.proofs.Lexes.{Ended, Any, Reads, turn, piece}
-use Rattle.plus_reading.proofs.Level.{is_flat, level_args}
+use Rattle.plus_parser.proofs.PhraseLemmas.Level.{is_flat, level_args}
 use Rattle.plus_canonical.proofs.Smalls.{Fine, fine_form, even_token, IsSmall, Lexical, AreLexical, name_small, variable_small, within, lexical_at}
 use Rattle.plus_canonical.proofs.Forms.{head_even, name_reads, variable_reads, HeadForm, head_reads, Again, AllOf, chain_all, spaced_leads, spaced_again}
 

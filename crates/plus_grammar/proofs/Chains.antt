@@ -4,7 +4,7 @@ use Rattle.std.specs.Prelude.{◌==◌, option_and_then}
 use Rattle.std.proofs.lemmas.Bool.{ne_eqb}
 use Rattle.plus_tree.specs.declared.names.Spelled.{Spelled}
 use Rattle.plus_tokens.specs.Items.{Piece}
-use Rattle.plus_reading.specs.Spells.{Chain}
+use Rattle.plus_parser.specs.Phrases.Spells.{Chain}
 use Rattle.plus_grammar.specs.Groups.{Group, IsGroup, AreGroups}
 
 pub chain_both : {X : Type 0} (P : X → List Piece → Type 0) (xs ys : List X) (ts us : List Piece) → Chain P xs ts → Chain P ys us → Chain P (xs ++ ys) (ts ++ us)

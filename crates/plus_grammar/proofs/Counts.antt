@@ -5,9 +5,9 @@ use Rattle.plus_tree.specs.declared.trees.Schema.{Schema}
 use Rattle.plus_tree.specs.declared.trees.Domain.{Domain}
 use Rattle.plus_tree.specs.Cond.{Cond, c_all, no_conds}
 use Rattle.plus_tree.specs.Effect.{Effect, e_all, no_effects}
-use Rattle.plus_reading.specs.Grammar.{nowhere}
-use Rattle.plus_reading.specs.Spells.{added}
-use Rattle.plus_reading.proofs.Forms.{some_is}
+use Rattle.plus_parser.specs.Phrases.Grammar.{nowhere}
+use Rattle.plus_parser.specs.Phrases.Spells.{added}
+use Rattle.plus_parser.proofs.PhraseLemmas.Forms.{some_is}
 use Rattle.plus_parser.specs.declared.parts.Keys.{Keys}
 use Rattle.plus_parser.specs.declared.parts.DomainParts.{DomainParts}
 use Rattle.plus_parser.specs.ReadingDomain.{no_keys, or_all, or_nothing, schema_made, no_parts, domain_made}

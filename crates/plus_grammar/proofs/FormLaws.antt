@@ -4,10 +4,10 @@ use Rattle.std.specs.Prelude.{◌↔◌}
 use Rattle.plus_tree.specs.declared.terms.TypedName.{TypedName}
 use Rattle.plus_tree.specs.Cond.{Cond, c_all, c_any, c_not, c_imply, c_forall, c_exists, c_atom, c_same, c_compare, Conds, no_conds, more_conds}
 use Rattle.plus_tree.specs.Effect.{Effect, e_all, e_forall, e_when, e_leaf, Effects, no_effects, more_effects}
-use Rattle.plus_reading.specs.declared.words.Allowed.TheVariants.{Variables}
+use Rattle.plus_parser.specs.declared.phrases.words.Allowed.TheVariants.{Variables}
 use Rattle.plus_tokens.specs.Items.{Piece}
-use Rattle.plus_reading.specs.Spells.{Wrapped, SpellsVariables}
-use Rattle.plus_forms.specs.SpellsForms.{SpellsCond, SpellsConds, SpellsEffect, SpellsEffects}
+use Rattle.plus_parser.specs.Phrases.Spells.{Wrapped, SpellsVariables}
+use Rattle.plus_parser.specs.Forms.SpellsForms.{SpellsCond, SpellsConds, SpellsEffect, SpellsEffects}
 use Rattle.plus_grammar.specs.Groups.{AreVariables}
 use Rattle.plus_grammar.specs.Forms.{IsCond, AreConds, IsEffect, AreEffects}
 use Rattle.plus_grammar.proofs.Lists.{lists_by_groups}

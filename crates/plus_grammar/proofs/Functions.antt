@@ -2,11 +2,11 @@
 use Rattle.std.proofs.Common.{◌≡◌, ◌≢◌, Bool, true, false, List, [], ◌∷◌, ◌++◌, map, flat_map, refl, ap, sym, subst, ◌∙◌, append_assoc, append-nil, Some}
 use Rattle.std.specs.Prelude.{◌↔◌}
 use Rattle.plus_tree.specs.declared.trees.Head.{Head}
-use Rattle.plus_reading.specs.declared.words.Allowed.TheVariants.{Variables}
+use Rattle.plus_parser.specs.declared.phrases.words.Allowed.TheVariants.{Variables}
 use Rattle.plus_tokens.specs.Items.{Piece}
-use Rattle.plus_reading.specs.Grammar.{spelled_of}
-use Rattle.plus_reading.specs.Spells.{Chain, added}
-use Rattle.plus_reading.proofs.Forms.{some_is}
+use Rattle.plus_parser.specs.Phrases.Grammar.{spelled_of}
+use Rattle.plus_parser.specs.Phrases.Spells.{Chain, added}
+use Rattle.plus_parser.proofs.PhraseLemmas.Forms.{some_is}
 use Rattle.plus_parser.specs.declared.parts.Functions.{Functions}
 use Rattle.plus_parser.specs.SpellsDomain.{SpellsHead, FunctionPart, f_head, f_number, SpellsFunctionPart, with_function, SpellsFunctions}
 use Rattle.plus_grammar.specs.Groups.{Group, IsGroup, AreGroups, IsHead, IsNumberType, AreFunctions}

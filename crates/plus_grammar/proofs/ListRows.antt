@@ -1,11 +1,11 @@
 -- The worked rows of lists.
 use Rattle.std.proofs.Common.{◌≡◌, ◌≢◌, true, List, [], ◌∷◌, ◌++◌, refl, ap, sym, subst, ◌∙◌, append_assoc}
 use Rattle.plus_tree.specs.declared.names.Spelled.{Spelled}
-use Rattle.plus_reading.specs.declared.words.Allowed.TheVariants.{Names}
+use Rattle.plus_parser.specs.declared.phrases.words.Allowed.TheVariants.{Names}
 use Rattle.plus_tokens.specs.Items.{Piece}
-use Rattle.plus_reading.specs.Words.{is_allowed}
-use Rattle.plus_reading.specs.Grammar.{spelled_of, named_of}
-use Rattle.plus_reading.specs.Spells.{Chain, IsAllowed}
+use Rattle.plus_parser.specs.Phrases.Words.{is_allowed}
+use Rattle.plus_parser.specs.Phrases.Grammar.{spelled_of, named_of}
+use Rattle.plus_parser.specs.Phrases.Spells.{Chain, IsAllowed}
 use Rattle.plus_grammar.specs.Groups.{Group, IsGroup, AreGroups, IsMember, IsType}
 use Rattle.plus_grammar.specs.Rows.{name, minus, ListRows}
 

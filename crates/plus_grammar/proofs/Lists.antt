@@ -4,12 +4,12 @@ use Rattle.std.specs.Prelude.{◌↔◌, ◌==◌, option_and_then}
 use Rattle.std.proofs.lemmas.Bool.{cond-false}
 use Rattle.plus_tree.specs.declared.names.Spelled.{Spelled}
 use Rattle.plus_tree.specs.declared.terms.TypedName.{TypedName}
-use Rattle.plus_reading.specs.declared.words.Allowed.{Allowed}
-use Rattle.plus_reading.specs.declared.words.Allowed.TheVariants.{Names}
+use Rattle.plus_parser.specs.declared.phrases.words.Allowed.{Allowed}
+use Rattle.plus_parser.specs.declared.phrases.words.Allowed.TheVariants.{Names}
 use Rattle.plus_tokens.specs.Items.{Piece}
-use Rattle.plus_reading.specs.Grammar.{Listing, no_names, of_type, object_type, typed_by}
-use Rattle.plus_reading.specs.Spells.{Chain, added, ListPart, l_name, l_type, SpellsListPart, with_list_part, SpellsListing, SpellsList}
-use Rattle.plus_reading.proofs.Forms.{some_is}
+use Rattle.plus_parser.specs.Phrases.Grammar.{Listing, no_names, of_type, object_type, typed_by}
+use Rattle.plus_parser.specs.Phrases.Spells.{Chain, added, ListPart, l_name, l_type, SpellsListPart, with_list_part, SpellsListing, SpellsList}
+use Rattle.plus_parser.proofs.PhraseLemmas.Forms.{some_is}
 use Rattle.plus_parser.specs.ReadingDomain.{is_own_type}
 use Rattle.plus_parser.specs.SpellsDomain.{SpellsTypes}
 use Rattle.plus_grammar.specs.Groups.{Group, IsGroup, AreGroups, IsMember, IsType, typed_names, IsList, AreTypes}

@@ -6,9 +6,9 @@ use Rattle.std.proofs.lemmas.List.Sums.{sum_by-cons}
 use Rattle.plus_tokens.specs.declared.token.Kind.{Kind}
 use Rattle.plus_tokens.specs.declared.token.Kind.TheVariants as kinds
 use Rattle.plus_tokens.specs.Items.{Piece}
-use Rattle.plus_reading.specs.Reading.{is_open}
-use Rattle.plus_reading.specs.Words.{is_close}
-use Rattle.plus_reading.specs.Spells.{room_step, room_after, FitsDepth}
+use Rattle.plus_parser.specs.Phrases.Reading.{is_open}
+use Rattle.plus_parser.specs.Phrases.Words.{is_close}
+use Rattle.plus_parser.specs.Phrases.Spells.{room_step, room_after, FitsDepth}
 use Rattle.plus_parser.specs.Balanced.{open_step, open_after, IsBalanced}
 use Rattle.plus_grammar.specs.Parentheses.{IsWithin, ArePaired}
 

@@ -7,8 +7,8 @@ use Rattle.plus_tree.specs.declared.terms.TypedName.{TypedName}
 use Rattle.plus_tree.specs.declared.trees.Init.{Init}
 use Rattle.plus_tree.specs.declared.trees.Problem.{Problem}
 use Rattle.plus_tree.specs.Cond.{Cond}
-use Rattle.plus_reading.specs.Spells.{added}
-use Rattle.plus_reading.proofs.Forms.{some_is}
+use Rattle.plus_parser.specs.Phrases.Spells.{added}
+use Rattle.plus_parser.proofs.PhraseLemmas.Forms.{some_is}
 use Rattle.plus_parser.specs.declared.parts.ProblemParts.{ProblemParts}
 use Rattle.plus_parser.specs.ReadingProblem.{no_problem_parts, problem_made}
 use Rattle.plus_parser.specs.SpellsProblem.{ProblemPart, p_domain, p_requirements, p_objects, p_init, p_goal, p_metric, with_problem_part}

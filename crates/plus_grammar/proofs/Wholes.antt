@@ -4,10 +4,10 @@ use Rattle.std.specs.Prelude.{◌↔◌}
 use Rattle.plus_tree.specs.declared.trees.Schema.{Schema}
 use Rattle.plus_tree.specs.declared.trees.Domain.{Domain}
 use Rattle.plus_tree.specs.declared.trees.Problem.{Problem}
-use Rattle.plus_reading.specs.declared.words.Allowed.TheVariants.{Names}
+use Rattle.plus_parser.specs.declared.phrases.words.Allowed.TheVariants.{Names}
 use Rattle.plus_tokens.specs.Items.{Piece}
-use Rattle.plus_reading.specs.Grammar.{spelled_of}
-use Rattle.plus_reading.specs.Spells.{Wrapped}
+use Rattle.plus_parser.specs.Phrases.Grammar.{spelled_of}
+use Rattle.plus_parser.specs.Phrases.Spells.{Wrapped}
 use Rattle.plus_parser.specs.ReadingDomain.{schema_made}
 use Rattle.plus_parser.specs.SpellsDomain.{SpellsHead, Key, k_parameters, k_condition, k_effect, SpellsKey, SpellsSchema, DomainPart, d_requirements, d_types, d_constants, d_predicates, d_functions, d_action, d_process, d_event, SpellsDomainPart, DomainTokens}
 use Rattle.plus_parser.specs.SpellsProblem.{ProblemPart, p_domain, p_requirements, p_objects, p_init, p_goal, p_metric, SpellsProblemPart, ProblemTokens}

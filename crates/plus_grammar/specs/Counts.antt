@@ -9,7 +9,7 @@ use Rattle.plus_tree.specs.declared.trees.Init.{Init}
 use Rattle.plus_tree.specs.declared.trees.Problem.{Problem}
 use Rattle.plus_tree.specs.Cond.{Cond, c_all, no_conds}
 use Rattle.plus_tree.specs.Effect.{Effect, e_all, no_effects}
-use Rattle.plus_reading.specs.Grammar.{nowhere}
+use Rattle.plus_parser.specs.Phrases.Grammar.{nowhere}
 use Rattle.plus_parser.specs.SpellsDomain.{Key, k_parameters, k_condition, k_effect, DomainPart, d_requirements, d_types, d_constants, d_predicates, d_functions, d_action, d_process, d_event}
 use Rattle.plus_parser.specs.SpellsProblem.{ProblemPart, p_domain, p_requirements, p_objects, p_init, p_goal, p_metric}
 

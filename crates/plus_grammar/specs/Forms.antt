@@ -4,10 +4,10 @@ use Rattle.plus_tokens.specs.declared.token.Op.TheVariants.{Equal}
 use Rattle.plus_tokens.specs.declared.span.Span.{Span}
 use Rattle.plus_tree.specs.Cond.{Cond, c_all, c_any, c_not, c_imply, c_forall, c_exists, c_atom, c_same, c_compare, Conds, no_conds, more_conds}
 use Rattle.plus_tree.specs.Effect.{Effect, e_all, e_forall, e_when, e_leaf, Effects, no_effects, more_effects}
-use Rattle.plus_reading.specs.declared.words.Allowed.TheVariants.{Terms}
+use Rattle.plus_parser.specs.declared.phrases.words.Allowed.TheVariants.{Terms}
 use Rattle.plus_tokens.specs.Items.{Piece}
-use Rattle.plus_reading.specs.Spells.{IsWord, IsSign, Wrapped, sign_of, SpellsArgument, SpellsUse, SpellsExpr}
-use Rattle.plus_forms.specs.SpellsForms.{SpellsLeaf, SpellsSimple}
+use Rattle.plus_parser.specs.Phrases.Spells.{IsWord, IsSign, Wrapped, sign_of, SpellsArgument, SpellsUse, SpellsExpr}
+use Rattle.plus_parser.specs.Forms.SpellsForms.{SpellsLeaf, SpellsSimple}
 use Rattle.plus_grammar.specs.Groups.{AreVariables}
 
 -- `()`

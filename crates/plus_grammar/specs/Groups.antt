@@ -5,11 +5,11 @@ use Rattle.plus_tokens.specs.declared.span.Span.{Span}
 use Rattle.plus_tree.specs.declared.names.Spelled.{Spelled}
 use Rattle.plus_tree.specs.declared.terms.TypedName.{TypedName}
 use Rattle.plus_tree.specs.declared.trees.Head.{Head}
-use Rattle.plus_reading.specs.declared.words.Allowed.{Allowed}
-use Rattle.plus_reading.specs.declared.words.Allowed.TheVariants.{Names, Variables}
+use Rattle.plus_parser.specs.declared.phrases.words.Allowed.{Allowed}
+use Rattle.plus_parser.specs.declared.phrases.words.Allowed.TheVariants.{Names, Variables}
 use Rattle.plus_tokens.specs.Items.{Piece}
-use Rattle.plus_reading.specs.Grammar.{spelled_of, named_of, of_type, object_type}
-use Rattle.plus_reading.specs.Spells.{IsName, IsWord, IsSign, IsPlain, IsAllowed, Wrapped, Chain}
+use Rattle.plus_parser.specs.Phrases.Grammar.{spelled_of, named_of, of_type, object_type}
+use Rattle.plus_parser.specs.Phrases.Spells.{IsName, IsWord, IsSign, IsPlain, IsAllowed, Wrapped, Chain}
 use Rattle.plus_parser.specs.ReadingDomain.{is_own_type}
 
 -- some members of a list, and the type that is written behind them

@@ -7,10 +7,10 @@ use Rattle.plus_tree.specs.declared.trees.Domain.{Domain}
 use Rattle.plus_tree.specs.declared.trees.Problem.{Problem}
 use Rattle.plus_tree.specs.Cond.{Cond}
 use Rattle.plus_tree.specs.Effect.{Effect}
-use Rattle.plus_reading.specs.declared.words.Allowed.{Allowed}
+use Rattle.plus_parser.specs.declared.phrases.words.Allowed.{Allowed}
 use Rattle.plus_tokens.specs.Items.{Piece, tok, items_of}
-use Rattle.plus_reading.specs.Spells.{added, SpellsList, FitsDepth}
-use Rattle.plus_forms.specs.SpellsForms.{SpellsCond, SpellsEffect}
+use Rattle.plus_parser.specs.Phrases.Spells.{added, SpellsList, FitsDepth}
+use Rattle.plus_parser.specs.Forms.SpellsForms.{SpellsCond, SpellsEffect}
 use Rattle.plus_parser.specs.declared.parts.Keys.{Keys}
 use Rattle.plus_parser.specs.declared.parts.DomainParts.{DomainParts}
 use Rattle.plus_parser.specs.declared.parts.ProblemParts.{ProblemParts}

@@ -1,8 +1,8 @@
 -- Parentheses, by their counts in front of each place.
 use Rattle.std.specs.Prelude.{◌≡◌, ℕ, ◌+◌, ◌≤◌, List, ◌++◌, count_by}
 use Rattle.plus_tokens.specs.Items.{Piece}
-use Rattle.plus_reading.specs.Reading.{is_open}
-use Rattle.plus_reading.specs.Words.{is_close}
+use Rattle.plus_parser.specs.Phrases.Reading.{is_open}
+use Rattle.plus_parser.specs.Phrases.Words.{is_close}
 
 -- how many parentheses these tokens open, and how many they close
 abbrev pub opened : List Piece → ℕ

@@ -11,9 +11,9 @@ use Rattle.plus_tree.specs.declared.trees.Domain.{Domain}
 use Rattle.plus_tree.specs.declared.trees.Problem.{Problem}
 use Rattle.plus_tree.specs.Cond.{Cond, c_all, no_conds}
 use Rattle.plus_tree.specs.Effect.{e_all, no_effects}
-use Rattle.plus_reading.specs.declared.words.Allowed.TheVariants.{Names}
+use Rattle.plus_parser.specs.declared.phrases.words.Allowed.TheVariants.{Names}
 use Rattle.plus_tokens.specs.Items.{Piece}
-use Rattle.plus_reading.specs.Grammar.{nowhere, spelled_of, of_type, object_type}
+use Rattle.plus_parser.specs.Phrases.Grammar.{nowhere, spelled_of, of_type, object_type}
 use Rattle.plus_parser.specs.SpellsDomain.{k_parameters, k_condition, d_types, d_action}
 use Rattle.plus_parser.specs.SpellsProblem.{p_domain, p_init, p_goal, p_metric}
 use Rattle.plus_grammar.specs.Groups.{IsList}

@@ -21,7 +21,7 @@ use Rattle.plus_state.specs.Numbers.{AreMembers}
 use Rattle.plus_state.specs.Walk.{event_conditions, process_conditions, OthersFalse}
 use Rattle.plus_reads.specs.Tables.{ReadAny}
 use Rattle.plus_crossing.specs.Rated.{moving_of}
-use Rattle.plus_still.specs.Others.{OthersStill}
+use Rattle.plus_settle.specs.Still.Others.{OthersStill}
 use Rattle.plus_settle.proofs.ShortLemmas.{stands_by}
 use Rattle.plus_reads.specs.Quiet.{OthersQuiet}
 use Rattle.plus_reads.specs.Indexing.{Indexes}

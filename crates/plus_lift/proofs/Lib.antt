@@ -2,3 +2,4 @@ pub mod LiftLemmas
 pub mod TimeLemmas
 pub mod OverflowLemmas
 pub mod OneLift
+pub mod CommandLemmas

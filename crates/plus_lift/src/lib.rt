@@ -3,6 +3,7 @@
 //! Rounds of events are dropped, each step counts, and each other call has the time of the steps before it.
 #![tactic(auto)]
 
+pub mod command;
 pub mod fault;
 pub mod lifting;
 mod line;

@@ -20,28 +20,28 @@ use Rattle.plus_parser.specs.declared.keywords.KeyWord.TheVariants as keys
 use Rattle.plus_parser.specs.declared.keywords.DomainWord.{DomainWord}
 use Rattle.plus_parser.specs.declared.keywords.DomainWord.TheVariants as domains
 use Rattle.plus_tokens.specs.Items.{Piece, Item, tok}
-use Rattle.plus_reading.specs.Reading.{◌>>=◌, Read, is_open}
-use Rattle.plus_reading.specs.Words.{is_close, is_keyword, is_plain, is_word, is_minus}
+use Rattle.plus_parser.specs.Phrases.Reading.{◌>>=◌, Read, is_open}
+use Rattle.plus_parser.specs.Phrases.Words.{is_close, is_keyword, is_plain, is_word, is_minus}
 use Rattle.plus_parser.specs.Keywords.{key_of, domain_part_of}
-use Rattle.plus_reading.specs.Grammar.{around, spelled_of, open_of, name_of, plain_of, word_of, until_close, form_step, bare_of, Listing, no_names, list_step, list_of, variables_of}
-use Rattle.plus_reading.specs.declared.words.Allowed.TheVariants as allows
-use Rattle.plus_forms.specs.ReadingForms.{cond_at, effect_at}
+use Rattle.plus_parser.specs.Phrases.Grammar.{around, spelled_of, open_of, name_of, plain_of, word_of, until_close, form_step, bare_of, Listing, no_names, list_step, list_of, variables_of}
+use Rattle.plus_parser.specs.declared.phrases.words.Allowed.TheVariants as allows
+use Rattle.plus_parser.specs.Forms.ReadingForms.{cond_at, effect_at}
 use Rattle.plus_parser.specs.ReadingDomain.{requirement_step, predicate_at, no_functions, number_type, function_step, no_keys, key_with, key_step, schema_made, schema_of, no_parts, domain_part_with, domain_part, never_full, end_of, front_of, domain_made, domain_step, domain_in, types_of}
-use Rattle.plus_reading.specs.Spells.{IsClose, with_last, room_after}
-use Rattle.plus_forms.specs.SpellsForms.{SpellsCond, SpellsEffect}
+use Rattle.plus_parser.specs.Phrases.Spells.{IsClose, with_last, room_after}
+use Rattle.plus_parser.specs.Forms.SpellsForms.{SpellsCond, SpellsEffect}
 use Rattle.plus_parser.specs.SpellsDomain.{SpellsRequirement, SpellsHead, f_head, f_number, SpellsFunctionPart, with_function, k_parameters, k_condition, k_effect, SpellsKey, with_key, SpellsSchema, d_requirements, d_types, d_constants, d_predicates, d_functions, d_action, d_process, d_event, SpellsDomainPart, with_domain_part, DomainTokens}
-use Rattle.plus_reading.proofs.Tokens.{toks, toks_last, toks_all, enough, bind_ok, ok_is, next_again, next_open, wanted, refused, open_kind, token_takes}
-use Rattle.plus_reading.proofs.Names.{plain_name, keyword_is, word_is}
-use Rattle.plus_reading.proofs.Level.{Even, Level, is_flat, after_flat, level_flat, level_at, level_wrapped, even_open}
-use Rattle.plus_forms.proofs.FormLevels.{level_cond}
-use Rattle.plus_reading.proofs.Flat.{IsFlat, keyword_flat, name_flat, says_flat, flat_next, flat_level}
-use Rattle.plus_reading.proofs.UntilTakes.{Took, Takes, until_takes}
-use Rattle.plus_reading.proofs.UntilAgain.{Again, Levels, level_chain, until_again}
-use Rattle.plus_reading.proofs.Forms.{FormTook, FormTakes, FormAgain, Begins, close_took, enters, form_takes, form_again, let_through, some_is, list_takes, list_again}
-use Rattle.plus_reading.proofs.TypedLists.{minus_is, level_listing, level_list, level_variables, listing_takes, listing_again, list_takes as names_takes, list_again as names_again, variables_takes, variables_again}
-use Rattle.plus_reading.proofs.Starts.{plain_again, opened_takes, opened_again}
-use Rattle.plus_forms.proofs.ConditionLaws.{cond_takes, cond_again, cond_begins}
-use Rattle.plus_forms.proofs.EffectLaws.{effect_takes, effect_again, effect_begins, level_effect}
+use Rattle.plus_parser.proofs.PhraseLemmas.Tokens.{toks, toks_last, toks_all, enough, bind_ok, ok_is, next_again, next_open, wanted, refused, open_kind, token_takes}
+use Rattle.plus_parser.proofs.PhraseLemmas.Names.{plain_name, keyword_is, word_is}
+use Rattle.plus_parser.proofs.PhraseLemmas.Level.{Even, Level, is_flat, after_flat, level_flat, level_at, level_wrapped, even_open}
+use Rattle.plus_parser.proofs.FormLemmas.FormLevels.{level_cond}
+use Rattle.plus_parser.proofs.PhraseLemmas.Flat.{IsFlat, keyword_flat, name_flat, says_flat, flat_next, flat_level}
+use Rattle.plus_parser.proofs.PhraseLemmas.UntilTakes.{Took, Takes, until_takes}
+use Rattle.plus_parser.proofs.PhraseLemmas.UntilAgain.{Again, Levels, level_chain, until_again}
+use Rattle.plus_parser.proofs.PhraseLemmas.Forms.{FormTook, FormTakes, FormAgain, Begins, close_took, enters, form_takes, form_again, let_through, some_is, list_takes, list_again}
+use Rattle.plus_parser.proofs.PhraseLemmas.TypedLists.{minus_is, level_listing, level_list, level_variables, listing_takes, listing_again, list_takes as names_takes, list_again as names_again, variables_takes, variables_again}
+use Rattle.plus_parser.proofs.PhraseLemmas.Starts.{plain_again, opened_takes, opened_again}
+use Rattle.plus_parser.proofs.FormLemmas.ConditionLaws.{cond_takes, cond_again, cond_begins}
+use Rattle.plus_parser.proofs.FormLemmas.EffectLaws.{effect_takes, effect_again, effect_begins, level_effect}
 use Rattle.plus_parser.proofs.Sections.{name_taken, name_read, word_read, PartTook, PartTakes, Shapes, PartAgain, section_takes, section_levels, section_again, end_takes, end_again, front_takes, framed, frame_even, frame_shape, front_again}
 
 -- ---- requirements

@@ -4,3 +4,5 @@ pub mod DomainLaws
 pub mod TimedLaws
 pub mod ProblemLaws
 pub mod Wholes
+pub mod PhraseLemmas
+pub mod FormLemmas

@@ -10,9 +10,9 @@ use Rattle.plus_tree.specs.declared.trees.Init.{Init}
 use Rattle.plus_tree.specs.declared.trees.Init.TheVariants.{Holds, Absent, Value, At, AtNot}
 use Rattle.plus_tree.specs.declared.terms.Literal.{Literal}
 use Rattle.plus_tree.specs.declared.terms.Comparison.TheVariants.{Equal}
-use Rattle.plus_reading.specs.declared.words.Allowed.TheVariants as allows
-use Rattle.plus_reading.specs.declared.words.HeadWord.{HeadWord}
-use Rattle.plus_reading.specs.declared.words.HeadWord.TheVariants.{Not, Compare, Plain}
+use Rattle.plus_parser.specs.declared.phrases.words.Allowed.TheVariants as allows
+use Rattle.plus_parser.specs.declared.phrases.words.HeadWord.{HeadWord}
+use Rattle.plus_parser.specs.declared.phrases.words.HeadWord.TheVariants.{Not, Compare, Plain}
 use Rattle.plus_tree.specs.declared.trees.Problem.{Problem}
 use Rattle.plus_tree.specs.declared.faults.TextFault.{TextFault}
 use Rattle.plus_tree.specs.declared.faults.TextFault.TheVariants as faults
@@ -21,31 +21,31 @@ use Rattle.plus_parser.specs.declared.parts.ProblemParts.{ProblemParts}
 use Rattle.plus_parser.specs.declared.keywords.ProblemWord.{ProblemWord}
 use Rattle.plus_parser.specs.declared.keywords.ProblemWord.TheVariants as problems
 use Rattle.plus_tokens.specs.Items.{Piece, Item, tok}
-use Rattle.plus_reading.specs.Reading.{◌>>=◌, Read, next_of, is_open}
-use Rattle.plus_reading.specs.Words.{is_keyword, head_of, is_word, is_time, word_head, kind_head}
+use Rattle.plus_parser.specs.Phrases.Reading.{◌>>=◌, Read, next_of, is_open}
+use Rattle.plus_parser.specs.Phrases.Words.{is_keyword, head_of, is_word, is_time, word_head, kind_head}
 use Rattle.plus_parser.specs.Keywords.{problem_part_of}
-use Rattle.plus_reading.specs.Grammar.{around, time_ahead, spelled_of, open_of, close_of, name_of, until_close, form_step, use_of, use_end, use_form, list_of}
+use Rattle.plus_parser.specs.Phrases.Grammar.{around, time_ahead, spelled_of, open_of, close_of, name_of, until_close, form_step, use_of, use_end, use_form, list_of}
 use Rattle.plus_parser.specs.Balanced.{skipped}
 use Rattle.plus_parser.proofs.Skips.{skip_takes, skip_again, level_balanced}
-use Rattle.plus_forms.specs.ReadingForms.{cond_at}
+use Rattle.plus_parser.specs.Forms.ReadingForms.{cond_at}
 use Rattle.plus_parser.specs.ReadingDomain.{requirement_step, end_of, front_of}
 use Rattle.plus_parser.specs.ReadingProblem.{literal_next, timed_of, plain_init, init_with, init_at, no_problem_parts, problem_part_with, problem_part, all_found, problem_step, problem_made, or_early, problem_in}
-use Rattle.plus_reading.specs.Spells.{IsWord, with_last, SpellsUse}
-use Rattle.plus_forms.specs.SpellsForms.{SpellsCond}
+use Rattle.plus_parser.specs.Phrases.Spells.{IsWord, with_last, SpellsUse}
+use Rattle.plus_parser.specs.Forms.SpellsForms.{SpellsCond}
 use Rattle.plus_parser.specs.SpellsDomain.{SpellsRequirement, Framed}
 use Rattle.plus_parser.specs.SpellsProblem.{SpellsTimed, SpellsInit, ProblemPart, p_domain, p_requirements, p_objects, p_init, p_goal, p_metric, SpellsProblemPart, with_problem_part, ProblemTokens}
-use Rattle.plus_reading.proofs.Tokens.{toks, toks_last, toks_all, enough, bind_ok, ok_is, next_ok, next_again, refused}
-use Rattle.plus_reading.proofs.Names.{plain_name, word_is, word_fits}
-use Rattle.plus_reading.proofs.Level.{Even, Level, is_flat, after_flat, number_flat, level_flat, level_append, level_wrapped, level_name, level_use, level_args, even_append, split_append}
-use Rattle.plus_forms.proofs.FormLevels.{level_cond}
-use Rattle.plus_reading.proofs.Flat.{IsFlat, name_flat, says_flat, flat_level}
-use Rattle.plus_reading.proofs.UntilTakes.{Takes, until_takes}
-use Rattle.plus_reading.proofs.UntilAgain.{Again, Levels, level_chain, until_again}
-use Rattle.plus_reading.proofs.Forms.{FormTook, FormTakes, FormAgain, Begins, close_took, enters, form_takes, form_again, let_through, some_is, list_takes, list_again}
-use Rattle.plus_reading.proofs.Heads.{worded, compare_is, plain_is, plain_head, word_heads, sign_heads}
-use Rattle.plus_reading.proofs.TypedLists.{level_list, list_takes as names_takes, list_again as names_again}
-use Rattle.plus_reading.proofs.Starts.{name_again, close_again, opened_takes, opened_again, use_takes, use_again, use_spelled, use_made, use_form_takes, use_form_again}
-use Rattle.plus_forms.proofs.ConditionLaws.{cond_takes, cond_again, cond_begins}
+use Rattle.plus_parser.proofs.PhraseLemmas.Tokens.{toks, toks_last, toks_all, enough, bind_ok, ok_is, next_ok, next_again, refused}
+use Rattle.plus_parser.proofs.PhraseLemmas.Names.{plain_name, word_is, word_fits}
+use Rattle.plus_parser.proofs.PhraseLemmas.Level.{Even, Level, is_flat, after_flat, number_flat, level_flat, level_append, level_wrapped, level_name, level_use, level_args, even_append, split_append}
+use Rattle.plus_parser.proofs.FormLemmas.FormLevels.{level_cond}
+use Rattle.plus_parser.proofs.PhraseLemmas.Flat.{IsFlat, name_flat, says_flat, flat_level}
+use Rattle.plus_parser.proofs.PhraseLemmas.UntilTakes.{Takes, until_takes}
+use Rattle.plus_parser.proofs.PhraseLemmas.UntilAgain.{Again, Levels, level_chain, until_again}
+use Rattle.plus_parser.proofs.PhraseLemmas.Forms.{FormTook, FormTakes, FormAgain, Begins, close_took, enters, form_takes, form_again, let_through, some_is, list_takes, list_again}
+use Rattle.plus_parser.proofs.PhraseLemmas.Heads.{worded, compare_is, plain_is, plain_head, word_heads, sign_heads}
+use Rattle.plus_parser.proofs.PhraseLemmas.TypedLists.{level_list, list_takes as names_takes, list_again as names_again}
+use Rattle.plus_parser.proofs.PhraseLemmas.Starts.{name_again, close_again, opened_takes, opened_again, use_takes, use_again, use_spelled, use_made, use_form_takes, use_form_again}
+use Rattle.plus_parser.proofs.FormLemmas.ConditionLaws.{cond_takes, cond_again, cond_begins}
 use Rattle.plus_parser.proofs.DomainLaws.{requirement_takes, requirement_levels, requirement_again}
 use Rattle.plus_parser.proofs.TimedLaws.{number_takes, number_again, number_level, time_number, names_no_time, SpellsFalse, not_level, timed_takes, TimedAgain, at_again, at_not_again}
 use Rattle.plus_parser.proofs.Sections.{name_taken, close_taken, name_read, PartTook, PartTakes, Shapes, PartAgain, section_takes, section_levels, section_again, end_takes, end_again, front_takes, framed, frame_even, frame_shape, front_again}

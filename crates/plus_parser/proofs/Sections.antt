@@ -6,19 +6,19 @@ use Rattle.plus_tokens.specs.declared.span.Span.{Span}
 use Rattle.plus_tree.specs.declared.names.Spelled.{Spelled}
 use Rattle.plus_tree.specs.declared.faults.TextFault.TheVariants as faults
 use Rattle.plus_tokens.specs.Items.{Piece, Item, tok, bad}
-use Rattle.plus_reading.specs.Reading.{◌>>=◌, Read, next_of, is_open}
-use Rattle.plus_reading.specs.Words.{is_close, is_name, is_word}
-use Rattle.plus_reading.specs.Grammar.{around, spelled_of, open_of, close_of, name_of, word_of}
+use Rattle.plus_parser.specs.Phrases.Reading.{◌>>=◌, Read, next_of, is_open}
+use Rattle.plus_parser.specs.Phrases.Words.{is_close, is_name, is_word}
+use Rattle.plus_parser.specs.Phrases.Grammar.{around, spelled_of, open_of, close_of, name_of, word_of}
 use Rattle.plus_parser.specs.ReadingDomain.{Sectioner, section_step, front_of, end_of}
-use Rattle.plus_reading.specs.Spells.{IsOpen, IsClose, IsName, IsWord, Wrapped, room_after}
+use Rattle.plus_parser.specs.Phrases.Spells.{IsOpen, IsClose, IsName, IsWord, Wrapped, room_after}
 use Rattle.plus_parser.specs.SpellsDomain.{Framed}
-use Rattle.plus_reading.proofs.Tokens.{toks, toks_last, bind_ok, ok_is, next_ok, next_open, wanted, refused, open_kind, close_kind, token_takes, token_again}
-use Rattle.plus_reading.proofs.Names.{name_kind, word_is, word_fits}
-use Rattle.plus_reading.proofs.Level.{Even, Level, after_none, level_wrapped, split_wrapped, even_wrapped, last_even}
-use Rattle.plus_reading.proofs.Flat.{IsFlat, name_flat, flat_next, flat_level, open_room, close_room}
-use Rattle.plus_reading.proofs.UntilTakes.{Takes}
-use Rattle.plus_reading.proofs.UntilAgain.{Again, Levels}
-use Rattle.plus_reading.proofs.Starts.{open_again, close_again}
+use Rattle.plus_parser.proofs.PhraseLemmas.Tokens.{toks, toks_last, bind_ok, ok_is, next_ok, next_open, wanted, refused, open_kind, close_kind, token_takes, token_again}
+use Rattle.plus_parser.proofs.PhraseLemmas.Names.{name_kind, word_is, word_fits}
+use Rattle.plus_parser.proofs.PhraseLemmas.Level.{Even, Level, after_none, level_wrapped, split_wrapped, even_wrapped, last_even}
+use Rattle.plus_parser.proofs.PhraseLemmas.Flat.{IsFlat, name_flat, flat_next, flat_level, open_room, close_room}
+use Rattle.plus_parser.proofs.PhraseLemmas.UntilTakes.{Takes}
+use Rattle.plus_parser.proofs.PhraseLemmas.UntilAgain.{Again, Levels}
+use Rattle.plus_parser.proofs.PhraseLemmas.Starts.{open_again, close_again}
 
 pub name_taken : (room : ℕ) (p : Piece) (items rest : List Item) → name_of room items ≡ Ok (p, rest) → IsName p × (items ≡ tok p ∷ rest)
 name_taken room p items rest e = let t = token_takes (λ q. is_name q.kind) room p items rest e in (name_kind p.kind t.fits, t.whole)

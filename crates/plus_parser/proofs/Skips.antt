@@ -7,11 +7,11 @@ use Rattle.plus_tokens.specs.declared.span.Span.{Span}
 use Rattle.plus_tree.specs.declared.faults.TextFault.{TextFault}
 use Rattle.plus_tree.specs.declared.faults.TextFault.TheVariants as faults
 use Rattle.plus_tokens.specs.Items.{Piece, Item, tok}
-use Rattle.plus_reading.specs.Reading.{◌>>=◌, Read, next_of, is_open}
-use Rattle.plus_reading.specs.Words.{is_close}
-use Rattle.plus_reading.specs.Spells.{IsClose, room_step, room_after}
-use Rattle.plus_reading.proofs.Tokens.{toks, bind_ok, ok_is, next_ok, next_some, next_again, next_there, open_kind, close_kind}
-use Rattle.plus_reading.proofs.Level.{Level}
+use Rattle.plus_parser.specs.Phrases.Reading.{◌>>=◌, Read, next_of, is_open}
+use Rattle.plus_parser.specs.Phrases.Words.{is_close}
+use Rattle.plus_parser.specs.Phrases.Spells.{IsClose, room_step, room_after}
+use Rattle.plus_parser.proofs.PhraseLemmas.Tokens.{toks, bind_ok, ok_is, next_ok, next_some, next_again, next_there, open_kind, close_kind}
+use Rattle.plus_parser.proofs.PhraseLemmas.Level.{Level}
 use Rattle.plus_parser.specs.Balanced.{open_step, open_after, IsBalanced, Skipper, skip_with, skip, skipped}
 
 nothing_left : (rest : List Item) → length rest ≤ 0 → rest ≡ []

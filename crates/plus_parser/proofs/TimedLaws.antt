@@ -7,24 +7,24 @@ use Rattle.plus_tree.specs.declared.terms.Use.{Use}
 use Rattle.plus_tree.specs.declared.terms.Literal.{Literal}
 use Rattle.plus_tree.specs.declared.trees.Init.{Init}
 use Rattle.plus_tree.specs.declared.trees.Init.TheVariants.{At, AtNot}
-use Rattle.plus_reading.specs.declared.words.Allowed.{Allowed}
-use Rattle.plus_reading.specs.declared.words.Allowed.TheVariants as allows
-use Rattle.plus_reading.specs.declared.words.HeadWord.{HeadWord}
-use Rattle.plus_reading.specs.declared.words.HeadWord.TheVariants.{Not, Plain}
-use Rattle.plus_reading.specs.Literals.{literal_of}
+use Rattle.plus_parser.specs.declared.phrases.words.Allowed.{Allowed}
+use Rattle.plus_parser.specs.declared.phrases.words.Allowed.TheVariants as allows
+use Rattle.plus_parser.specs.declared.phrases.words.HeadWord.{HeadWord}
+use Rattle.plus_parser.specs.declared.phrases.words.HeadWord.TheVariants.{Not, Plain}
+use Rattle.plus_parser.specs.Phrases.Literals.{literal_of}
 use Rattle.plus_tokens.specs.Items.{Piece, Item, tok}
-use Rattle.plus_reading.specs.Reading.{◌>>=◌, Read, next_of, is_open}
-use Rattle.plus_reading.specs.Words.{head_of, is_time, kind_time}
-use Rattle.plus_reading.specs.Grammar.{around, time_ahead, is_time_read, open_of, close_of, use_of, use_end, use_form}
-use Rattle.plus_reading.specs.Spells.{IsClose, IsWord, IsNumber, Wrapped, Chain, SpellsArgument, SpellsUse, room_after}
-use Rattle.plus_reading.proofs.Tokens.{toks, toks_last, bind_ok, ok_is, next_ok, next_again, open_kind, token_takes}
-use Rattle.plus_reading.proofs.Names.{name_kind, plain_name}
-use Rattle.plus_reading.proofs.Level.{Even, Level, number_flat, level_flat, level_none, level_wrapped, level_name, level_use, split_wrapped, even_open}
-use Rattle.plus_reading.proofs.Flat.{name_flat}
-use Rattle.plus_reading.proofs.Forms.{FormTook, close_took}
-use Rattle.plus_reading.proofs.Heads.{worded, plain_is, plain_head, word_heads}
-use Rattle.plus_reading.proofs.Starts.{name_again, open_again, close_again, use_takes, use_again, use_spelled, use_made, use_form_takes, use_form_again}
-use Rattle.plus_reading.proofs.ExprLaws.{not_open}
+use Rattle.plus_parser.specs.Phrases.Reading.{◌>>=◌, Read, next_of, is_open}
+use Rattle.plus_parser.specs.Phrases.Words.{head_of, is_time, kind_time}
+use Rattle.plus_parser.specs.Phrases.Grammar.{around, time_ahead, is_time_read, open_of, close_of, use_of, use_end, use_form}
+use Rattle.plus_parser.specs.Phrases.Spells.{IsClose, IsWord, IsNumber, Wrapped, Chain, SpellsArgument, SpellsUse, room_after}
+use Rattle.plus_parser.proofs.PhraseLemmas.Tokens.{toks, toks_last, bind_ok, ok_is, next_ok, next_again, open_kind, token_takes}
+use Rattle.plus_parser.proofs.PhraseLemmas.Names.{name_kind, plain_name}
+use Rattle.plus_parser.proofs.PhraseLemmas.Level.{Even, Level, number_flat, level_flat, level_none, level_wrapped, level_name, level_use, split_wrapped, even_open}
+use Rattle.plus_parser.proofs.PhraseLemmas.Flat.{name_flat}
+use Rattle.plus_parser.proofs.PhraseLemmas.Forms.{FormTook, close_took}
+use Rattle.plus_parser.proofs.PhraseLemmas.Heads.{worded, plain_is, plain_head, word_heads}
+use Rattle.plus_parser.proofs.PhraseLemmas.Starts.{name_again, open_again, close_again, use_takes, use_again, use_spelled, use_made, use_form_takes, use_form_again}
+use Rattle.plus_parser.proofs.PhraseLemmas.ExprLaws.{not_open}
 use Rattle.plus_parser.specs.ReadingProblem.{literal_or, literal_next, timed_with, timed_of}
 use Rattle.plus_parser.specs.SpellsProblem.{SpellsNot, SpellsTimed, SpellsInit}
 use Rattle.plus_parser.proofs.Sections.{close_taken}

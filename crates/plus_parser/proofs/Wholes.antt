@@ -6,13 +6,13 @@ use Rattle.plus_tree.specs.declared.trees.Problem.{Problem}
 use Rattle.plus_tree.specs.declared.faults.TextFault.{TextFault}
 use Rattle.plus_tree.specs.declared.faults.TextFault.TheVariants as faults
 use Rattle.plus_tokens.specs.Items.{items_of}
-use Rattle.plus_reading.specs.Reading.{Fails}
+use Rattle.plus_parser.specs.Phrases.Reading.{Fails}
 use Rattle.plus_parser.specs.ReadingDomain.{domain_in, domain_of}
 use Rattle.plus_parser.specs.ReadingProblem.{problem_in, problem_of}
 use Rattle.plus_parser.specs.SpellsDomain.{Spells, SpellsWithin}
 use Rattle.plus_parser.specs.SpellsProblem.{SpellsProblem, SpellsProblemWithin}
-use Rattle.plus_reading.proofs.Tokens.{ok_is, done}
-use Rattle.plus_reading.proofs.Level.{even_there}
+use Rattle.plus_parser.proofs.PhraseLemmas.Tokens.{ok_is, done}
+use Rattle.plus_parser.proofs.PhraseLemmas.Level.{even_there}
 use Rattle.plus_parser.proofs.Sections.{body_even, body_short}
 use Rattle.plus_parser.proofs.DomainLaws.{domain_takes, domain_level, domain_again}
 use Rattle.plus_parser.proofs.ProblemLaws.{problem_takes, problem_level, problem_again}

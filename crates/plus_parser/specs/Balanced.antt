@@ -5,7 +5,7 @@ use Rattle.plus_tokens.specs.declared.token.Kind.TheVariants as kinds
 use Rattle.plus_tokens.specs.declared.span.Span.{Span}
 use Rattle.plus_tree.specs.declared.faults.TextFault.TheVariants as faults
 use Rattle.plus_tokens.specs.Items.{Piece, Item}
-use Rattle.plus_reading.specs.Reading.{◌>>=◌, Read, next_of}
+use Rattle.plus_parser.specs.Phrases.Reading.{◌>>=◌, Read, next_of}
 
 -- ---- the relation
 

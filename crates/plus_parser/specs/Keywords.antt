@@ -8,7 +8,7 @@ use Rattle.plus_parser.specs.declared.keywords.DomainWord.TheVariants as domains
 use Rattle.plus_parser.specs.declared.keywords.ProblemWord.{ProblemWord}
 use Rattle.plus_parser.specs.declared.keywords.ProblemWord.TheVariants as problems
 use Rattle.plus_tokens.specs.Items.{Piece}
-use Rattle.plus_reading.specs.Words.{look, is_keyword}
+use Rattle.plus_parser.specs.Phrases.Words.{look, is_keyword}
 
 -- what a keyword's word says; another token says nothing
 abbrev pub by_keyword : {A : Type 0} → A → (List ℕ → A) → Piece → A

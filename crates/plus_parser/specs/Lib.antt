@@ -1,11 +1,9 @@
 pub use Rattle.plus_tokens.specs.Items
-pub use Rattle.plus_reading.specs.Reading
-pub use Rattle.plus_reading.specs.Words
-pub use Rattle.plus_reading.specs.Grammar
-pub use Rattle.plus_reading.specs.Spells
 pub mod Keywords
 pub mod Balanced
 pub mod ReadingDomain
 pub mod ReadingProblem
 pub mod SpellsDomain
 pub mod SpellsProblem
+pub mod Phrases
+pub mod Forms

@@ -19,12 +19,12 @@ use Rattle.plus_parser.specs.declared.keywords.KeyWord.TheVariants as keys
 use Rattle.plus_parser.specs.declared.keywords.DomainWord.{DomainWord}
 use Rattle.plus_parser.specs.declared.keywords.DomainWord.TheVariants as domains
 use Rattle.plus_tokens.specs.Items.{Piece, Item, tok, bad}
-use Rattle.plus_reading.specs.Reading.{◌>>=◌, Read, next_of, is_open}
-use Rattle.plus_reading.specs.Words.{is_keyword, is_minus}
+use Rattle.plus_parser.specs.Phrases.Reading.{◌>>=◌, Read, next_of, is_open}
+use Rattle.plus_parser.specs.Phrases.Words.{is_keyword, is_minus}
 use Rattle.plus_parser.specs.Keywords.{key_of, domain_part_of}
-use Rattle.plus_reading.specs.declared.words.Allowed.TheVariants as allows
-use Rattle.plus_reading.specs.Grammar.{around, nowhere, spelled_of, bare_of, open_of, close_of, name_of, plain_of, word_of, Step, until_close, Former, form_step, Listing, no_names, list_step, all_typed, list_of, variables_of}
-use Rattle.plus_forms.specs.ReadingForms.{cond_at, effect_at}
+use Rattle.plus_parser.specs.declared.phrases.words.Allowed.TheVariants as allows
+use Rattle.plus_parser.specs.Phrases.Grammar.{around, nowhere, spelled_of, bare_of, open_of, close_of, name_of, plain_of, word_of, Step, until_close, Former, form_step, Listing, no_names, list_step, all_typed, list_of, variables_of}
+use Rattle.plus_parser.specs.Forms.ReadingForms.{cond_at, effect_at}
 
 -- ---- requirements, types and predicates
 

@@ -6,10 +6,10 @@ use Rattle.plus_tree.specs.declared.trees.Init.{Init}
 use Rattle.plus_tree.specs.declared.trees.Init.TheVariants.{Holds, Absent, Value, At, AtNot}
 use Rattle.plus_tree.specs.declared.terms.Literal.{Literal}
 use Rattle.plus_tree.specs.declared.terms.Comparison.TheVariants.{Equal}
-use Rattle.plus_reading.specs.declared.words.Allowed.TheVariants as allows
-use Rattle.plus_reading.specs.declared.words.HeadWord.{HeadWord}
-use Rattle.plus_reading.specs.declared.words.HeadWord.TheVariants.{Not, Compare, Plain}
-use Rattle.plus_reading.specs.Literals.{literal_of}
+use Rattle.plus_parser.specs.declared.phrases.words.Allowed.TheVariants as allows
+use Rattle.plus_parser.specs.declared.phrases.words.HeadWord.{HeadWord}
+use Rattle.plus_parser.specs.declared.phrases.words.HeadWord.TheVariants.{Not, Compare, Plain}
+use Rattle.plus_parser.specs.Phrases.Literals.{literal_of}
 use Rattle.plus_tree.specs.declared.trees.Problem.{Problem}
 use Rattle.plus_tree.specs.declared.faults.TextFault.{TextFault}
 use Rattle.plus_tree.specs.declared.faults.TextFault.TheVariants as faults
@@ -17,12 +17,12 @@ use Rattle.plus_parser.specs.declared.parts.ProblemParts.{ProblemParts}
 use Rattle.plus_parser.specs.declared.keywords.ProblemWord.{ProblemWord}
 use Rattle.plus_parser.specs.declared.keywords.ProblemWord.TheVariants as problems
 use Rattle.plus_tokens.specs.Items.{Piece, Item}
-use Rattle.plus_reading.specs.Reading.{◌>>=◌, Read, next_of}
-use Rattle.plus_reading.specs.Words.{head_of, is_word}
+use Rattle.plus_parser.specs.Phrases.Reading.{◌>>=◌, Read, next_of}
+use Rattle.plus_parser.specs.Phrases.Words.{head_of, is_word}
 use Rattle.plus_parser.specs.Keywords.{problem_part_of}
-use Rattle.plus_reading.specs.Grammar.{around, time_ahead, spelled_of, open_of, close_of, name_of, Step, until_close, Former, form_step, use_end, use_form, list_of}
+use Rattle.plus_parser.specs.Phrases.Grammar.{around, time_ahead, spelled_of, open_of, close_of, name_of, Step, until_close, Former, form_step, use_end, use_form, list_of}
 use Rattle.plus_parser.specs.Balanced.{skipped}
-use Rattle.plus_forms.specs.ReadingForms.{cond_at}
+use Rattle.plus_parser.specs.Forms.ReadingForms.{cond_at}
 use Rattle.plus_parser.specs.ReadingDomain.{requirement_step, Sectioner, section_step, front_of, end_of}
 
 -- ---- the first state

@@ -17,11 +17,11 @@ use Rattle.plus_parser.specs.declared.keywords.KeyWord.TheVariants as keys
 use Rattle.plus_parser.specs.declared.keywords.DomainWord.TheVariants as domains
 use Rattle.plus_tokens.specs.Items.{Piece, tok, items_of}
 use Rattle.plus_parser.specs.Keywords.{key_of, domain_part_of}
-use Rattle.plus_reading.specs.declared.words.Allowed.TheVariants.{Names, Variables}
-use Rattle.plus_reading.specs.Grammar.{around, spelled_of, bare_of, Listing}
+use Rattle.plus_parser.specs.declared.phrases.words.Allowed.TheVariants.{Names, Variables}
+use Rattle.plus_parser.specs.Phrases.Grammar.{around, spelled_of, bare_of, Listing}
 use Rattle.plus_parser.specs.ReadingDomain.{types_of, no_functions, no_keys, no_parts, schema_made, domain_made}
-use Rattle.plus_reading.specs.Spells.{IsOpen, IsClose, IsName, IsWord, IsSign, IsPlain, Wrapped, Chain, added, SpellsListing, SpellsList, SpellsVariables, FitsDepth}
-use Rattle.plus_forms.specs.SpellsForms.{SpellsCond, SpellsEffect}
+use Rattle.plus_parser.specs.Phrases.Spells.{IsOpen, IsClose, IsName, IsWord, IsSign, IsPlain, Wrapped, Chain, added, SpellsListing, SpellsList, SpellsVariables, FitsDepth}
+use Rattle.plus_parser.specs.Forms.SpellsForms.{SpellsCond, SpellsEffect}
 
 abbrev pub SpellsRequirement : Spelled → List Piece → Type 0
 SpellsRequirement x ts = (p : Piece) × (p.kind ≡ kinds.Keyword) × (x ≡ bare_of p) × (ts ≡ p ∷ [])

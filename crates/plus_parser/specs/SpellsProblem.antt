@@ -14,14 +14,14 @@ use Rattle.plus_parser.specs.declared.parts.ProblemParts.{ProblemParts}
 use Rattle.plus_parser.specs.declared.keywords.ProblemWord.TheVariants as problems
 use Rattle.plus_tokens.specs.Items.{Piece, tok, items_of}
 use Rattle.plus_parser.specs.Keywords.{problem_part_of}
-use Rattle.plus_reading.specs.declared.words.Allowed.{Allowed}
-use Rattle.plus_reading.specs.declared.words.Allowed.TheVariants.{Names, Terms}
-use Rattle.plus_reading.specs.Words.{is_time}
-use Rattle.plus_reading.specs.Grammar.{spelled_of}
+use Rattle.plus_parser.specs.declared.phrases.words.Allowed.{Allowed}
+use Rattle.plus_parser.specs.declared.phrases.words.Allowed.TheVariants.{Names, Terms}
+use Rattle.plus_parser.specs.Phrases.Words.{is_time}
+use Rattle.plus_parser.specs.Phrases.Grammar.{spelled_of}
 use Rattle.plus_parser.specs.ReadingProblem.{no_problem_parts, problem_made}
-use Rattle.plus_reading.specs.Spells.{IsName, IsWord, IsSign, IsNumber, Wrapped, Chain, added, SpellsUse, FitsDepth, SpellsList}
+use Rattle.plus_parser.specs.Phrases.Spells.{IsName, IsWord, IsSign, IsNumber, Wrapped, Chain, added, SpellsUse, FitsDepth, SpellsList}
 use Rattle.plus_parser.specs.Balanced.{IsBalanced}
-use Rattle.plus_forms.specs.SpellsForms.{SpellsCond}
+use Rattle.plus_parser.specs.Forms.SpellsForms.{SpellsCond}
 use Rattle.plus_parser.specs.SpellsDomain.{SpellsRequirement, Framed}
 
 -- `(not (locked))`

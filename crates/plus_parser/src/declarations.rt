@@ -3,19 +3,19 @@
 ghost use Rattle.std.specs.Prelude.{◌≡◌, ◌&&◌, not, true, ◌<◌, ◌≤◌, [], filter, length, OnOk, IfOk, List, codes};
 ghost use Rattle.std.specs.Str.{bytes_eq};
 ghost use Rattle.plus_tokens.specs.Items.{Item};
-ghost use Rattle.plus_reading.specs.Reading.{Gives, is_open};
-ghost use Rattle.plus_reading.specs.Words.{is_minus};
-ghost use Rattle.plus_reading.specs.Grammar.{until_close, form_step};
-ghost use Rattle.plus_reading.specs.Listings.{listing};
+ghost use Rattle.plus_parser.specs.Phrases.Reading.{Gives, is_open};
+ghost use Rattle.plus_parser.specs.Phrases.Words.{is_minus};
+ghost use Rattle.plus_parser.specs.Phrases.Grammar.{until_close, form_step};
+ghost use Rattle.plus_parser.specs.Phrases.Listings.{listing};
 ghost use Rattle.plus_tokens.specs.Seen.{seen};
 ghost use Rattle.plus_parser.specs.ReadingDomain.{requirement_step, is_own_type, types_of, predicate_at, no_functions, number_type, function_step};
 
 use crate::parts::Functions;
-use plus_reading::lists::{Listed, list};
-use plus_reading::reader::Reader;
-use plus_reading::spelled::{bare_of, spelled_of};
-use plus_reading::uses::around;
-use plus_reading::words::{Allowed, is_close, is_minus, is_open};
+use crate::phrases::lists::{Listed, list};
+use crate::phrases::reader::Reader;
+use crate::phrases::spelled::{bare_of, spelled_of};
+use crate::phrases::uses::around;
+use crate::phrases::words::{Allowed, is_close, is_minus, is_open};
 use plus_tokens::{Kind, Seen};
 use plus_tree::{Head, Members, Span, Spelled, TextFault, TypedName};
 use std::alloc::{AllocError, Global};
@@ -105,7 +105,7 @@ fn predicate(
 }
 
 // One more predicate, which begins with a token.
-#[tactic(auto, unfolding(plus_reading::specs::Grammar::form_step))]
+#[tactic(auto, unfolding(crate::phrases::specs::Grammar::form_step))]
 fn next_predicate(
     alloc: Global,
     reader: &mut Reader<'_>,

@@ -2,8 +2,8 @@
 
 ghost use Rattle.std.specs.Prelude.{◌≡◌, true, ◌<◌, ◌≤◌, ◌-◌, ◌+◌, [], length, OnOk, Ok, MatchResult, codes};
 ghost use Rattle.plus_tokens.specs.Lowered.{lowered};
-ghost use Rattle.plus_reading.specs.Reading.{Gives, Fails, is_open};
-ghost use Rattle.plus_reading.specs.Grammar.{around, until_close, spelled_of};
+ghost use Rattle.plus_parser.specs.Phrases.Reading.{Gives, Fails, is_open};
+ghost use Rattle.plus_parser.specs.Phrases.Grammar.{around, until_close, spelled_of};
 ghost use Rattle.plus_tokens.specs.Seen.{seen};
 ghost use Rattle.plus_parser.specs.ReadingDomain.{section_step, schema_part_with, declared_part_with, domain_part, never_full, domain_step, no_parts, front_of, end_of, domain_of, domain_in};
 
@@ -11,11 +11,11 @@ use crate::declarations::{functions, predicates, requirements, types_of};
 use crate::keywords::{DomainWord, domain_part_of};
 use crate::parts::DomainParts;
 use crate::schemas::{or_none, schema};
-use plus_reading::lists::{list, names};
-use plus_reading::reader::Reader;
-use plus_reading::spelled::spelled_of;
-use plus_reading::uses::around;
-use plus_reading::words::{Allowed, is_close, is_open};
+use crate::phrases::lists::{list, names};
+use crate::phrases::reader::Reader;
+use crate::phrases::spelled::spelled_of;
+use crate::phrases::uses::around;
+use crate::phrases::words::{Allowed, is_close, is_open};
 use plus_tokens::Seen;
 use plus_tree::{Domain, Members, Span, Spelled, TextFault};
 use std::alloc::Global;

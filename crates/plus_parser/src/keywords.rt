@@ -3,10 +3,10 @@
 ghost use Rattle.std.specs.Prelude.{◌≡◌, List, ℕ, map};
 ghost use Rattle.plus_tokens.specs.Lowered.{lowered};
 ghost use Rattle.plus_tokens.specs.Seen.{seen};
-ghost use Rattle.plus_reading.specs.Words.{look};
+ghost use Rattle.plus_parser.specs.Phrases.Words.{look};
 ghost use Rattle.plus_parser.specs.Keywords.{key_of, domain_words, domain_part_of, problem_words, problem_part_of};
 
-use plus_reading::words::is_the;
+use crate::phrases::words::is_the;
 use plus_tokens::{Kind, Seen};
 
 /// What a keyword begins in an action, a process or an event.

@@ -3,9 +3,11 @@
 
 pub mod declarations;
 pub mod domains;
+pub mod forms;
 pub mod keywords;
 pub mod metric;
 pub mod parts;
+pub mod phrases;
 pub mod problems;
 pub mod reading;
 pub mod schemas;

@@ -1,11 +1,11 @@
 //! Reads tokens that have no meaning here.
 
 ghost use Rattle.std.specs.Prelude.{◌≡◌, ◌<◌, length, OnOk};
-ghost use Rattle.plus_reading.specs.Reading.{Gives};
+ghost use Rattle.plus_parser.specs.Phrases.Reading.{Gives};
 ghost use Rattle.plus_parser.specs.Balanced.{skipped};
 
-use plus_reading::reader::Reader;
-use plus_reading::words::{is_close, is_open};
+use crate::phrases::reader::Reader;
+use crate::phrases::words::{is_close, is_open};
 use plus_tree::{Span, TextFault};
 
 /// The tokens up to the closing parenthesis, in which each parenthesis has its other one.

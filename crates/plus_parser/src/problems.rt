@@ -1,8 +1,8 @@
 //! Reads a problem.
 
 ghost use Rattle.std.specs.Prelude.{◌≡◌, true, ◌<◌, ◌≤◌, ◌-◌, ◌+◌, [], length, OnOk, Ok, MatchResult, codes};
-ghost use Rattle.plus_reading.specs.Reading.{Gives, Fails, is_open};
-ghost use Rattle.plus_reading.specs.Grammar.{around, until_close, form_step};
+ghost use Rattle.plus_parser.specs.Phrases.Reading.{Gives, Fails, is_open};
+ghost use Rattle.plus_parser.specs.Phrases.Grammar.{around, until_close, form_step};
 ghost use Rattle.plus_parser.specs.ReadingDomain.{section_step};
 ghost use Rattle.plus_parser.specs.ReadingProblem.{literal_next, timed_of, init_at, problem_part, all_found, problem_step, no_problem_parts, problem_made, or_early, problem_of, problem_in};
 ghost use Rattle.plus_tokens.specs.Seen.{seen};
@@ -13,13 +13,13 @@ use crate::keywords::{ProblemWord, problem_part_of};
 use crate::metric::skip;
 use crate::parts::{Kept, ProblemParts};
 use crate::schemas::or_none;
-use plus_forms::conditions;
-use plus_reading::expressions::literal_of;
-use plus_reading::lists::list;
-use plus_reading::reader::Reader;
-use plus_reading::spelled::spelled_of;
-use plus_reading::uses::{around, use_end, use_form};
-use plus_reading::words::{Allowed, HeadWord, head_of, is_close, is_open, is_word};
+use crate::forms::conditions;
+use crate::phrases::expressions::literal_of;
+use crate::phrases::lists::list;
+use crate::phrases::reader::Reader;
+use crate::phrases::spelled::spelled_of;
+use crate::phrases::uses::{around, use_end, use_form};
+use crate::phrases::words::{Allowed, HeadWord, head_of, is_close, is_open, is_word};
 use plus_tokens::Seen;
 use plus_tree::{Comparison, CondTree, Init, Literal, Members, Problem, Span, Spelled, TextFault};
 use std::alloc::Global;
@@ -95,7 +95,7 @@ fn number(reader: &mut Reader<'_>, room: u8) -> Result<Literal, TextFault>
 }
 
 // One more member of `:init`, which begins with a token.
-#[tactic(auto, unfolding(plus_reading::specs::Grammar::form_step))]
+#[tactic(auto, unfolding(crate::phrases::specs::Grammar::form_step))]
 fn next_init(
     alloc: Global,
     reader: &mut Reader<'_>,

@@ -5,7 +5,7 @@ ghost use Rattle.plus_tree.specs.declared.faults.TextFault.{TextFault};
 ghost use Rattle.plus_tree.specs.declared.trees.Domain.{Domain as DomainTree};
 ghost use Rattle.plus_tree.specs.declared.trees.Problem.{Problem as ProblemTree};
 ghost use Rattle.plus_tokens.specs.Items.{items_of};
-ghost use Rattle.plus_reading.specs.Reading.{Fails};
+ghost use Rattle.plus_parser.specs.Phrases.Reading.{Fails};
 ghost use Rattle.plus_parser.specs.ReadingDomain.{domain_of};
 ghost use Rattle.plus_parser.specs.ReadingProblem.{problem_of};
 ghost use Rattle.plus_parser.specs.SpellsDomain.{Spells, SpellsWithin};
@@ -13,7 +13,7 @@ ghost use Rattle.plus_parser.specs.SpellsProblem.{SpellsProblem, SpellsProblemWi
 
 use crate::domains::domain;
 use crate::problems::problem;
-use plus_reading::reader::Reader;
+use crate::phrases::reader::Reader;
 use plus_tree::{Domain, Problem, TextFault};
 use std::alloc::Global;
 

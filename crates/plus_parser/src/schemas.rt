@@ -1,19 +1,19 @@
 //! Reads an action, a process or an event.
 
 ghost use Rattle.std.specs.Prelude.{◌≡◌, ◌<◌, length, OnOk, unwrap_or, []};
-ghost use Rattle.plus_reading.specs.Reading.{Gives};
-ghost use Rattle.plus_reading.specs.Grammar.{until_close};
+ghost use Rattle.plus_parser.specs.Phrases.Reading.{Gives};
+ghost use Rattle.plus_parser.specs.Phrases.Grammar.{until_close};
 ghost use Rattle.plus_tokens.specs.Seen.{seen};
 ghost use Rattle.plus_parser.specs.ReadingDomain.{key_step, no_keys, or_all, or_nothing, schema_of};
 
 use crate::keywords::{KeyWord, key_of};
 use crate::parts::{Kept, Keys};
-use plus_forms::{conditions, effects};
-use plus_reading::lists::variables;
-use plus_reading::reader::Reader;
-use plus_reading::spelled::spelled_of;
-use plus_reading::uses::around;
-use plus_reading::words::is_close;
+use crate::forms::{conditions, effects};
+use crate::phrases::lists::variables;
+use crate::phrases::reader::Reader;
+use crate::phrases::spelled::spelled_of;
+use crate::phrases::uses::around;
+use crate::phrases::words::is_close;
 use plus_tokens::Seen;
 use plus_tree::{CondNode, CondTree, EffectNode, EffectTree, Members, Schema, Span, TextFault};
 use std::alloc::Global;

@@ -10,10 +10,10 @@ use Rattle.plus_parser.specs.declared.keywords.DomainWord.{DomainWord}
 use Rattle.plus_parser.specs.declared.keywords.DomainWord.TheVariants as domains
 use Rattle.plus_parser.specs.Keywords.{problem_part_of, domain_part_of}
 use Rattle.plus_tokens.specs.Items.{Piece}
-use Rattle.plus_reading.specs.Reading.{is_open}
-use Rattle.plus_reading.specs.Words.{is_close}
-use Rattle.plus_reading.specs.Spells.{IsClose, room_step, room_after}
-use Rattle.plus_reading.proofs.Tokens.{close_kind}
+use Rattle.plus_parser.specs.Phrases.Reading.{is_open}
+use Rattle.plus_parser.specs.Phrases.Words.{is_close}
+use Rattle.plus_parser.specs.Phrases.Spells.{IsClose, room_step, room_after}
+use Rattle.plus_parser.proofs.PhraseLemmas.Tokens.{close_kind}
 use Rattle.plus_places.specs.declared.symbols.Met.{Met}
 use Rattle.plus_places.specs.declared.symbols.DomainMet.{DomainMet}
 use Rattle.plus_places.specs.declared.symbols.Symbol.{Symbol}

@@ -9,17 +9,17 @@ use Rattle.plus_tree.specs.declared.terms.Term.{Term}
 use Rattle.plus_tree.specs.declared.terms.Comparison.{Comparison}
 use Rattle.plus_tree.specs.declared.faults.TextFault.TheVariants as faults
 use Rattle.plus_tree.specs.Cond.{Cond, c_all, c_any, c_not, c_imply, c_forall, c_exists, c_same, c_atom, c_compare, conds_of}
-use Rattle.plus_reading.specs.declared.words.Allowed.TheVariants as allows
-use Rattle.plus_reading.specs.declared.words.HeadWord.{HeadWord}
-use Rattle.plus_reading.specs.declared.words.HeadWord.TheVariants.{Nothing, And, Or, Not, Imply, ForAll, Exists, When, Change, Compare, Plain, Other}
+use Rattle.plus_parser.specs.declared.phrases.words.Allowed.TheVariants as allows
+use Rattle.plus_parser.specs.declared.phrases.words.HeadWord.{HeadWord}
+use Rattle.plus_parser.specs.declared.phrases.words.HeadWord.TheVariants.{Nothing, And, Or, Not, Imply, ForAll, Exists, When, Change, Compare, Plain, Other}
 use Rattle.plus_tokens.specs.Items.{Piece, Item}
-use Rattle.plus_reading.specs.Reading.{◌>>=◌, Read, is_open}
-use Rattle.plus_reading.specs.Words.{kind_head, head_of, is_term}
-use Rattle.plus_reading.specs.Grammar.{around, term_of, close_of, until_close, Former, form_step, variables_of, use_end, expr_from, expr_next, expr_at}
-use Rattle.plus_forms.specs.ReadingForms.{form_next, both_of, may_be_same, term_next, compared_with, compared_of, cond_with, cond_body, cond_at}
-use Rattle.plus_reading.proofs.Level.{is_flat, allowed_flat}
-use Rattle.plus_reading.proofs.Tokens.{next_some}
-use Rattle.plus_reading.proofs.Heads.{nothing_closes}
+use Rattle.plus_parser.specs.Phrases.Reading.{◌>>=◌, Read, is_open}
+use Rattle.plus_parser.specs.Phrases.Words.{kind_head, head_of, is_term}
+use Rattle.plus_parser.specs.Phrases.Grammar.{around, term_of, close_of, until_close, Former, form_step, variables_of, use_end, expr_from, expr_next, expr_at}
+use Rattle.plus_parser.specs.Forms.ReadingForms.{form_next, both_of, may_be_same, term_next, compared_with, compared_of, cond_with, cond_body, cond_at}
+use Rattle.plus_parser.proofs.PhraseLemmas.Level.{is_flat, allowed_flat}
+use Rattle.plus_parser.proofs.PhraseLemmas.Tokens.{next_some}
+use Rattle.plus_parser.proofs.PhraseLemmas.Heads.{nothing_closes}
 use Rattle.plus_places.specs.declared.symbols.Symbol.{Symbol}
 use Rattle.plus_places.specs.declared.symbols.Symbol.TheVariants as sy
 use Rattle.plus_places.specs.Table.{accept, step, expr_first, cond_inside}

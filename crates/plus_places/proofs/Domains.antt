@@ -11,12 +11,12 @@ use Rattle.plus_tree.specs.declared.trees.Schema.{Schema}
 use Rattle.plus_tree.specs.declared.trees.Domain.{Domain}
 use Rattle.plus_tree.specs.declared.faults.TextFault.{TextFault}
 use Rattle.plus_tree.specs.declared.faults.TextFault.TheVariants as faults
-use Rattle.plus_reading.specs.declared.words.Allowed.TheVariants as allows
+use Rattle.plus_parser.specs.declared.phrases.words.Allowed.TheVariants as allows
 use Rattle.plus_tokens.specs.Items.{Piece, Item, tok, items_of}
-use Rattle.plus_reading.specs.Reading.{◌>>=◌, Read, next_of, is_open, Fails}
-use Rattle.plus_reading.specs.Words.{is_plain, is_word, is_minus, look}
-use Rattle.plus_reading.specs.Grammar.{around, spelled_of, open_of, name_of, word_of, until_close, Former, form_step, no_names, list_step, list_of, variables_of}
-use Rattle.plus_forms.specs.ReadingForms.{form_next, cond_at, effect_at}
+use Rattle.plus_parser.specs.Phrases.Reading.{◌>>=◌, Read, next_of, is_open, Fails}
+use Rattle.plus_parser.specs.Phrases.Words.{is_plain, is_word, is_minus, look}
+use Rattle.plus_parser.specs.Phrases.Grammar.{around, spelled_of, open_of, name_of, word_of, until_close, Former, form_step, no_names, list_step, list_of, variables_of}
+use Rattle.plus_parser.specs.Forms.ReadingForms.{form_next, cond_at, effect_at}
 use Rattle.plus_parser.specs.declared.parts.Keys.{Keys}
 use Rattle.plus_parser.specs.declared.parts.DomainParts.{DomainParts}
 use Rattle.plus_parser.specs.declared.parts.Functions.{Functions}
@@ -27,10 +27,10 @@ use Rattle.plus_parser.specs.declared.keywords.DomainWord.TheVariants as domains
 use Rattle.plus_parser.specs.Keywords.{key_of, domain_words, domain_part_of}
 use Rattle.plus_parser.specs.ReadingDomain.{requirement_step, types_of, predicate_at, no_functions, number_type, function_step, no_keys, key_with, key_step, schema_made, schema_of, section_step, domain_part_with, domain_part, no_parts, front_of, end_of, domain_made, domain_step, domain_in, domain_of}
 use Rattle.plus_parser.specs.SpellsDomain.{DomainTokens, SpellsWithin}
-use Rattle.plus_reading.proofs.Names.{keyword_says}
-use Rattle.plus_reading.proofs.Level.{is_flat, even_there}
-use Rattle.plus_reading.proofs.TypedLists.{minus_is}
-use Rattle.plus_reading.proofs.Tokens.{bind_ok, ok_is, next_ok, open_kind, refused}
+use Rattle.plus_parser.proofs.PhraseLemmas.Names.{keyword_says}
+use Rattle.plus_parser.proofs.PhraseLemmas.Level.{is_flat, even_there}
+use Rattle.plus_parser.proofs.PhraseLemmas.TypedLists.{minus_is}
+use Rattle.plus_parser.proofs.PhraseLemmas.Tokens.{bind_ok, ok_is, next_ok, open_kind, refused}
 use Rattle.plus_parser.proofs.Sections.{body_short}
 use Rattle.plus_parser.proofs.DomainLaws.{domain_takes, domain_level, domain_again}
 use Rattle.plus_places.specs.declared.symbols.KeysMet.{KeysMet}

@@ -3,15 +3,15 @@ use Rattle.std.proofs.Common.{◌≡◌, ℕ, zero, suc, ◌-◌, List, [], ◌�
 use Rattle.plus_tokens.specs.declared.span.Span.{Span}
 use Rattle.plus_tree.specs.declared.trees.Leaf.{Leaf}
 use Rattle.plus_tree.specs.Effect.{Effect, e_all, e_forall, e_when, e_leaf, effects_of}
-use Rattle.plus_reading.specs.declared.words.Allowed.TheVariants as allows
-use Rattle.plus_reading.specs.declared.words.HeadWord.{HeadWord}
-use Rattle.plus_reading.specs.declared.words.HeadWord.TheVariants.{Nothing, And, Not, ForAll, When, Change, Plain, Other}
+use Rattle.plus_parser.specs.declared.phrases.words.Allowed.TheVariants as allows
+use Rattle.plus_parser.specs.declared.phrases.words.HeadWord.{HeadWord}
+use Rattle.plus_parser.specs.declared.phrases.words.HeadWord.TheVariants.{Nothing, And, Not, ForAll, When, Change, Plain, Other}
 use Rattle.plus_tokens.specs.Items.{Piece, Item}
-use Rattle.plus_reading.specs.Reading.{◌>>=◌, Read, next_of}
-use Rattle.plus_reading.specs.Words.{head_of}
-use Rattle.plus_reading.specs.Grammar.{around, close_of, until_close, Former, form_step, variables_of, use_end, use_form, expr_next, expr_at}
-use Rattle.plus_forms.specs.ReadingForms.{form_next, both_of, cond_at, add_of, delete_of, change_of, leaf_with, leaf_behind, leaf_at, simple_with, simple_at, effect_with, effect_body, effect_at}
-use Rattle.plus_reading.proofs.Heads.{nothing_closes}
+use Rattle.plus_parser.specs.Phrases.Reading.{◌>>=◌, Read, next_of}
+use Rattle.plus_parser.specs.Phrases.Words.{head_of}
+use Rattle.plus_parser.specs.Phrases.Grammar.{around, close_of, until_close, Former, form_step, variables_of, use_end, use_form, expr_next, expr_at}
+use Rattle.plus_parser.specs.Forms.ReadingForms.{form_next, both_of, cond_at, add_of, delete_of, change_of, leaf_with, leaf_behind, leaf_at, simple_with, simple_at, effect_with, effect_body, effect_at}
+use Rattle.plus_parser.proofs.PhraseLemmas.Heads.{nothing_closes}
 use Rattle.plus_places.specs.declared.symbols.Symbol.{Symbol}
 use Rattle.plus_places.specs.declared.symbols.Symbol.TheVariants as sy
 use Rattle.plus_places.specs.Table.{leaf_inside, simple_inside, effect_inside}

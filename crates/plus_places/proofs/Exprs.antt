@@ -6,16 +6,16 @@ use Rattle.plus_tokens.specs.declared.token.Kind.TheVariants as kinds
 use Rattle.plus_tokens.specs.declared.span.Span.{Span}
 use Rattle.plus_tree.specs.declared.terms.Literal.{Literal}
 use Rattle.plus_tree.specs.Expr.{Expr, x_fluent, x_sum, x_product, x_difference, x_quotient, exprs_of}
-use Rattle.plus_reading.specs.declared.words.Allowed.TheVariants as allows
-use Rattle.plus_reading.specs.declared.words.ExprWord.{ExprWord}
-use Rattle.plus_reading.specs.declared.words.ExprWord.TheVariants as exprs
+use Rattle.plus_parser.specs.declared.phrases.words.Allowed.TheVariants as allows
+use Rattle.plus_parser.specs.declared.phrases.words.ExprWord.{ExprWord}
+use Rattle.plus_parser.specs.declared.phrases.words.ExprWord.TheVariants as exprs
 use Rattle.plus_tokens.specs.Items.{Piece, Item}
-use Rattle.plus_reading.specs.Literals.{kind_literal, literal_of}
-use Rattle.plus_reading.specs.Reading.{◌>>=◌, Read, next_of, is_open}
-use Rattle.plus_reading.specs.Words.{is_close, kind_expr, expr_head}
-use Rattle.plus_reading.specs.Grammar.{around, close_of, until_close, Former, start_step, use_end, number_or, expr_kind, expr_from, expr_next, two_of, pair_of, many_of, minus_with, minus_of, expr_with, expr_body, expr_at}
-use Rattle.plus_reading.proofs.Level.{is_flat}
-use Rattle.plus_reading.proofs.Tokens.{bind_ok, ok_is, next_some}
+use Rattle.plus_parser.specs.Phrases.Literals.{kind_literal, literal_of}
+use Rattle.plus_parser.specs.Phrases.Reading.{◌>>=◌, Read, next_of, is_open}
+use Rattle.plus_parser.specs.Phrases.Words.{is_close, kind_expr, expr_head}
+use Rattle.plus_parser.specs.Phrases.Grammar.{around, close_of, until_close, Former, start_step, use_end, number_or, expr_kind, expr_from, expr_next, two_of, pair_of, many_of, minus_with, minus_of, expr_with, expr_body, expr_at}
+use Rattle.plus_parser.proofs.PhraseLemmas.Level.{is_flat}
+use Rattle.plus_parser.proofs.PhraseLemmas.Tokens.{bind_ok, ok_is, next_some}
 use Rattle.plus_places.specs.declared.symbols.Symbol.{Symbol}
 use Rattle.plus_places.specs.declared.symbols.Symbol.TheVariants as sy
 use Rattle.plus_places.specs.Table as table

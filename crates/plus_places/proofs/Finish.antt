@@ -4,8 +4,8 @@ use Rattle.std.specs.Prelude.{◌&&◌, codes}
 use Rattle.plus_tokens.specs.declared.token.Kind.TheVariants as kinds
 use Rattle.plus_tokens.specs.Items.{Piece}
 use Rattle.plus_tokens.specs.Numeral.{numeral_of}
-use Rattle.plus_reading.specs.Literals.{kind_literal}
-use Rattle.plus_reading.specs.Grammar.{nowhere}
+use Rattle.plus_parser.specs.Phrases.Literals.{kind_literal}
+use Rattle.plus_parser.specs.Phrases.Grammar.{nowhere}
 use Rattle.plus_places.specs.declared.symbols.Met.{Met}
 use Rattle.plus_places.specs.declared.symbols.Symbol.{Symbol}
 use Rattle.plus_places.specs.declared.symbols.Symbol.TheVariants as sy

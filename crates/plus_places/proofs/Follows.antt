@@ -6,11 +6,11 @@ use Rattle.plus_tokens.specs.declared.token.Kind.TheVariants as kinds
 use Rattle.plus_tree.specs.declared.faults.TextFault.{TextFault}
 use Rattle.plus_tree.specs.declared.faults.TextFault.TheVariants as faults
 use Rattle.plus_tokens.specs.Items.{Piece, Item, tok, bad}
-use Rattle.plus_reading.specs.Reading.{◌>>=◌, Read, next_of, is_open}
-use Rattle.plus_reading.specs.Words.{is_close}
-use Rattle.plus_reading.specs.Grammar.{token_of, open_of, close_of}
-use Rattle.plus_reading.proofs.Level.{is_flat}
-use Rattle.plus_reading.proofs.Tokens.{next_some, open_kind, close_kind}
+use Rattle.plus_parser.specs.Phrases.Reading.{◌>>=◌, Read, next_of, is_open}
+use Rattle.plus_parser.specs.Phrases.Words.{is_close}
+use Rattle.plus_parser.specs.Phrases.Grammar.{token_of, open_of, close_of}
+use Rattle.plus_parser.proofs.PhraseLemmas.Level.{is_flat}
+use Rattle.plus_parser.proofs.PhraseLemmas.Tokens.{next_some, open_kind, close_kind}
 use Rattle.plus_places.specs.declared.symbols.Symbol.{Symbol}
 use Rattle.plus_places.specs.declared.symbols.Symbol.TheVariants as sy
 use Rattle.plus_places.specs.Table.{accept, step}

@@ -6,16 +6,16 @@ use Rattle.plus_tree.specs.declared.terms.Literal.{Literal}
 use Rattle.plus_tree.specs.declared.terms.Comparison.TheVariants.{Equal}
 use Rattle.plus_tree.specs.declared.trees.Init.{Init}
 use Rattle.plus_tree.specs.declared.trees.Init.TheVariants.{Holds, Absent, Value, At, AtNot}
-use Rattle.plus_reading.specs.declared.words.Allowed.TheVariants as allows
-use Rattle.plus_reading.specs.declared.words.HeadWord.{HeadWord}
-use Rattle.plus_reading.specs.declared.words.HeadWord.TheVariants.{Nothing, Not, Compare, Plain, Other}
+use Rattle.plus_parser.specs.declared.phrases.words.Allowed.TheVariants as allows
+use Rattle.plus_parser.specs.declared.phrases.words.HeadWord.{HeadWord}
+use Rattle.plus_parser.specs.declared.phrases.words.HeadWord.TheVariants.{Nothing, Not, Compare, Plain, Other}
 use Rattle.plus_tokens.specs.declared.numeral.Numeral.{Numeral}
 use Rattle.plus_tokens.specs.Numeral.{piece_numeral}
 use Rattle.plus_tokens.specs.Items.{Piece, Item}
-use Rattle.plus_reading.specs.Literals.{kind_literal, numeral_literal, literal_of}
-use Rattle.plus_reading.specs.Reading.{◌>>=◌, Read, next_of}
-use Rattle.plus_reading.specs.Words.{head_of, is_word, is_unsigned, is_time, is_allowed}
-use Rattle.plus_reading.specs.Grammar.{around, is_time_read, time_ahead, open_of, close_of, use_end, use_form}
+use Rattle.plus_parser.specs.Phrases.Literals.{kind_literal, numeral_literal, literal_of}
+use Rattle.plus_parser.specs.Phrases.Reading.{◌>>=◌, Read, next_of}
+use Rattle.plus_parser.specs.Phrases.Words.{head_of, is_word, is_unsigned, is_time, is_allowed}
+use Rattle.plus_parser.specs.Phrases.Grammar.{around, is_time_read, time_ahead, open_of, close_of, use_end, use_form}
 use Rattle.plus_parser.specs.ReadingProblem.{literal_or, literal_next, timed_with, timed_of, plain_init, init_with, init_at}
 use Rattle.plus_places.specs.declared.symbols.Symbol.{Symbol}
 use Rattle.plus_places.specs.declared.symbols.Symbol.TheVariants as sy

@@ -5,16 +5,16 @@ use Rattle.std.proofs.lemmas.Bool.{ne_eqb, and_parts}
 use Rattle.plus_tree.specs.declared.names.Spelled.{Spelled}
 use Rattle.plus_tree.specs.declared.terms.TypedName.{TypedName}
 use Rattle.plus_tree.specs.declared.faults.TextFault.TheVariants as faults
-use Rattle.plus_reading.specs.declared.words.Allowed.{Allowed}
-use Rattle.plus_reading.specs.declared.words.Allowed.TheVariants as allows
+use Rattle.plus_parser.specs.declared.phrases.words.Allowed.{Allowed}
+use Rattle.plus_parser.specs.declared.phrases.words.Allowed.TheVariants as allows
 use Rattle.plus_tokens.specs.Items.{Piece, Item}
-use Rattle.plus_reading.specs.Reading.{◌>>=◌, Read}
-use Rattle.plus_reading.specs.Words.{is_name, is_minus, is_allowed}
-use Rattle.plus_reading.specs.Grammar.{spelled_of, named_of, name_of, until_close, Listing, no_names, typed_by, type_of_waiting, list_step, all_typed, list_of, variables_of}
-use Rattle.plus_reading.proofs.Names.{name_kind}
-use Rattle.plus_reading.proofs.Level.{is_flat, allowed_flat}
-use Rattle.plus_reading.proofs.Tokens.{bind_ok, ok_is}
-use Rattle.plus_reading.proofs.TypedLists.{minus_is}
+use Rattle.plus_parser.specs.Phrases.Reading.{◌>>=◌, Read}
+use Rattle.plus_parser.specs.Phrases.Words.{is_name, is_minus, is_allowed}
+use Rattle.plus_parser.specs.Phrases.Grammar.{spelled_of, named_of, name_of, until_close, Listing, no_names, typed_by, type_of_waiting, list_step, all_typed, list_of, variables_of}
+use Rattle.plus_parser.proofs.PhraseLemmas.Names.{name_kind}
+use Rattle.plus_parser.proofs.PhraseLemmas.Level.{is_flat, allowed_flat}
+use Rattle.plus_parser.proofs.PhraseLemmas.Tokens.{bind_ok, ok_is}
+use Rattle.plus_parser.proofs.PhraseLemmas.TypedLists.{minus_is}
 use Rattle.plus_places.specs.declared.symbols.Symbol.{Symbol}
 use Rattle.plus_places.specs.declared.symbols.Symbol.TheVariants as sy
 use Rattle.plus_places.specs.Table.{accept}

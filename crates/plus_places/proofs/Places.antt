@@ -7,10 +7,10 @@ use Rattle.plus_tokens.specs.declared.token.LexFault.{LexFault}
 use Rattle.plus_tree.specs.declared.faults.TextFault.{TextFault}
 use Rattle.plus_tree.specs.declared.faults.TextFault.TheVariants as faults
 use Rattle.plus_tokens.specs.Items.{Piece, Item, tok, bad, items_of}
-use Rattle.plus_reading.specs.Reading.{◌>>=◌, is_open, Fails}
-use Rattle.plus_reading.specs.Spells.{IsOpen, room_after, FitsDepth}
+use Rattle.plus_parser.specs.Phrases.Reading.{◌>>=◌, is_open, Fails}
+use Rattle.plus_parser.specs.Phrases.Spells.{IsOpen, room_after, FitsDepth}
 use Rattle.plus_parser.specs.ReadingDomain.{end_of}
-use Rattle.plus_reading.proofs.Tokens.{ok_is, open_kind}
+use Rattle.plus_parser.proofs.PhraseLemmas.Tokens.{ok_is, open_kind}
 use Rattle.plus_parser.proofs.Sections.{end_takes, end_again}
 use Rattle.plus_places.specs.declared.symbols.Symbol.{Symbol}
 use Rattle.plus_places.specs.Table.{Wanted, step, run_with, run}

@@ -8,15 +8,15 @@ use Rattle.plus_tree.specs.declared.trees.Problem.{Problem}
 use Rattle.plus_tree.specs.Cond.{Cond}
 use Rattle.plus_tree.specs.declared.faults.TextFault.{TextFault}
 use Rattle.plus_tokens.specs.Items.{Piece, Item, tok, bad, items_of}
-use Rattle.plus_reading.specs.Reading.{◌>>=◌, is_open, Fails}
-use Rattle.plus_reading.specs.Words.{is_close, is_name, is_word}
-use Rattle.plus_reading.specs.Grammar.{around, spelled_of, open_of, close_of, name_of, word_of, until_close}
+use Rattle.plus_parser.specs.Phrases.Reading.{◌>>=◌, is_open, Fails}
+use Rattle.plus_parser.specs.Phrases.Words.{is_close, is_name, is_word}
+use Rattle.plus_parser.specs.Phrases.Grammar.{around, spelled_of, open_of, close_of, name_of, word_of, until_close}
 use Rattle.plus_parser.specs.declared.parts.ProblemParts.{ProblemParts}
 use Rattle.plus_parser.specs.ReadingDomain.{front_of, end_of}
 use Rattle.plus_parser.specs.ReadingProblem.{no_problem_parts, problem_step, problem_made, or_early, problem_in, problem_of}
 use Rattle.plus_parser.specs.SpellsProblem.{ProblemTokens, SpellsProblemWithin}
-use Rattle.plus_reading.proofs.Names.{word_is}
-use Rattle.plus_reading.proofs.Level.{is_flat, even_there}
+use Rattle.plus_parser.proofs.PhraseLemmas.Names.{word_is}
+use Rattle.plus_parser.proofs.PhraseLemmas.Level.{is_flat, even_there}
 use Rattle.plus_parser.proofs.Sections.{body_short}
 use Rattle.plus_parser.proofs.ProblemLaws.{problem_takes, problem_level, problem_again}
 use Rattle.plus_places.specs.declared.symbols.Symbol.{Symbol}

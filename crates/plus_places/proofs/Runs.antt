@@ -7,9 +7,9 @@ use Rattle.plus_tokens.specs.declared.token.Kind.TheVariants as kinds
 use Rattle.plus_tree.specs.declared.faults.TextFault.{TextFault}
 use Rattle.plus_tree.specs.declared.faults.TextFault.TheVariants as faults
 use Rattle.plus_tokens.specs.Items.{Piece, Item, tok, bad}
-use Rattle.plus_reading.specs.Reading.{is_open}
-use Rattle.plus_reading.specs.Spells.{IsOpen, room_step, room_after}
-use Rattle.plus_reading.proofs.Tokens.{ok_is, open_kind}
+use Rattle.plus_parser.specs.Phrases.Reading.{is_open}
+use Rattle.plus_parser.specs.Phrases.Spells.{IsOpen, room_step, room_after}
+use Rattle.plus_parser.proofs.PhraseLemmas.Tokens.{ok_is, open_kind}
 use Rattle.plus_places.specs.declared.symbols.Symbol.{Symbol}
 use Rattle.plus_places.specs.Table.{Wanted, step, run_with, run}
 use Rattle.plus_places.proofs.Goes.{room_next, Rest, taken, goes}

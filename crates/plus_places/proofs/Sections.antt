@@ -6,12 +6,12 @@ use Rattle.plus_tokens.specs.declared.token.Kind.TheVariants as kinds
 use Rattle.plus_tokens.specs.declared.span.Span.{Span}
 use Rattle.plus_tree.specs.declared.names.Spelled.{Spelled}
 use Rattle.plus_tree.specs.declared.faults.TextFault.TheVariants as faults
-use Rattle.plus_reading.specs.declared.words.Allowed.TheVariants as allows
+use Rattle.plus_parser.specs.declared.phrases.words.Allowed.TheVariants as allows
 use Rattle.plus_tokens.specs.Items.{Piece, Item, tok}
-use Rattle.plus_reading.specs.Reading.{◌>>=◌, Read, next_of, is_open}
-use Rattle.plus_reading.specs.Words.{is_keyword, look}
-use Rattle.plus_reading.specs.Grammar.{bare_of, spelled_of, open_of, close_of, name_of, until_close, form_step, list_of}
-use Rattle.plus_forms.specs.ReadingForms.{cond_at}
+use Rattle.plus_parser.specs.Phrases.Reading.{◌>>=◌, Read, next_of, is_open}
+use Rattle.plus_parser.specs.Phrases.Words.{is_keyword, look}
+use Rattle.plus_parser.specs.Phrases.Grammar.{bare_of, spelled_of, open_of, close_of, name_of, until_close, form_step, list_of}
+use Rattle.plus_parser.specs.Forms.ReadingForms.{cond_at}
 use Rattle.plus_parser.specs.declared.parts.ProblemParts.{ProblemParts}
 use Rattle.plus_parser.specs.declared.keywords.ProblemWord.{ProblemWord}
 use Rattle.plus_parser.specs.declared.keywords.ProblemWord.TheVariants as problems
@@ -19,9 +19,9 @@ use Rattle.plus_parser.specs.Keywords.{problem_words, problem_part_of}
 use Rattle.plus_parser.specs.Balanced.{skip_with, skip, skipped}
 use Rattle.plus_parser.specs.ReadingDomain.{requirement_step, section_step}
 use Rattle.plus_parser.specs.ReadingProblem.{init_at, problem_part_with, problem_part, all_found, problem_step}
-use Rattle.plus_reading.proofs.Names.{keyword_is, keyword_says}
-use Rattle.plus_reading.proofs.Level.{is_flat}
-use Rattle.plus_reading.proofs.Tokens.{bind_ok, ok_is, next_ok, next_some, open_kind, refused}
+use Rattle.plus_parser.proofs.PhraseLemmas.Names.{keyword_is, keyword_says}
+use Rattle.plus_parser.proofs.PhraseLemmas.Level.{is_flat}
+use Rattle.plus_parser.proofs.PhraseLemmas.Tokens.{bind_ok, ok_is, next_ok, next_some, open_kind, refused}
 use Rattle.plus_places.specs.declared.symbols.Met.{Met}
 use Rattle.plus_places.specs.declared.symbols.Symbol.{Symbol}
 use Rattle.plus_places.specs.declared.symbols.Symbol.TheVariants as sy

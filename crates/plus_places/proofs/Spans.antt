@@ -6,8 +6,8 @@ use Rattle.plus_tokens.specs.declared.span.Span.{Span}
 use Rattle.plus_tokens.specs.declared.numeral.Numeral.{Numeral}
 use Rattle.plus_tokens.specs.Numeral.{kind_numeral}
 use Rattle.plus_tokens.specs.Items.{Piece}
-use Rattle.plus_reading.specs.Literals.{kind_literal, numeral_literal}
-use Rattle.plus_reading.specs.Words.{is_term}
+use Rattle.plus_parser.specs.Phrases.Literals.{kind_literal, numeral_literal}
+use Rattle.plus_parser.specs.Phrases.Words.{is_term}
 use Rattle.plus_places.specs.declared.symbols.Symbol.{Symbol}
 use Rattle.plus_places.specs.declared.symbols.Symbol.TheVariants as sy
 use Rattle.plus_places.specs.Table.{Wanted, accept, close_or, expr_kind, step, run_with, run}

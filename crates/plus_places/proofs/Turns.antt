@@ -8,14 +8,14 @@ use Rattle.plus_tree.specs.declared.terms.Term.{Term}
 use Rattle.plus_tree.specs.declared.terms.Use.{Use}
 use Rattle.plus_tree.specs.declared.faults.TextFault.{TextFault}
 use Rattle.plus_tree.specs.declared.faults.TextFault.TheVariants as faults
-use Rattle.plus_reading.specs.declared.words.Allowed.{Allowed}
+use Rattle.plus_parser.specs.declared.phrases.words.Allowed.{Allowed}
 use Rattle.plus_tokens.specs.Items.{Piece, Item, tok, bad}
-use Rattle.plus_reading.specs.Reading.{◌>>=◌, Read, next_of, is_open}
-use Rattle.plus_reading.specs.Words.{is_close, is_plain, is_allowed}
-use Rattle.plus_reading.specs.Grammar.{around, plain_of, Step, at_close, until_close, Former, form_step, argument_step, term_of, use_of, use_end, use_form}
-use Rattle.plus_reading.proofs.Names.{plain_name}
-use Rattle.plus_reading.proofs.Level.{is_flat, allowed_flat}
-use Rattle.plus_reading.proofs.Tokens.{bind_ok, ok_is, next_ok, next_some, open_kind, close_kind}
+use Rattle.plus_parser.specs.Phrases.Reading.{◌>>=◌, Read, next_of, is_open}
+use Rattle.plus_parser.specs.Phrases.Words.{is_close, is_plain, is_allowed}
+use Rattle.plus_parser.specs.Phrases.Grammar.{around, plain_of, Step, at_close, until_close, Former, form_step, argument_step, term_of, use_of, use_end, use_form}
+use Rattle.plus_parser.proofs.PhraseLemmas.Names.{plain_name}
+use Rattle.plus_parser.proofs.PhraseLemmas.Level.{is_flat, allowed_flat}
+use Rattle.plus_parser.proofs.PhraseLemmas.Tokens.{bind_ok, ok_is, next_ok, next_some, open_kind, close_kind}
 use Rattle.plus_places.specs.declared.symbols.Symbol.{Symbol}
 use Rattle.plus_places.specs.declared.symbols.Symbol.TheVariants as sy
 use Rattle.plus_places.specs.Table.{Wanted, accept, close_or, step}

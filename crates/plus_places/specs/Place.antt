@@ -4,7 +4,7 @@ use Rattle.std.specs.Prelude.{◌≡◌, ℕ, ◌<◌, List, [], ◌∷◌, ◌+
 use Rattle.plus_tree.specs.declared.faults.TextFault.{TextFault}
 use Rattle.plus_tree.specs.declared.faults.TextFault.TheVariants as faults
 use Rattle.plus_tokens.specs.Items.{Piece, Item, tok, bad, items_of}
-use Rattle.plus_reading.specs.Spells.{IsOpen, room_after}
+use Rattle.plus_parser.specs.Phrases.Spells.{IsOpen, room_after}
 
 module _ {Tree : Type 0} (Tokens : Tree → List Piece → Type 0) where
   -- some text begins with these tokens and spells a tree, however deep

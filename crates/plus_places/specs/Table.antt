@@ -6,16 +6,16 @@ use Rattle.std.specs.Prelude.{Bool, true, false, ◌&&◌, List, [], ◌∷◌, 
 use Rattle.plus_tokens.specs.declared.token.Kind.{Kind}
 use Rattle.plus_tokens.specs.declared.token.Kind.TheVariants as kinds
 use Rattle.plus_tree.specs.declared.terms.Comparison.TheVariants.{Equal}
-use Rattle.plus_reading.specs.declared.words.Allowed.TheVariants as allows
-use Rattle.plus_reading.specs.declared.words.HeadWord.{HeadWord}
-use Rattle.plus_reading.specs.declared.words.HeadWord.TheVariants.{Nothing, And, Or, Not, Imply, ForAll, Exists, When, Change, Compare, Plain}
-use Rattle.plus_reading.specs.declared.words.ExprWord.{ExprWord}
-use Rattle.plus_reading.specs.declared.words.ExprWord.TheVariants as exprs
+use Rattle.plus_parser.specs.declared.phrases.words.Allowed.TheVariants as allows
+use Rattle.plus_parser.specs.declared.phrases.words.HeadWord.{HeadWord}
+use Rattle.plus_parser.specs.declared.phrases.words.HeadWord.TheVariants.{Nothing, And, Or, Not, Imply, ForAll, Exists, When, Change, Compare, Plain}
+use Rattle.plus_parser.specs.declared.phrases.words.ExprWord.{ExprWord}
+use Rattle.plus_parser.specs.declared.phrases.words.ExprWord.TheVariants as exprs
 use Rattle.plus_tokens.specs.Items.{Piece}
-use Rattle.plus_reading.specs.Reading.{is_open}
-use Rattle.plus_reading.specs.Literals.{literal_of}
-use Rattle.plus_reading.specs.Words.{head_of, expr_head, is_close, is_name, is_plain, is_word, is_keyword, is_term, is_allowed, is_time, is_minus}
-use Rattle.plus_forms.specs.ReadingForms.{may_be_same}
+use Rattle.plus_parser.specs.Phrases.Reading.{is_open}
+use Rattle.plus_parser.specs.Phrases.Literals.{literal_of}
+use Rattle.plus_parser.specs.Phrases.Words.{head_of, expr_head, is_close, is_name, is_plain, is_word, is_keyword, is_term, is_allowed, is_time, is_minus}
+use Rattle.plus_parser.specs.Forms.ReadingForms.{may_be_same}
 use Rattle.plus_parser.specs.declared.keywords.ProblemWord.{ProblemWord}
 use Rattle.plus_parser.specs.declared.keywords.ProblemWord.TheVariants as problems
 use Rattle.plus_parser.specs.declared.keywords.KeyWord.{KeyWord}

@@ -1,6 +1,6 @@
 //! What may still be wanted of a text.
 
-use plus_reading::words::Allowed;
+use plus_parser::phrases::words::Allowed;
 
 /// Which sections of a problem were met.
 #[derive(Clone, Copy, Debug, PartialEq, Eq)]

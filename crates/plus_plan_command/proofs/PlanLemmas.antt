@@ -10,11 +10,11 @@ use Rattle.plus_numbering.specs.declared.faults.GroundFault.{GroundFault}
 use Rattle.plus_numbering.specs.declared.faults.GroundFault.TheVariants.{TooMany, Literal, Memory}
 use Rattle.plus_planner.specs.declared.searching.Answer.{Answer}
 use Rattle.plus_planner.specs.declared.searching.Answer.TheVariants as answers
-use Rattle.plus_planning.specs.Planned.{IsPlanned}
-use Rattle.plus_pair.specs.declared.pair.Refusal.{Refusal}
-use Rattle.plus_pair.specs.declared.pair.Refusal.TheVariants as refusals
-use Rattle.plus_pair.specs.Reads.{ReadsPair, NoPair}
-use Rattle.plus_pair.proofs.SpelledLemmas.{on_pair}
+use Rattle.plus_plan_command.specs.Planning.Planned.{IsPlanned}
+use Rattle.plus_reply.specs.declared.pair.pair.Refusal.{Refusal}
+use Rattle.plus_reply.specs.declared.pair.pair.Refusal.TheVariants as refusals
+use Rattle.plus_reply.specs.Pair.Reads.{ReadsPair, NoPair}
+use Rattle.plus_reply.proofs.PairLemmas.SpelledLemmas.{on_pair}
 use Rattle.plus_reply.specs.declared.status.Status.{Status}
 use Rattle.plus_reply.specs.declared.reply.Reply.{Reply}
 use Rattle.plus_reply.specs.declared.reply.Fault.{Fault}

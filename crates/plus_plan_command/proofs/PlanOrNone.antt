@@ -8,9 +8,9 @@ use Rattle.plus_report.specs.declared.refusals.Early.{Early}
 use Rattle.plus_report.specs.declared.refusals.Early.TheVariants as es
 use Rattle.plus_planner.specs.declared.searching.Answer.{Answer}
 use Rattle.plus_planner.specs.declared.searching.Answer.TheVariants.{Plan, NoPlan, Spent}
-use Rattle.plus_planning.specs.Planned.{IsPlanned}
-use Rattle.plus_pair.proofs.OnePair.{pair_once}
-use Rattle.plus_pair.specs.Pair.{SpellsWellTyped}
+use Rattle.plus_plan_command.specs.Planning.Planned.{IsPlanned}
+use Rattle.plus_reply.proofs.PairLemmas.OnePair.{pair_once}
+use Rattle.plus_reply.specs.Pair.Pair.{SpellsWellTyped}
 use Rattle.plus_reply.specs.declared.status.Status.TheVariants as s
 use Rattle.plus_reply.specs.Statuses.{early_status}
 use Rattle.plus_plan_command.specs.Plan.{answer_status, PlansPair, answered, no_search, Plans, no_pair, of_pair}

@@ -15,11 +15,11 @@ use Rattle.plus_report.specs.Plans.{acts_of, plan_text}
 use Rattle.plus_validator.specs.Validates.{kind_meant}
 use Rattle.plus_planner.specs.declared.searching.Answer.{Answer}
 use Rattle.plus_planner.specs.declared.searching.Answer.TheVariants.{Plan, NoPlan, Spent}
-use Rattle.plus_planning.specs.Lines.{none_text, spent_text}
-use Rattle.plus_planning.specs.Planned.{IsPlanned, IsUnplanned}
-use Rattle.plus_pair.specs.declared.pair.Refusal.{Refusal}
-use Rattle.plus_pair.specs.declared.pair.Refusal.TheVariants as refusals
-use Rattle.plus_pair.specs.Pair.{text_named, PairRefused, SpellsWellTyped}
+use Rattle.plus_plan_command.specs.Planning.Lines.{none_text, spent_text}
+use Rattle.plus_plan_command.specs.Planning.Planned.{IsPlanned, IsUnplanned}
+use Rattle.plus_reply.specs.declared.pair.pair.Refusal.{Refusal}
+use Rattle.plus_reply.specs.declared.pair.pair.Refusal.TheVariants as refusals
+use Rattle.plus_reply.specs.Pair.Pair.{text_named, PairRefused, SpellsWellTyped}
 use Rattle.plus_reply.specs.declared.status.Status.{Status}
 use Rattle.plus_reply.specs.declared.status.Status.TheVariants as s
 use Rattle.plus_reply.specs.Statuses.{early_status}

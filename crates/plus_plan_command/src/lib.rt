@@ -3,5 +3,6 @@
 
 pub mod laws;
 pub mod plan;
+pub mod planning;
 
 pub use plan::{Search, answer};

@@ -4,21 +4,21 @@ ghost use Rattle.std.specs.Prelude.{◌≡◌, ◌+◌, [], ◌∷◌, IfOk, IfE
 ghost use Rattle.plus_io.specs.Files.{KeepsFiles};
 ghost use Rattle.plus_io.specs.Picks.{ReadsInOrder};
 ghost use Rattle.plus_number.specs.Frac.{fraction_of};
-ghost use Rattle.plus_pair.specs.Pair.{text_limit};
+ghost use Rattle.plus_reply.specs.Pair.Pair.{text_limit};
 ghost use Rattle.plus_report.specs.Plans.{acts_of, plan_text};
 ghost use Rattle.plus_reply.specs.Reply.{IsPlain, HasCause};
 ghost use Rattle.plus_validator.specs.Validates.{kind_meant};
-ghost use Rattle.plus_planning.specs.Planned.{IsPlanned};
+ghost use Rattle.plus_plan_command.specs.Planning.Planned.{IsPlanned};
 ghost use Rattle.plus_plan_command.specs.Plan.{search_refusal, answer_status, answer_text, IsUnsearched, PlansPair, Plans};
 
 use plus_expansion::Count;
-use plus_interval::Interval;
+use plus_words::interval::Interval;
 use plus_io::{Freeing, MemSink, Shelf};
 use plus_number::frac::Frac64;
 use plus_numbering::GroundFault;
-use plus_pair::pair::{Refusal, pair, release, text_for};
+use plus_reply::pair::pair::{Refusal, pair, release, text_for};
 use plus_planner::Answer;
-use plus_planning::{none_line, plan, spent_line};
+use crate::planning::{none_line, plan, spent_line};
 use plus_reply::reply::{Fault, Reply, refused};
 use plus_reply::status::Status;
 use plus_report::{Early, Kinds, write_plan};

@@ -4,5 +4,6 @@
 
 mod call;
 mod replay;
+pub mod unmet;
 
 pub use replay::append_unmet;

@@ -22,7 +22,7 @@ use plus_state::{Action, Ground};
 use plus_timeline::Next;
 use plus_tree::Call;
 use plus_types::Typed;
-use plus_unmet::append_failing;
+use crate::unmet::append_failing;
 use std::alloc::{AllocError, Global};
 use std::cmp::Ordering;
 

@@ -14,12 +14,12 @@ use Rattle.plus_reply.specs.declared.status.Status.TheVariants as s
 use Rattle.plus_reply.specs.declared.reply.Reply.{Reply}
 use Rattle.plus_reply.specs.declared.reply.Fault.{Fault}
 use Rattle.plus_reply.specs.declared.reply.Fault.TheVariants as faults
-use Rattle.plus_pair.specs.declared.pair.Refusal.{Refusal}
-use Rattle.plus_pair.specs.declared.pair.Refusal.TheVariants as refusals
-use Rattle.plus_pair.specs.Pair.{PairRefused, SpellsWellTyped}
-use Rattle.plus_pair.specs.Reads.{ReadsPair, NoPair}
+use Rattle.plus_reply.specs.declared.pair.pair.Refusal.{Refusal}
+use Rattle.plus_reply.specs.declared.pair.pair.Refusal.TheVariants as refusals
+use Rattle.plus_reply.specs.Pair.Pair.{PairRefused, SpellsWellTyped}
+use Rattle.plus_reply.specs.Pair.Reads.{ReadsPair, NoPair}
 use Rattle.plus_reply.specs.Statuses.{early_status, Writes}
-use Rattle.plus_pair.proofs.SpelledLemmas.{on_pair, told}
+use Rattle.plus_reply.proofs.PairLemmas.SpelledLemmas.{on_pair, told}
 use Rattle.plus_reply.specs.Reply.{IsPlain, HasCause, TellsRefusal, Gives, Replied, RepliedInPart}
 
 -- ---- a refusal as a reply

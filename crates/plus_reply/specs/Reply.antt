@@ -8,8 +8,8 @@ use Rattle.plus_reply.specs.declared.status.Status.TheVariants as s
 use Rattle.plus_reply.specs.declared.reply.Reply.{Reply}
 use Rattle.plus_reply.specs.declared.reply.Fault.{Fault}
 use Rattle.plus_reply.specs.declared.reply.Fault.TheVariants as faults
-use Rattle.plus_pair.specs.declared.pair.Refusal.{Refusal}
-use Rattle.plus_pair.specs.declared.pair.Refusal.TheVariants as refusals
+use Rattle.plus_reply.specs.declared.pair.pair.Refusal.{Refusal}
+use Rattle.plus_reply.specs.declared.pair.pair.Refusal.TheVariants as refusals
 use Rattle.plus_reply.specs.Statuses.{early_status, Writes}
 
 -- the status goes with a text

@@ -2,5 +2,6 @@
 #![tactic(auto)]
 
 pub mod canonical;
+pub mod pair;
 pub mod reply;
 pub mod status;

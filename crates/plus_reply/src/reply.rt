@@ -6,7 +6,7 @@ ghost use Rattle.plus_reply.specs.Reply.{TellsRefusal, Gives};
 
 use crate::status::{Status, status_for, tell};
 use plus_io::{MemSink, Sink};
-use plus_pair::pair::Refusal;
+use crate::pair::pair::Refusal;
 use plus_report::{Early, write_early};
 use std::alloc::{AllocError, Global};
 

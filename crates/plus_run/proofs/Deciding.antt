@@ -13,7 +13,7 @@ use Rattle.plus_reply.specs.declared.status.Status.TheVariants as s
 use Rattle.plus_run.specs.Command.{Command, Check, ShowDomain, ShowProblem, Numeric, Trial, Translate, Lift, Plan}
 use Rattle.plus_run.specs.Headline.{SpellsWellTyped, IsValidRun, IsRefusedRun, OnRefusal, status_of, IsAnswer}
 use Rattle.plus_run.specs.Laws.{IsSettled, IsInside, IsDecided, is_valid, is_invalid, Decides, DecidesFor}
-use Rattle.plus_pair.proofs.OnePair.{pair_once, pair_or_not}
+use Rattle.plus_reply.proofs.PairLemmas.OnePair.{pair_once, pair_or_not}
 use Rattle.plus_run.proofs.OneAnswer.{Checked, by_pair, by_ground, by_plan, check_wrote, no_usage}
 
 module _ (n : ℕ) (ds ps ls : List ℕ) (d : Domain) (p : Problem) (k : IsInside n ds ps ls d p) where

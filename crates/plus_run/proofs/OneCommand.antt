@@ -4,18 +4,18 @@ use Rattle.plus_grammar.specs.Texts.{IsDomainText, IsProblemText}
 use Rattle.plus_printer.specs.Canon.{domain_text, problem_text}
 use Rattle.plus_reply.specs.declared.status.Status.{Status}
 use Rattle.plus_reply.specs.declared.status.Status.TheVariants as s
-use Rattle.plus_trial_command.specs.Trial.{IsTrial}
-use Rattle.plus_trial_command.proofs.OneReply as trials
+use Rattle.plus_trial.specs.Trial.{IsTrial}
+use Rattle.plus_trial.proofs.CommandLemmas.OneReply as trials
 use Rattle.plus_translate_command.specs.Translate.{Translates}
 use Rattle.plus_translate_command.proofs.OneReply as translations
-use Rattle.plus_lift_command.specs.Lift.{Lifts}
-use Rattle.plus_lift_command.proofs.OneReply as lifts
+use Rattle.plus_lift.specs.Command.Lift.{Lifts}
+use Rattle.plus_lift.proofs.CommandLemmas.OneReply as lifts
 use Rattle.plus_run.specs.Command.{Check, ShowDomain, ShowProblem, Numeric, Trial, Translate, Lift, Plan}
-use Rattle.plus_pair.specs.Pair.{depth_limit, DomainRefused, ProblemRefused}
+use Rattle.plus_reply.specs.Pair.Pair.{depth_limit, DomainRefused, ProblemRefused}
 use Rattle.plus_run.specs.Headline.{usage_line}
 use Rattle.plus_reply.specs.Statuses.{Writes}
 use Rattle.plus_run.specs.Laws.{IsSettled, OneAnswer}
-use Rattle.plus_pair.proofs.OnePair.{domain_spelled_once, problem_spelled_once, domain_refused_once, problem_refused_once, domain_or_not, problem_or_not}
+use Rattle.plus_reply.proofs.PairLemmas.OnePair.{domain_spelled_once, problem_spelled_once, domain_refused_once, problem_refused_once, domain_or_not, problem_or_not}
 use Rattle.plus_run.proofs.OneAnswer.{both_checks, both_shows, no_usage}
 use Rattle.plus_run.proofs.OneNumeric.{both_numeric}
 use Rattle.plus_run.proofs.OneReply.{both_replies, both_on_two, both_on_three}

@@ -13,11 +13,11 @@ use Rattle.plus_reply.specs.Statuses.{Writes}
 use Rattle.plus_reply.specs.Reply.{IsPlain, HasCause, Gives}
 use Rattle.plus_reply.specs.Reply.{Replied, RepliedInPart}
 use Rattle.plus_reply.proofs.ReplyLemmas.{two_taken, two_taken_as, two_in_part, three_taken, three_taken_as, three_in_part}
-use Rattle.plus_trial_command.specs.Trial.{IsTrial}
+use Rattle.plus_trial.specs.Trial.{IsTrial}
 use Rattle.plus_translate_command.specs.Translate.{Translates}
 use Rattle.plus_translate_command.specs.declared.translate.HalfReply.{HalfReply}
 use Rattle.plus_translate_command.specs.HalfReply as halves
-use Rattle.plus_lift_command.specs.Lift.{Lifts}
+use Rattle.plus_lift.specs.Command.Lift.{Lifts}
 use Rattle.plus_plan_command.specs.Plan.{Plans}
 use Rattle.plus_run.specs.Command.{Command, Trial, Translate, Lift, Plan}
 use Rattle.plus_run.specs.Headline.{RunsValid, RunsRefused, RunsBroken, IsAnswer}

@@ -17,9 +17,9 @@ use Rattle.plus_validator.specs.Leaving.{TookLines, TookSoFar, LeavesReport, Bre
 use Rattle.plus_reply.specs.declared.status.Status.{Status}
 use Rattle.plus_reply.specs.declared.status.Status.TheVariants as s
 use Rattle.plus_run.specs.Command.{Command}
-use Rattle.plus_pair.specs.Pair.{PairRefused}
-use Rattle.plus_pair.specs.Reads.{ReadsPair}
-use Rattle.plus_pair.proofs.SpelledLemmas.{on_pair, told}
+use Rattle.plus_reply.specs.Pair.Pair.{PairRefused}
+use Rattle.plus_reply.specs.Pair.Reads.{ReadsPair}
+use Rattle.plus_reply.proofs.PairLemmas.SpelledLemmas.{on_pair, told}
 use Rattle.plus_run.specs.Headline.{SpellsWellTyped, IsValidRun, IsRefusedRun, for_pair, for_ground, for_plan, IsBrokenRun, in_pair, in_ground, in_report, in_plan, IsUnreadRun, at_once, in_lines, IsStoppedRun, nothing, so_far, OnRefusal, status_of, exit_number, IsAnswer, EndsWith}
 use Rattle.plus_reply.specs.Statuses.{early_status, Writes}
 

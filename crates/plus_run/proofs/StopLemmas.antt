@@ -12,9 +12,9 @@ use Rattle.plus_validator.specs.Leaving.{StopsReading}
 use Rattle.plus_reply.specs.declared.status.Status.{Status}
 use Rattle.plus_reply.specs.declared.status.Status.TheVariants as s
 use Rattle.plus_reply.specs.Statuses.{early_status, Writes}
-use Rattle.plus_pair.specs.Pair.{text_limit, SpellsWellTyped}
-use Rattle.plus_pair.specs.Reads.{ReadsPair}
-use Rattle.plus_pair.proofs.SpelledLemmas.{on_pair}
+use Rattle.plus_reply.specs.Pair.Pair.{text_limit, SpellsWellTyped}
+use Rattle.plus_reply.specs.Pair.Reads.{ReadsPair}
+use Rattle.plus_reply.proofs.PairLemmas.SpelledLemmas.{on_pair}
 use Rattle.plus_run.specs.Command.{Command, Check, ShowDomain, ShowProblem, Numeric, Trial, Translate, Lift, Plan}
 use Rattle.plus_run.specs.Headline.{IsAnswer}
 use Rattle.plus_run.specs.Stopping.{StopsCheck, in_plan, StopsRun}

@@ -4,7 +4,7 @@ use Rattle.std.specs.Str.{bytes_eq}
 use Rattle.plus_fraction.specs.Fraction.{Fraction}
 use Rattle.plus_types.specs.declared.faults.File.{File}
 use Rattle.plus_types.specs.declared.faults.File.TheVariants as files
-use Rattle.plus_interval.specs.Interval.{interval_of}
+use Rattle.plus_words.specs.Interval.{interval_of}
 use Rattle.plus_words.specs.Decisions.{decisions_of}
 use Rattle.plus_words.specs.Happenings.{default_happenings, happenings_of}
 use Rattle.plus_words.specs.Tanks.{tanks_of}

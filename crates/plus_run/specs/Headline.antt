@@ -14,14 +14,14 @@ use Rattle.plus_validator.specs.Leaving.{TookLines, TookSoFar, BreaksOffSoFar}
 use Rattle.plus_grammar.specs.Texts.{IsDomainText, IsProblemText}
 use Rattle.plus_printer.specs.Canon.{domain_text, problem_text}
 use Rattle.plus_run.specs.Command.{Command, Check, ShowDomain, ShowProblem, Numeric, Trial, Translate, Lift, Plan}
-use Rattle.plus_pair.specs.Pair.{depth_limit, PairRefused, DomainRefused, ProblemRefused}
-pub use Rattle.plus_pair.specs.Pair.{SpellsWellTyped}
+use Rattle.plus_reply.specs.Pair.Pair.{depth_limit, PairRefused, DomainRefused, ProblemRefused}
+pub use Rattle.plus_reply.specs.Pair.Pair.{SpellsWellTyped}
 use Rattle.plus_reply.specs.Statuses.{early_status, Writes}
 pub use Rattle.plus_reply.specs.Statuses.{status_of, exit_number}
 use Rattle.plus_reply.specs.Reply.{Replied, RepliedInPart}
-use Rattle.plus_trial_command.specs.Trial.{IsTrial}
+use Rattle.plus_trial.specs.Trial.{IsTrial}
 use Rattle.plus_translate_command.specs.Translate.{Translates}
-use Rattle.plus_lift_command.specs.Lift.{Lifts}
+use Rattle.plus_lift.specs.Command.Lift.{Lifts}
 use Rattle.plus_plan_command.specs.Plan.{Plans}
 use Rattle.plus_run.specs.Numeric.{RunsNumeric, RefusesNumeric, BreaksNumeric}
 use Rattle.plus_run.specs.Shown.{IsShown, IsNotShown, IsShownInPart}

@@ -4,7 +4,7 @@ use Rattle.plus_io.specs.Taken.{Took, TookPart}
 use Rattle.plus_report.specs.declared.refusals.Early.{Early}
 use Rattle.plus_report.specs.Refusals.{early_text}
 use Rattle.plus_reply.specs.declared.status.Status.{Status}
-use Rattle.plus_pair.specs.Pair.{text_limit}
+use Rattle.plus_reply.specs.Pair.Pair.{text_limit}
 use Rattle.plus_reply.specs.Statuses.{early_status}
 
 -- the text is within its limit and spells the tree

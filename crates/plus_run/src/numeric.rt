@@ -3,15 +3,15 @@
 ghost use Rattle.std.specs.Prelude.{◌≡◌, ℕ, ◌≤◌, ◌+◌, List, [], ◌∷◌, Some};
 ghost use Rattle.plus_io.specs.Files.{KeepsFiles};
 ghost use Rattle.plus_io.specs.Picks.{ReadsInOrder};
-ghost use Rattle.plus_pair.specs.Pair.{text_limit};
-ghost use Rattle.plus_pair.specs.Reads.{ReadsPair};
+ghost use Rattle.plus_reply.specs.Pair.Pair.{text_limit};
+ghost use Rattle.plus_reply.specs.Pair.Reads.{ReadsPair};
 ghost use Rattle.plus_run.specs.Command.{Numeric};
 ghost use Rattle.plus_run.specs.Headline.{IsAnswer};
 
 use crate::command::PlanFiles;
 use plus_io::{Freeing, Shelf, Sink};
 use plus_numeric::{Source, Stop};
-use plus_pair::pair::{Refusal, pair, release};
+use plus_reply::pair::pair::{Refusal, pair, release};
 use plus_reply::status::{Status, refuse, tell};
 use plus_types::Typed;
 use std::alloc::Global;

@@ -3,7 +3,7 @@
 ghost use Rattle.std.specs.Prelude.{◌≡◌, ℕ, ◌≤◌, ◌+◌, List, Option, [], ◌∷◌, Some};
 ghost use Rattle.plus_io.specs.Files.{KeepsFiles};
 ghost use Rattle.plus_io.specs.Picks.{ReadsInOrder};
-ghost use Rattle.plus_pair.specs.Pair.{text_limit};
+ghost use Rattle.plus_reply.specs.Pair.Pair.{text_limit};
 ghost use Rattle.plus_run.specs.Command.{Trial};
 ghost use Rattle.plus_run.specs.Headline.{IsAnswer};
 ghost use Rattle.plus_run.specs.Meant.{meant};
@@ -23,7 +23,7 @@ pub fn trial<O: Sink>(alloc: Global, tanks: Tanks, out: &mut O, freeing: Freeing
         (O.faults out.old) (O.faults out.new) result }
     ensures no_fall { O.faults out.old ≤ O.faults out.new }
 {
-    let reply = plus_trial_command::answer(alloc, tanks, freeing);
+    let reply = plus_trial::command::answer(alloc, tanks, freeing);
     give(out, &reply)
 }
 
@@ -69,7 +69,7 @@ pub fn lift<S: Shelf, O: Sink>(
     ensures keeps { KeepsFiles S.names S.bytes S.faults shelf.old shelf.new }
     ensures no_fall { O.faults out.old ≤ O.faults out.new }
 {
-    let reply = plus_lift_command::answer(
+    let reply = plus_lift::command::answer(
         alloc,
         words.interval,
         words.domain,

@@ -3,7 +3,7 @@
 ghost use Rattle.std.specs.Prelude.{◌≡◌, ◌≤◌, ◌+◌, map, string_bytes, Some};
 ghost use Rattle.plus_io.specs.Files.{KeepsFiles};
 ghost use Rattle.plus_io.specs.Picks.{ReadsInOrder};
-ghost use Rattle.plus_pair.specs.Pair.{text_limit};
+ghost use Rattle.plus_reply.specs.Pair.Pair.{text_limit};
 ghost use Rattle.plus_reply.specs.Statuses.{Writes};
 ghost use Rattle.plus_run.specs.Command.{command_of, files_of};
 ghost use Rattle.plus_run.specs.Laws.{DecidesFor};
@@ -16,7 +16,7 @@ use crate::numeric::numeric;
 use crate::replies::{lift, plan, translate, trial};
 use crate::show::{show_domain, show_problem};
 use plus_io::{Freeing, Shelf, Sink};
-use plus_pair::pair::{Refusal, pair, release};
+use plus_reply::pair::pair::{Refusal, pair, release};
 use plus_reply::status::{Status, refuse, tell};
 use plus_validator::validate;
 use std::alloc::Global;

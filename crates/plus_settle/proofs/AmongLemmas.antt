@@ -23,7 +23,7 @@ use Rattle.plus_state.specs.View.{process_of, problem_of}
 use Rattle.plus_state.specs.Fits.{ProcessFits}
 use Rattle.plus_crossing.proofs.Straight.{soon_tells}
 use Rattle.plus_reads.proofs.Sets.{not_first}
-use Rattle.plus_still.proofs.Listed.{PassesOver, Walked, walked_start, walked_inside, walked_here, walked_end, item_at, from_item, none_left}
+use Rattle.plus_settle.proofs.StillLemmas.Listed.{PassesOver, Walked, walked_start, walked_inside, walked_here, walked_end, item_at, from_item, none_left}
 use Rattle.plus_settle.specs.Steps.{AllPass}
 use Rattle.plus_settle.specs.Members.{process_numbers, AreMembers, soon}
 use Rattle.plus_settle.specs.Confirms.{soon_steps, differ, go_steps, first_other}

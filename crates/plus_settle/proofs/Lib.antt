@@ -8,3 +8,4 @@ pub mod SettlesLemmas
 pub mod AmongLemmas
 pub mod ShortLemmas
 pub mod MovingLemmas
+pub mod StillLemmas

@@ -22,7 +22,7 @@ use Rattle.plus_reads.specs.Laws.{StandsStill}
 use Rattle.plus_reads.specs.declared.readers.Readers.{Readers}
 use Rattle.plus_reads.proofs.Sets.{none_below, not_first, false_unless}
 use Rattle.plus_crossing.specs.Rated.{moving_of}
-use Rattle.plus_still.proofs.Standing.{standing_still}
+use Rattle.plus_settle.proofs.StillLemmas.Standing.{standing_still}
 use Rattle.plus_settle.specs.declared.settling.Running.{Running}
 use Rattle.plus_settle.specs.declared.stops.GoStop.{GoStop}
 use Rattle.plus_settle.specs.declared.stops.GoStop.TheVariants as go

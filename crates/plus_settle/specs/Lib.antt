@@ -7,3 +7,4 @@ pub mod Laws
 pub mod Among
 pub mod Uncoupled
 pub mod Moving
+pub mod Still

@@ -15,6 +15,7 @@ pub mod moving;
 pub mod net;
 pub mod settling;
 pub mod settling_among;
+pub mod still;
 pub mod stops;
 
 pub use among::first_other_among;

@@ -13,7 +13,7 @@ use Rattle.plus_state.specs.View.{event_of, process_of, problem_of}
 use Rattle.plus_state.specs.Numbers.{numbers_from, AreMembers}
 use Rattle.plus_state.specs.Walk.{event_conditions, process_conditions, OthersFalse}
 use Rattle.plus_state.proofs.LookingLemmas.{all_are_members}
-use Rattle.plus_still.specs.Others.{OthersStill}
+use Rattle.plus_settle.specs.Still.Others.{OthersStill}
 
 each_in : (k n i : ℕ) → k ≤ i → i < k + n → is_in (numbers_from k n) i ≡ true
 each_in k zero i h l = absurd (omega arith)

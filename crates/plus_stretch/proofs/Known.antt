@@ -5,10 +5,10 @@ use Rattle.plus_fraction.specs.Fraction.{Fraction, whole}
 use Rattle.plus_model.specs.Terms.{Condition, Event, State, Problem}
 use Rattle.plus_model.specs.Firing.{is_in}
 use Rattle.plus_state.specs.Walk.{event_conditions, OthersFalse}
-use Rattle.plus_still.specs.Laws.{TellsStill}
-use Rattle.plus_still.specs.Others.{OthersStill}
-use Rattle.plus_still.proofs.Standing.{standing_still}
-use Rattle.plus_still.proofs.Listed.{mapped}
+use Rattle.plus_settle.specs.Still.Laws.{TellsStill}
+use Rattle.plus_settle.specs.Still.Others.{OthersStill}
+use Rattle.plus_settle.proofs.StillLemmas.Standing.{standing_still}
+use Rattle.plus_settle.proofs.StillLemmas.Listed.{mapped}
 use Rattle.plus_stretch.specs.After.{soon}
 use Rattle.plus_stretch.specs.Among.{OthersNotSoon, OthersHaveNoRoot, OthersKnown}
 

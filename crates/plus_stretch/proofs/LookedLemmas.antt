@@ -12,10 +12,10 @@ use Rattle.plus_model.proofs.Members.{in_first, in_later, in_cases}
 use Rattle.plus_state.specs.Numbers.{AreMembers}
 use Rattle.plus_reads.proofs.Sets.{false_unless, in_either}
 use Rattle.plus_state.specs.Fits.{Fits}
-use Rattle.plus_still.specs.Simple.{is_simple, HaveRates}
-use Rattle.plus_still.proofs.Asking.{fits_have}
-use Rattle.plus_still.specs.Others.{OthersStand}
-use Rattle.plus_still.proofs.Simply.{still_simple}
+use Rattle.plus_settle.specs.Still.Simple.{is_simple, HaveRates}
+use Rattle.plus_settle.proofs.StillLemmas.Asking.{fits_have}
+use Rattle.plus_settle.specs.Still.Others.{OthersStand}
+use Rattle.plus_settle.proofs.StillLemmas.Simply.{still_simple}
 use Rattle.plus_stretch.specs.Skips.{simple_at, not_simple_among, OthersSimple}
 
 -- ---- those that are not simple

@@ -10,7 +10,7 @@ use Rattle.plus_state.specs.Numbers.{AreMembers}
 use Rattle.plus_crossing.specs.Asked as crossing
 use Rattle.plus_crossing.specs.Next.{cross_asks}
 use Rattle.plus_crossing.specs.Listed.{live_roots}
-use Rattle.plus_still.proofs.Listed.{PassesOver, Walked, walked_start, walked_here, walked_end, item_at, from_item, mapped, none_left}
+use Rattle.plus_settle.proofs.StillLemmas.Listed.{PassesOver, Walked, walked_start, walked_here, walked_end, item_at, from_item, mapped, none_left}
 use Rattle.plus_stretch.specs.Tests.{Whose, event, process, AllPass}
 use Rattle.plus_stretch.specs.Crossings.{Among, roots_in, all_roots}
 use Rattle.plus_stretch.specs.StretchTests.{root_tests_in}

@@ -11,7 +11,7 @@ use Rattle.plus_state.specs.declared.problem.Ground.{Ground}
 use Rattle.plus_state.specs.View.{event_of, process_of, problem_of}
 use Rattle.plus_state.specs.Numbers.{event_numbers, AreMembers}
 use Rattle.plus_state.specs.Walk.{event_conditions, process_conditions}
-use Rattle.plus_still.proofs.Listed.{Walked, walked_inside}
+use Rattle.plus_settle.proofs.StillLemmas.Listed.{Walked, walked_inside}
 
 -- the numbers from place i on
 pub next_event : (xs : List EventId) (i : ℕ) (d : EventId) → i < length xs → event_numbers (drop i xs) ≡ (get_or xs i d).0 ∷ event_numbers (drop (i + 1) xs)

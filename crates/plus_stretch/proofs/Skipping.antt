@@ -22,9 +22,9 @@ use Rattle.plus_crossing.specs.Next.{cross_asks, LiveRoot}
 use Rattle.plus_crossing.specs.Listed.{live_roots}
 use Rattle.plus_crossing.proofs.Steady.{one_truth_until_next}
 use Rattle.plus_crossing.proofs.Straight.{soon_tells}
-use Rattle.plus_still.specs.Simple.{is_simple}
-use Rattle.plus_still.proofs.Listed.{item_at, mapped}
-use Rattle.plus_still.proofs.Simply.{tests_fit, cross_live, simple_same}
+use Rattle.plus_settle.specs.Still.Simple.{is_simple}
+use Rattle.plus_settle.proofs.StillLemmas.Listed.{item_at, mapped}
+use Rattle.plus_settle.proofs.StillLemmas.Simply.{tests_fit, cross_live, simple_same}
 use Rattle.plus_settle.specs.Members.{soon as runs_soon}
 use Rattle.plus_stretch.specs.Tests.{AllPass}
 use Rattle.plus_stretch.specs.Crossings.{all_roots, Among, RisesAbove}

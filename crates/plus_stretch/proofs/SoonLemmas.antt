@@ -19,7 +19,7 @@ use Rattle.plus_crossing.specs.Conds.{live_asks}
 use Rattle.plus_crossing.proofs.Straight.{soon_tells}
 use Rattle.plus_stretch.specs.Tests.{event, Test, breach, Passes, AllPass, FirstFailing, of_ask}
 use Rattle.plus_stretch.specs.StretchTests.{after_tests, if_none}
-use Rattle.plus_still.proofs.Listed.{PassesOver, Walked, walked_start, walked_here, walked_end, item_at, from_item, none_left}
+use Rattle.plus_settle.proofs.StillLemmas.Listed.{PassesOver, Walked, walked_start, walked_here, walked_end, item_at, from_item, none_left}
 use Rattle.plus_stretch.specs.After.{soon, event_tests, soon_tests, first_after, NoneHoldsAfter}
 use Rattle.plus_stretch.specs.Among.{IsNotSoon, OthersNotSoon}
 use Rattle.plus_stretch.proofs.Layers.{asks_carry}

@@ -3,7 +3,7 @@ use Rattle.std.specs.Prelude.{◌≡◌, ℕ, Bool, true, false, List, [], ◌�
 use Rattle.plus_fraction.specs.Fraction.{Fraction}
 use Rattle.plus_model.specs.Terms.{Condition}
 use Rattle.plus_model.specs.Firing.{is_in}
-use Rattle.plus_still.specs.Simple.{is_simple}
+use Rattle.plus_settle.specs.Still.Simple.{is_simple}
 
 abbrev pub simple_at : Option Condition → List Fraction → Bool
 simple_at None rs = true

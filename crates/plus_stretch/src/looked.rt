@@ -17,7 +17,7 @@ use plus_state::outcome::Owner;
 use plus_state::problem::Ground;
 use plus_state::term::{EventId, ProcessId};
 use plus_state::walk::Conditional;
-use plus_still::simple::is_simple;
+use plus_settle::still::simple::is_simple;
 use std::alloc::{AllocError, Global};
 
 /// Events and processes.

@@ -9,7 +9,7 @@ ghost use Rattle.plus_state.specs.Numbers.{event_numbers};
 ghost use Rattle.plus_state.specs.Walk.{event_conditions, process_conditions, OthersFalse};
 ghost use Rattle.plus_crossing.specs.Motions.{Extends};
 ghost use Rattle.plus_crossing.specs.Moves.{moved_nodes};
-ghost use Rattle.plus_still.specs.Others.{OthersStill};
+ghost use Rattle.plus_settle.specs.Still.Others.{OthersStill};
 ghost use Rattle.plus_settle.specs.Members.{process_numbers, AreMembers};
 ghost use Rattle.plus_stretch.specs.Tests.{asks, AllPass};
 ghost use Rattle.plus_stretch.specs.StretchTests.{root_tests};

@@ -7,7 +7,7 @@ ghost use Rattle.plus_state.specs.Fits.{StateFits};
 ghost use Rattle.plus_state.specs.View.{problem_of};
 ghost use Rattle.plus_state.specs.Numbers.{event_numbers};
 ghost use Rattle.plus_state.specs.Walk.{event_conditions, process_conditions, OthersFalse};
-ghost use Rattle.plus_still.specs.Others.{OthersStill};
+ghost use Rattle.plus_settle.specs.Still.Others.{OthersStill};
 ghost use Rattle.plus_settle.specs.Members.{process_numbers, AreMembers};
 ghost use Rattle.plus_timeline.specs.EntryStates.{IsReached, Leads};
 ghost use Rattle.plus_timeline.specs.Undo.{undone, recalled, Notes};

@@ -9,7 +9,7 @@ ghost use Rattle.plus_state.specs.Changes.{patched, RisesIn, LeadsTo};
 ghost use Rattle.plus_state.specs.Fits.{StateFits, ActionFits};
 ghost use Rattle.plus_state.specs.Numbers.{AreMembers};
 ghost use Rattle.plus_state.specs.Walk.{event_conditions, process_conditions, OthersFalse, OthersPass};
-ghost use Rattle.plus_still.specs.Others.{OthersStill};
+ghost use Rattle.plus_settle.specs.Still.Others.{OthersStill};
 ghost use Rattle.plus_stretch.specs.Tests.{AllPass};
 ghost use Rattle.plus_timeline.specs.Serving.{Serves};
 ghost use Rattle.plus_timeline.specs.EntryStates.{IsReached};

@@ -1,2 +1,3 @@
 pub mod TranslateLemmas
 pub mod OneReply
+pub mod PrinterLemmas

@@ -10,12 +10,12 @@ use Rattle.plus_translate.specs.declared.fault.TransFault.{TransFault}
 use Rattle.plus_translate.specs.declared.fault.TransFault.TheVariants.{NameTaken, OffGrid, TooDeep, Memory}
 use Rattle.plus_translate.specs.Translates.{IsTranslation}
 use Rattle.plus_translate.proofs.OneFault.{IsTold, one_fault, translated_or_not}
-use Rattle.plus_pair.specs.declared.pair.Refusal.TheVariants as refusals
-use Rattle.plus_pair.specs.Pair.{SpellsWellTyped}
-use Rattle.plus_pair.proofs.OnePair.{pair_once, pair_or_not, pair_refused_once}
+use Rattle.plus_reply.specs.declared.pair.pair.Refusal.TheVariants as refusals
+use Rattle.plus_reply.specs.Pair.Pair.{SpellsWellTyped}
+use Rattle.plus_reply.proofs.PairLemmas.OnePair.{pair_once, pair_or_not, pair_refused_once}
 use Rattle.plus_reply.specs.Statuses.{early_status}
 use Rattle.plus_reply.specs.Reply.{HasOneReply}
-use Rattle.plus_translation_printer.specs.Printed.{half_text}
+use Rattle.plus_translate_command.specs.Printer.Printed.{half_text}
 use Rattle.plus_translate_command.specs.Translate.{trans_refusal, IsUntranslated, TranslatesPair, half, no_translation, Translates, no_pair, of_pair}
 
 -- a line tells of a fault, and not of want of memory

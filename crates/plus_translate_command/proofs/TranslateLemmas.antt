@@ -9,10 +9,10 @@ use Rattle.plus_types.specs.Faults.{is_well_typed}
 use Rattle.plus_report.specs.declared.refusals.Early.{Early}
 use Rattle.plus_translate.specs.declared.fault.TransFault.{TransFault}
 use Rattle.plus_translate.specs.declared.fault.TransFault.TheVariants.{NameTaken, OffGrid, TooDeep, Memory}
-use Rattle.plus_pair.specs.declared.pair.Refusal.{Refusal}
-use Rattle.plus_pair.specs.declared.pair.Refusal.TheVariants as refusals
-use Rattle.plus_pair.specs.Reads.{ReadsPair, NoPair}
-use Rattle.plus_pair.proofs.SpelledLemmas.{on_pair}
+use Rattle.plus_reply.specs.declared.pair.pair.Refusal.{Refusal}
+use Rattle.plus_reply.specs.declared.pair.pair.Refusal.TheVariants as refusals
+use Rattle.plus_reply.specs.Pair.Reads.{ReadsPair, NoPair}
+use Rattle.plus_reply.proofs.PairLemmas.SpelledLemmas.{on_pair}
 use Rattle.plus_reply.specs.declared.status.Status.{Status}
 use Rattle.plus_reply.specs.declared.reply.Reply.{Reply}
 use Rattle.plus_translate_command.specs.declared.translate.HalfReply.{HalfReply}
@@ -23,8 +23,8 @@ use Rattle.plus_reply.specs.Reply as replies
 use Rattle.plus_translate_command.specs.HalfReply.{TellsRefusal}
 use Rattle.plus_io.specs.Faults.{Rose}
 use Rattle.plus_report.specs.Refusals.{early_text}
-use Rattle.plus_pair.specs.Pair.{PairRefused}
-use Rattle.plus_pair.proofs.SpelledLemmas.{told}
+use Rattle.plus_reply.specs.Pair.Pair.{PairRefused}
+use Rattle.plus_reply.proofs.PairLemmas.SpelledLemmas.{told}
 use Rattle.plus_reply.specs.Statuses.{early_status}
 use Rattle.plus_reply.proofs.ReplyLemmas.{early_plain}
 use Rattle.plus_translate_command.specs.Translate.{trans_refusal, IsUntranslated, TranslatesPair, half, no_translation, Translates, no_pair, of_pair}

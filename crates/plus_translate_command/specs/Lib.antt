@@ -1,3 +1,4 @@
 pub mod Translate
 pub mod Laws
 pub mod HalfReply
+pub mod Printer

@@ -12,10 +12,10 @@ use Rattle.plus_report.specs.Refusals.{early_text}
 use Rattle.plus_translate.specs.declared.fault.TransFault.{TransFault}
 use Rattle.plus_translate.specs.declared.fault.TransFault.TheVariants.{NameTaken, OffGrid, TooDeep, Memory}
 use Rattle.plus_translate.specs.Translates.{IsTranslation, NoTranslation}
-use Rattle.plus_translation_printer.specs.Printed.{half_text}
-use Rattle.plus_pair.specs.declared.pair.Refusal.{Refusal}
-use Rattle.plus_pair.specs.declared.pair.Refusal.TheVariants as refusals
-use Rattle.plus_pair.specs.Pair.{text_named, PairRefused, SpellsWellTyped}
+use Rattle.plus_translate_command.specs.Printer.Printed.{half_text}
+use Rattle.plus_reply.specs.declared.pair.pair.Refusal.{Refusal}
+use Rattle.plus_reply.specs.declared.pair.pair.Refusal.TheVariants as refusals
+use Rattle.plus_reply.specs.Pair.Pair.{text_named, PairRefused, SpellsWellTyped}
 use Rattle.plus_reply.specs.declared.status.Status.{Status}
 use Rattle.plus_reply.specs.declared.status.Status.TheVariants as s
 use Rattle.plus_reply.specs.Statuses.{early_status}

@@ -2,6 +2,7 @@
 #![tactic(auto)]
 
 pub mod laws;
+pub mod printer;
 pub mod translate;
 
 pub use translate::{answer, give, translated};

@@ -1,1 +1,2 @@
 pub mod FarmLemmas
+pub mod CommandLemmas

@@ -13,7 +13,7 @@ use Rattle.plus_types.specs.declared.faults.Wrong.{Wrong}
 use Rattle.plus_types.specs.declared.faults.Wrong.TheVariants.{UnknownType, UnknownName, Arity, WrongType, Twice, Unbound, Shadowed, TypeLoop, RateForm, DomainName}
 use Rattle.plus_types.specs.Types.{is_above_within, is_above, is_under, names_of, bindings_of}
 use Rattle.plus_types.specs.Faults.{listed_faults, member_faults, head_faults, leaf_faults, schema_faults, declaration_faults, rule_faults, state_faults, problem_faults, type_faults, same_names}
-use Rattle.plus_types_rows.specs.Words.{name_at, form_at, word, typed, untyped, the, var, number, clock, atom, both, some, every, bare, problem, any_problem}
+use Rattle.plus_typing.specs.Worked.Words.{name_at, form_at, word, typed, untyped, the, var, number, clock, atom, both, some, every, bare, problem, any_problem}
 use Rattle.plus_typing.specs.Forms.{Standing, all_uses, all_terms, all_lists, in_problem}
 use Rattle.plus_typing.specs.WellTyped.{Rule, AllDiffer, NamesOnce, HasType, HasTypes, IsDeclared, IsObject, IsBound, IsCounted, Fits, FitsParameter}
 use Rattle.plus_typing.specs.Rows.{BreaksOnly, AloneRows, idlers, one_type, one_predicate, one_object}

@@ -6,3 +6,4 @@ pub mod Typed
 pub mod RulesRows
 pub mod First
 pub mod AloneRows
+pub mod TypingRows

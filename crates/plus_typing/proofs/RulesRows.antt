@@ -11,7 +11,7 @@ use Rattle.plus_types.specs.declared.faults.TypeFault.{TypeFault}
 use Rattle.plus_types.specs.declared.faults.TypeFault.TheVariants.{At}
 use Rattle.plus_types.specs.Types.{is_above_within, is_above, is_under}
 use Rattle.plus_types.specs.Faults.{listed_faults, member_faults, head_faults, leaf_faults, schema_faults, declaration_faults, rule_faults, state_faults, problem_faults, type_faults}
-use Rattle.plus_types_rows.specs.Words.{name_at, form_at}
+use Rattle.plus_typing.specs.Worked.Words.{name_at, form_at}
 use Rattle.plus_typing.specs.Laws.{NamesBroken}
 use Rattle.plus_typing.specs.Rows.{Breaks, RuleRows, busy_depot, busy_day}
 use Rattle.plus_typing.proofs.Typed.{well_typed_by_statements, faults_name_rules}

@@ -3,3 +3,4 @@ pub mod WellTyped
 pub mod Asked
 pub mod Laws
 pub mod Rows
+pub mod Worked

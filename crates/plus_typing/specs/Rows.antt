@@ -10,8 +10,8 @@ use Rattle.plus_tree.specs.Cond.{Cond, c_compare}
 use Rattle.plus_tree.specs.Effect.{e_when}
 use Rattle.plus_types.specs.declared.faults.Wrong.{Wrong}
 use Rattle.plus_types.specs.declared.faults.Wrong.TheVariants.{UnknownType, UnknownName, Arity, WrongType, Twice, Unbound, Shadowed, TypeLoop, RateForm, DomainName}
-use Rattle.plus_types_rows.specs.Words.{form_at, word, typed, untyped, the, var, use_of, literal, number, clock, fluent, atom, both, some, every, leaf, write, all, head, schema, bare, problem, any_problem}
-use Rattle.plus_types_rows.specs.Typing.{depot, things, moves, more_fuel, in_time}
+use Rattle.plus_typing.specs.Worked.Words.{form_at, word, typed, untyped, the, var, use_of, literal, number, clock, fluent, atom, both, some, every, leaf, write, all, head, schema, bare, problem, any_problem}
+use Rattle.plus_typing.specs.Worked.Typing.{depot, things, moves, more_fuel, in_time}
 use Rattle.plus_typing.specs.WellTyped.{Rule, IsWellTyped}
 
 -- a truck with fuel is at home and is seen there; it loads fuel in time

@@ -2,3 +2,4 @@ pub mod Numbers
 pub mod Happenings
 pub mod Tanks
 pub mod Decisions
+pub mod Interval

@@ -4,5 +4,6 @@
 
 pub mod decisions;
 pub mod happenings;
+pub mod interval;
 pub mod numbers;
 pub mod tanks;

@@ -1,7 +1,7 @@
 use Rattle.std.proofs.Common.{length}
-use Rattle.plus_reading.specs.Grammar.{until_close}
+use Rattle.plus_parser.specs.Phrases.Grammar.{until_close}
 use Rattle.plus_parser.specs.ReadingDomain.{function_step, no_functions}
-use Rattle.plus_reading.proofs.Until.{Stays}
+use Rattle.plus_parser.proofs.PhraseLemmas.Until.{Stays}
 use Rattle.plus_parser.proofs.declarations.functions.Given as goal
 
 abbrev pub invariant-found : goal.invariant-found

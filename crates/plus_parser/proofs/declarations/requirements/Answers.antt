@@ -1,9 +1,9 @@
 use Rattle.std.proofs.Common.{sym, arith}
 use Rattle.std.proofs.lemmas.Result.{err_from_is_err_and}
-use Rattle.plus_reading.specs.Reading.{next_of}
+use Rattle.plus_parser.specs.Phrases.Reading.{next_of}
 use Rattle.plus_parser.specs.ReadingDomain.{requirement_step}
 use Rattle.plus_tokens.specs.Seen.{seen}
-use Rattle.plus_reading.proofs.Until.{fails_along, stops, closes, fails, goes_on}
+use Rattle.plus_parser.proofs.PhraseLemmas.Until.{fails_along, stops, closes, fails, goes_on}
 use Rattle.plus_parser.proofs.declarations.requirements.Goals as goal
 
 pub returns-in_err-token-clause-gives : goal.returns-in_err-token-clause-gives

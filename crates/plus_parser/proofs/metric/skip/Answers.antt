@@ -1,8 +1,8 @@
 use Rattle.std.proofs.Common.{◌≡◌, ◌<◌, sym, arith}
 use Rattle.std.proofs.lemmas.Result.{err_from_is_err_and}
-use Rattle.plus_reading.specs.Reading.{next_of}
+use Rattle.plus_parser.specs.Phrases.Reading.{next_of}
 use Rattle.plus_tokens.specs.Seen.{seen}
-use Rattle.plus_reading.proofs.Until.{fails_along}
+use Rattle.plus_parser.proofs.PhraseLemmas.Until.{fails_along}
 use Rattle.plus_parser.proofs.Skips.{skip_stops, skip_opens, skip_passes, skip_ends, skip_closes}
 use Rattle.plus_parser.proofs.metric.skip.Goals as goal
 

@@ -1,7 +1,7 @@
 use Rattle.std.proofs.Common.{length, []}
-use Rattle.plus_reading.specs.Grammar.{until_close, form_step}
+use Rattle.plus_parser.specs.Phrases.Grammar.{until_close, form_step}
 use Rattle.plus_parser.specs.ReadingProblem.{init_at}
-use Rattle.plus_reading.proofs.Until.{Stays}
+use Rattle.plus_parser.proofs.PhraseLemmas.Until.{Stays}
 use Rattle.plus_parser.proofs.problems.inits.Given as goal
 
 abbrev pub invariant-found : goal.invariant-found

@@ -1,7 +1,7 @@
 use Rattle.std.proofs.Common.{length}
-use Rattle.plus_reading.specs.Grammar.{until_close}
+use Rattle.plus_parser.specs.Phrases.Grammar.{until_close}
 use Rattle.plus_parser.specs.ReadingProblem.{problem_step, no_problem_parts}
-use Rattle.plus_reading.proofs.Until.{Stays}
+use Rattle.plus_parser.proofs.PhraseLemmas.Until.{Stays}
 use Rattle.plus_parser.proofs.problems.sections.Given as goal
 
 abbrev pub invariant-found : goal.invariant-found

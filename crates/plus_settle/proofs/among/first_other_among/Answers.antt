@@ -1,7 +1,7 @@
 use Rattle.std.proofs.Common.{◌<◌, length, get_or, ap₂, sym, ◌∙◌, arith}
 use Rattle.plus_state.specs.View.{problem_of}
 use Rattle.plus_settle.specs.Confirms.{differ}
-use Rattle.plus_still.proofs.Listed.{walked_next}
+use Rattle.plus_settle.proofs.StillLemmas.Listed.{walked_next}
 use Rattle.plus_settle.proofs.MembersLemmas.{next_number, no_number, all_fit, process_here, are_members}
 use Rattle.plus_settle.proofs.ConfirmsLemmas.{confirming_inside, confirming_stops, confirming_next, confirming_found}
 use Rattle.plus_settle.proofs.AmongLemmas.{agreeing_start, agreeing_end, confirming_at, listed_inside}

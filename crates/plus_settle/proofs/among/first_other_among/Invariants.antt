@@ -1,7 +1,7 @@
 use Rattle.std.proofs.Common.{length, drop}
 use Rattle.plus_state.specs.View.{problem_of}
 use Rattle.plus_settle.specs.Members.{process_numbers}
-use Rattle.plus_still.proofs.Listed.{Walked}
+use Rattle.plus_settle.proofs.StillLemmas.Listed.{Walked}
 use Rattle.plus_settle.proofs.AmongLemmas.{Agreeing}
 use Rattle.plus_settle.proofs.among.first_other_among.Given as goal
 

@@ -2,7 +2,7 @@ use Rattle.std.proofs.Common.{◌<◌, length, get_or, refl, arith}
 use Rattle.plus_model.specs.Terms.{Event}
 use Rattle.plus_state.specs.View.{problem_of}
 use Rattle.plus_cascade.proofs.FiringLemmas.{all_fit}
-use Rattle.plus_still.proofs.Listed.{walked_on}
+use Rattle.plus_settle.proofs.StillLemmas.Listed.{walked_on}
 use Rattle.plus_stretch.specs.Tests.{event}
 use Rattle.plus_stretch.proofs.Places.{next_event, no_event, event_here, event_members, event_inside}
 use Rattle.plus_stretch.proofs.Collecting.{collecting_inside, collecting_stop}

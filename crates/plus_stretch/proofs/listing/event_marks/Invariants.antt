@@ -3,7 +3,7 @@ use Rattle.plus_model.specs.Terms.{Event}
 use Rattle.plus_state.specs.View.{problem_of}
 use Rattle.plus_state.specs.Fits.{EventFits}
 use Rattle.plus_state.specs.Numbers.{event_numbers}
-use Rattle.plus_still.proofs.Listed.{Walked}
+use Rattle.plus_settle.proofs.StillLemmas.Listed.{Walked}
 use Rattle.plus_stretch.specs.Tests.{event}
 use Rattle.plus_stretch.specs.Marked.{marks_of}
 use Rattle.plus_stretch.proofs.Marking.{Marking}

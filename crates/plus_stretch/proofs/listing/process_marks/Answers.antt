@@ -1,7 +1,7 @@
 use Rattle.std.proofs.Common.{◌<◌, length, get_or, refl, arith}
 use Rattle.plus_model.specs.Terms.{Process}
 use Rattle.plus_state.specs.View.{problem_of}
-use Rattle.plus_still.proofs.Listed.{walked_on}
+use Rattle.plus_settle.proofs.StillLemmas.Listed.{walked_on}
 use Rattle.plus_stretch.specs.Tests.{process}
 use Rattle.plus_settle.proofs.MembersLemmas.{next_number, no_number, all_fit, process_here, are_members}
 use Rattle.plus_settle.proofs.AmongLemmas.{listed_inside}

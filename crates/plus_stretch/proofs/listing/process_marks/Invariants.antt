@@ -3,7 +3,7 @@ use Rattle.plus_model.specs.Terms.{Process}
 use Rattle.plus_state.specs.View.{problem_of}
 use Rattle.plus_state.specs.Fits.{ProcessFits}
 use Rattle.plus_state.specs.Numbers.{process_numbers}
-use Rattle.plus_still.proofs.Listed.{Walked}
+use Rattle.plus_settle.proofs.StillLemmas.Listed.{Walked}
 use Rattle.plus_stretch.specs.Tests.{process}
 use Rattle.plus_stretch.specs.Marked.{marks_of}
 use Rattle.plus_stretch.proofs.Marking.{Marking}

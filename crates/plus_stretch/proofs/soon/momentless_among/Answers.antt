@@ -1,7 +1,7 @@
 use Rattle.std.proofs.Common.{◌<◌, length, get_or, sym, ◌∙◌, arith}
 use Rattle.plus_state.specs.View.{problem_of}
 use Rattle.plus_cascade.proofs.FiringLemmas.{all_fit}
-use Rattle.plus_still.proofs.Listed.{walked_next}
+use Rattle.plus_settle.proofs.StillLemmas.Listed.{walked_next}
 use Rattle.plus_stretch.proofs.Places.{next_event, no_event, event_here, event_members, event_inside}
 use Rattle.plus_stretch.proofs.SoonLemmas.{waiting_inside, waiting_stop, waiting_next, waiting_found, not_yet_start, waiting_at, not_yet_end}
 use Rattle.plus_stretch.proofs.soon.momentless_among.Goals as goal

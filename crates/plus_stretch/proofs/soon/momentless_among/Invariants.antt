@@ -1,7 +1,7 @@
 use Rattle.std.proofs.Common.{length, drop}
 use Rattle.plus_state.specs.View.{problem_of}
 use Rattle.plus_state.specs.Numbers.{event_numbers}
-use Rattle.plus_still.proofs.Listed.{Walked}
+use Rattle.plus_settle.proofs.StillLemmas.Listed.{Walked}
 use Rattle.plus_stretch.proofs.SoonLemmas.{NotYet}
 use Rattle.plus_stretch.proofs.soon.momentless_among.Given as goal
 

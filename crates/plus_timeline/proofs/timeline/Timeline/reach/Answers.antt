@@ -4,7 +4,7 @@ use Rattle.plus_model.specs.Running.{Settled}
 use Rattle.plus_settle.specs.Members.{AreMembers}
 use Rattle.plus_state.specs.View.{problem_of, process_of}
 use Rattle.plus_state.specs.Walk.{event_conditions, process_conditions, OthersFalse}
-use Rattle.plus_still.specs.Others.{OthersStill}
+use Rattle.plus_settle.specs.Still.Others.{OthersStill}
 use Rattle.plus_timeline.specs.Timeline.{TimelineView, event_numbers, process_numbers}
 use Rattle.plus_timeline.proofs.Members.{members_are, rates_size, settled_as}
 use Rattle.plus_timeline.proofs.timeline.Timeline.reach.Goals as goal

@@ -1,0 +1,4 @@
+pub mod TextLemmas
+pub mod CallsLemmas
+pub mod AcceptedLemmas
+pub mod CheckedLemmas

@@ -1,7 +1,0 @@
-//! Reads the conditions and effects of PDDL+: what the schemas of domains and the goals of problems
-//! are made of.
-#![tactic(auto)]
-
-pub mod conditions;
-pub mod effects;
-mod leaves;

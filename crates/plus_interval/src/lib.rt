@@ -1,7 +1,0 @@
-//! An interval of time, as it is named on the command line.
-#![tactic(auto)]
-
-pub mod intervals;
-mod parts;
-
-pub use intervals::Interval;

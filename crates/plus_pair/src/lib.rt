@@ -1,5 +1,0 @@
-//! The well-typed pair that two texts spell, under two names or at hand, or why they spell none.
-#![tactic(auto)]
-
-pub mod pair;
-pub mod texts;

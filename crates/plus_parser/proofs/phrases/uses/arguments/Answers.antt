@@ -1,0 +1,25 @@
+use Rattle.std.proofs.Common.{sym, arith}
+use Rattle.std.proofs.lemmas.Result.{err_from_is_err_and}
+use Rattle.plus_parser.specs.Phrases.Reading.{next_of}
+use Rattle.plus_parser.specs.Phrases.Grammar.{argument_step}
+use Rattle.plus_tokens.specs.Seen.{seen}
+use Rattle.plus_parser.proofs.PhraseLemmas.Until.{fails_along, stops, closes, fails, goes_on}
+use Rattle.plus_parser.proofs.phrases.uses.arguments.Goals as goal
+
+pub returns-in_err-token-clause-gives : goal.returns-in_err-token-clause-gives
+returns-in_err-token-clause-gives c =
+    let p = err_from_is_err_and c.from_residual.result c.from_residual.ensures.1 in
+    rw (p.1, p.2) (fails_along c.in_err-token.field-0.0 (next_of c.args.room c.found.reader) _ (λ f e. stops (argument_step c.args.allowed) c.args.room c.found.found c.found.reader _ _ f c.found.invariant e) c.in_err-token.ensures.gives)
+
+pub returns-then-is_close-clause-gives : goal.returns-then-is_close-clause-gives
+returns-then-is_close-clause-gives c =
+    closes (argument_step c.args.allowed) c.args.room c.found.found c.found.reader c.next.new.self _ _ (seen c.in_ok-token.token) c.found.invariant c.in_ok-token.ensures.shorter c.in_ok-token.ensures.gives (sym c.if-is_close.ensures)
+
+pub found-preserved : goal.found-preserved
+found-preserved c =
+    goes_on (argument_step c.args.allowed) c.args.room c.found.found c.argument.new.found c.found.reader c.next.new.self c.next.new.self _ _ (seen c.in_ok-token.token) c.found.invariant c.in_ok-token.ensures.shorter (omega arith) c.in_ok-token.ensures.gives (sym c.if-is_close.ensures) (c.in_ok-argument.ensures.gives c.next.new.self)
+
+pub returns-in_err-argument-clause-gives : goal.returns-in_err-argument-clause-gives
+returns-in_err-argument-clause-gives c =
+    let p = err_from_is_err_and c.from_residual-in_err-argument.result c.from_residual-in_err-argument.ensures.1 in
+    rw (p.1, p.2) (fails_along c.in_err-argument.field-0.0 ((argument_step c.args.allowed) c.found.found (seen c.in_ok-token.token) c.next.new.self) _ (λ f none. fails (argument_step c.args.allowed) c.args.room c.found.found c.found.reader c.next.new.self _ _ (seen c.in_ok-token.token) f c.found.invariant c.in_ok-token.ensures.shorter c.in_ok-token.ensures.gives (sym c.if-is_close.ensures) none) (c.in_err-argument.ensures.gives c.next.new.self))

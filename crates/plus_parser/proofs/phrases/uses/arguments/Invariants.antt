@@ -1,0 +1,12 @@
+use Rattle.std.proofs.Common.{length, []}
+use Rattle.plus_parser.specs.Phrases.Grammar.{until_close}
+use Rattle.plus_parser.specs.Phrases.Grammar.{argument_step}
+use Rattle.plus_parser.proofs.PhraseLemmas.Until.{Stays}
+use Rattle.plus_parser.proofs.phrases.uses.arguments.Given as goal
+
+abbrev pub invariant-found : goal.invariant-found
+invariant-found l =
+    Stays (argument_step l.allowed) l.room l.found l.reader (until_close (argument_step l.allowed) l.room (length l.initial.reader) [] l.initial.reader) (length l.initial.reader)
+
+abbrev pub decreases-found : goal.decreases-found
+decreases-found l = length l.reader

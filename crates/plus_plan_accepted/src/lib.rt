@@ -1,4 +1,0 @@
-//! What `plan` finds is accepted by `check`: laws alone, there is no code here.
-#![tactic(auto)]
-
-pub mod laws;

@@ -1,7 +1,0 @@
-use Rattle.std.proofs.Common.{◌≡◌, map, ◌++◌}
-use Rattle.plus_reading.specs.Grammar.{of_type, spelled_of}
-use Rattle.plus_tokens.specs.Seen.{seen}
-use Rattle.plus_reading.proofs.lists.give.Given as goal
-
-abbrev pub invariant-names : goal.invariant-names
-invariant-names l = l.typed.items ≡ l.initial.typed.items ++ map (of_type (spelled_of (seen l.fn.kind))) l.yielded

@@ -1,6 +1,0 @@
--- What a contract sees of a list that is being read.
-use Rattle.plus_reading.specs.declared.lists.Listed.{Listed}
-use Rattle.plus_reading.specs.Grammar.{Listing}
-
-abbrev pub listing : Listed → Listing
-listing l = record { typed = l.typed.items; waiting = l.waiting.items }

@@ -1,7 +1,0 @@
-//! The command `trial`: the check of a farm of tanks that is made in memory, in one line.
-#![tactic(auto)]
-
-pub mod laws;
-mod trial;
-
-pub use trial::answer;

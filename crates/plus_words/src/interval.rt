@@ -1,0 +1,6 @@
+//! An interval of time, as it is named on the command line.
+
+pub mod intervals;
+mod parts;
+
+pub use intervals::Interval;

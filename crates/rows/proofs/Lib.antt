@@ -1,0 +1,4 @@
+pub mod ModelLemmas
+pub mod TimeLemmas
+pub mod TestedLemmas
+pub mod GroundRows

@@ -1,0 +1,4 @@
+pub mod Model
+pub mod Time
+pub mod Tested
+pub mod Expansion

@@ -1,0 +1,7 @@
+//! Worked rows, each a proved fact: they show that the definitions say what they are meant to say.
+#![tactic(auto)]
+
+pub mod expansion;
+pub mod model;
+pub mod tested;
+pub mod time;
