@@ -20,10 +20,10 @@ ghost use Rattle.plus_plan_command.specs.Plan.{answer_text, Plans};
 ghost use Rattle.laws_found.specs.Passing.{IsTextOf, InstancesPass};
 ghost use Rattle.laws_found.specs.Room.{HasRoom, HasFewParameters, AcceptsText};
 
+use crate::accepted::{grid_plan_is_accepted, grid_plan_is_answered_as_valid};
 use crate::calls::{
     actions_are_called, decisions_are_actions, found_plan_is_called, texts_have_plain_names,
 };
-use crate::accepted::{grid_plan_is_accepted, grid_plan_is_answered_as_valid};
 use crate::text::{few_arguments_have_room, written_plan_reads_back};
 
 /// What `plan` writes with the status Valid is accepted by `check` over the same two files, where its text and its lines have

@@ -2,10 +2,10 @@
 
 use plus_explain::{Ending, Kept, append_place, append_reasons, word_for};
 use plus_io::{Freeing, Shelf, Sink};
-use plus_reply::pair::pair::release;
-use plus_reply::pair::texts::pair_of;
 use plus_plan::PlanForm;
 use plus_replay::append_unmet;
+use plus_reply::pair::pair::release;
+use plus_reply::pair::texts::pair_of;
 use plus_types::Typed;
 use std::alloc::{AllocError, Global};
 use std::process::ExitCode;

@@ -1,31 +1,9 @@
 //! planplus validates timed plans for PDDL+ problems, with exact fractions.
 #![tactic(auto)]
 
-#[cfg(test)]
-mod edge_tests;
 mod explain;
 mod files;
-#[cfg(test)]
-mod lift_tests;
-#[cfg(test)]
-mod limit_tests;
-#[cfg(test)]
-mod moving_tests;
-#[cfg(test)]
-mod numeric_tests;
-#[cfg(test)]
-mod plan_tests;
 mod screen;
-#[cfg(test)]
-mod tests;
-#[cfg(test)]
-mod translate_tests;
-#[cfg(test)]
-mod trial_tests;
-#[cfg(test)]
-mod typing_tests;
-#[cfg(test)]
-mod word_tests;
 
 ghost use Rattle.std.specs.Prelude.{◌≡◌, ◌⊎◌, map, string_bytes, None};
 ghost use Rattle.std.specs.Process.{exit_status};

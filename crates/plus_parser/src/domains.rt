@@ -10,12 +10,12 @@ ghost use Rattle.plus_parser.specs.ReadingDomain.{section_step, schema_part_with
 use crate::declarations::{functions, predicates, requirements, types_of};
 use crate::keywords::{DomainWord, domain_part_of};
 use crate::parts::DomainParts;
-use crate::schemas::{or_none, schema};
 use crate::phrases::lists::{list, names};
 use crate::phrases::reader::Reader;
 use crate::phrases::spelled::spelled_of;
 use crate::phrases::uses::around;
 use crate::phrases::words::{Allowed, is_close, is_open};
+use crate::schemas::{or_none, schema};
 use plus_tokens::Seen;
 use plus_tree::{Domain, Members, Span, Spelled, TextFault};
 use std::alloc::Global;

@@ -12,8 +12,8 @@ ghost use Rattle.plus_parser.specs.SpellsDomain.{Spells, SpellsWithin};
 ghost use Rattle.plus_parser.specs.SpellsProblem.{SpellsProblem, SpellsProblemWithin};
 
 use crate::domains::domain;
-use crate::problems::problem;
 use crate::phrases::reader::Reader;
+use crate::problems::problem;
 use plus_tree::{Domain, Problem, TextFault};
 use std::alloc::Global;
 

@@ -6,9 +6,9 @@ ghost use Rattle.plus_parser.specs.Phrases.Grammar.{until_close};
 ghost use Rattle.plus_tokens.specs.Seen.{seen};
 ghost use Rattle.plus_parser.specs.ReadingDomain.{key_step, no_keys, or_all, or_nothing, schema_of};
 
+use crate::forms::{conditions, effects};
 use crate::keywords::{KeyWord, key_of};
 use crate::parts::{Kept, Keys};
-use crate::forms::{conditions, effects};
 use crate::phrases::lists::variables;
 use crate::phrases::reader::Reader;
 use crate::phrases::spelled::spelled_of;

@@ -11,14 +11,13 @@ ghost use Rattle.plus_validator.specs.Validates.{kind_meant};
 ghost use Rattle.plus_plan_command.specs.Planning.Planned.{IsPlanned};
 ghost use Rattle.plus_plan_command.specs.Plan.{search_refusal, answer_status, answer_text, IsUnsearched, PlansPair, Plans};
 
+use crate::planning::{none_line, plan, spent_line};
 use plus_expansion::Count;
-use plus_words::interval::Interval;
 use plus_io::{Freeing, MemSink, Shelf};
 use plus_number::frac::Frac64;
 use plus_numbering::GroundFault;
-use plus_reply::pair::pair::{Refusal, pair, release, text_for};
 use plus_planner::Answer;
-use crate::planning::{none_line, plan, spent_line};
+use plus_reply::pair::pair::{Refusal, pair, release, text_for};
 use plus_reply::reply::{Fault, Reply, refused};
 use plus_reply::status::Status;
 use plus_report::{Early, Kinds, write_plan};
@@ -26,6 +25,7 @@ use plus_state::TimedPlan;
 use plus_types::Typed;
 use plus_words::decisions::Decisions;
 use plus_words::happenings::Happenings;
+use plus_words::interval::Interval;
 use std::alloc::{AllocError, Global};
 
 /// How a plan is searched for: on the grid of an interval, by at most so many decisions, with so many tries.

@@ -11,6 +11,7 @@ ghost use Rattle.plus_timeline.specs.Finish.{IsPaused};
 ghost use Rattle.plus_replay.specs.Replay.{Rests, Stands, IsGroundOf};
 
 use crate::call::append_wrong;
+use crate::unmet::append_failing;
 use plus_ground::{InstanceFault, ground};
 use plus_indexed::Indexed;
 use plus_instances::Instances;
@@ -22,7 +23,6 @@ use plus_state::{Action, Ground};
 use plus_timeline::Next;
 use plus_tree::Call;
 use plus_types::Typed;
-use crate::unmet::append_failing;
 use std::alloc::{AllocError, Global};
 use std::cmp::Ordering;
 

@@ -4,9 +4,9 @@ ghost use Rattle.std.specs.Prelude.{◌≡◌, ◌≤◌};
 ghost use Rattle.plus_report.specs.Refusals.{early_text};
 ghost use Rattle.plus_reply.specs.Reply.{TellsRefusal, Gives};
 
+use crate::pair::pair::Refusal;
 use crate::status::{Status, status_for, tell};
 use plus_io::{MemSink, Sink};
-use crate::pair::pair::Refusal;
 use plus_report::{Early, write_early};
 use std::alloc::{AllocError, Global};
 

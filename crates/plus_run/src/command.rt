@@ -4,11 +4,11 @@ ghost use Rattle.std.specs.Prelude.{◌≡◌, [], ◌∷◌, map, option_map, s
 ghost use Rattle.plus_run.specs.Command.{trial_of, check_of, with_files, show_of, file_named, translate_of, lift_of, with_four, plan_of, with_five, command_of, files_of};
 ghost use Rattle.plus_run.specs.Meant.{meant};
 
-use plus_words::interval::Interval;
 use plus_plan_command::Search;
 use plus_types::File;
 use plus_words::decisions::Decisions;
 use plus_words::happenings::Happenings;
+use plus_words::interval::Interval;
 use plus_words::tanks::Tanks;
 use std::alloc::{AllocError, Global};
 

@@ -10,8 +10,10 @@ ghost use Rattle.plus_reply.specs.Statuses.{Writes};
 ghost use Rattle.plus_run.specs.Headline.{IsAnswer};
 
 use plus_io::{Shelf, Sink};
-use plus_reply::pair::pair::{Refusal, domain_under, problem_under, release_domain, release_problem};
 use plus_reply::canonical::{domain_text, problem_text};
+use plus_reply::pair::pair::{
+    Refusal, domain_under, problem_under, release_domain, release_problem,
+};
 use plus_reply::status::{Status, refuse, tell};
 use std::alloc::Global;
 

@@ -13,11 +13,11 @@ use crate::mark::Mark;
 use plus_crossing::rates::Rates;
 use plus_number::exact::Exact;
 use plus_reads::touched::members_into;
+use plus_settle::still::simple::is_simple;
 use plus_state::outcome::Owner;
 use plus_state::problem::Ground;
 use plus_state::term::{EventId, ProcessId};
 use plus_state::walk::Conditional;
-use plus_settle::still::simple::is_simple;
 use std::alloc::{AllocError, Global};
 
 /// Events and processes.

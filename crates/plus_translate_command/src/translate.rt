@@ -10,16 +10,16 @@ ghost use Rattle.plus_translate.specs.Translates.{IsTranslation};
 ghost use Rattle.plus_translate_command.specs.HalfReply.{TellsRefusal, Gives};
 ghost use Rattle.plus_translate_command.specs.Translate.{trans_refusal, IsUntranslated, TranslatesPair, Translates};
 
-use plus_words::interval::Interval;
+use crate::printer::{HalfText, translated_half};
 use plus_io::{Freeing, Shelf, Sink};
 use plus_reply::pair::pair::{Refusal, bad_text, pair, release, text_for};
 use plus_reply::reply::{Fault, refused};
 use plus_reply::status::Status;
 use plus_report::{Early, Text, Word};
 use plus_translate::{TransFault, translate};
-use crate::printer::{HalfText, translated_half};
 use plus_tree::{Domain, Problem};
 use plus_types::{File, Typed};
+use plus_words::interval::Interval;
 use std::alloc::Global;
 
 // Why a pair has no translation.

@@ -5,7 +5,6 @@ ghost use Rattle.std.specs.Prelude.{◌≡◌, ◌<◌, ◌^◌, [], length, map
 ghost use Rattle.plus_state.specs.View.{action_of, condition_of, effect_of, event_of, process_of, write_of};
 ghost use Rattle.plus_state.specs.Fits.{ActionFits, AllEffectsFit, EventFits, Fits, ProcessFits, StateFits, WriteFits, comparisons};
 
-use plus_words::interval::Interval;
 use plus_number::consts::zero;
 use plus_number::exact::Exact;
 use plus_number::frac::Frac64;
@@ -14,6 +13,7 @@ use plus_state::{
     Write,
 };
 use plus_stepped::{StepStop, Stepped};
+use plus_words::interval::Interval;
 use std::alloc::{AllocError, Global};
 use std::test::*;
 

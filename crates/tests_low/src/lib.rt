@@ -10,6 +10,8 @@ mod explanations;
 #[cfg(test)]
 mod graphs;
 #[cfg(test)]
+mod intervals;
+#[cfg(test)]
 mod names;
 #[cfg(test)]
 mod numbers;
@@ -17,6 +19,8 @@ mod numbers;
 mod plans;
 #[cfg(test)]
 mod reports;
+#[cfg(test)]
+mod searches;
 #[cfg(test)]
 mod tokens;
 #[cfg(test)]

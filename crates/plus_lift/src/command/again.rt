@@ -6,14 +6,14 @@ ghost use Rattle.plus_printer.specs.Canon.{domain_text, problem_text};
 ghost use Rattle.plus_reply.specs.Pair.Pair.{SpellsWellTyped};
 ghost use Rattle.plus_lift.specs.Command.Again.{text_printed, line_printed, refusal_printed, NotPrinted, SpellsAgain, NotReadAgain};
 
-use plus_words::interval::Interval;
+use plus_reply::canonical::{domain_text, problem_text};
 use plus_reply::pair::pair::{Refusal, release_trees};
 use plus_reply::pair::texts::pair_of;
-use plus_reply::canonical::{domain_text, problem_text};
 use plus_report::{Early, Text};
 use plus_translate_command::translated;
 use plus_tree::{Domain, Problem};
 use plus_types::Typed;
+use plus_words::interval::Interval;
 use std::alloc::Global;
 
 // How a line names a text that was printed.

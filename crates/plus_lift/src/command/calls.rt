@@ -7,9 +7,8 @@ ghost use Rattle.plus_report.specs.Plans.{acts_of, plan_text};
 ghost use Rattle.plus_report.specs.Verdicts.{operation_text};
 ghost use Rattle.plus_lift.specs.Command.Lift.{JudgesPlan, LiftsCalls};
 
-use plus_words::interval::Interval;
-use plus_io::{Freeing, MemSink};
 use crate::{LiftFault, lift, overflow_line};
+use plus_io::{Freeing, MemSink};
 use plus_number::frac::Frac64;
 use plus_reply::reply::{Fault, Reply};
 use plus_reply::status::Status;
@@ -20,6 +19,7 @@ use plus_tree::Call;
 use plus_types::Typed;
 use plus_validator::judge::judge;
 use plus_words::happenings::Happenings;
+use plus_words::interval::Interval;
 use std::alloc::Global;
 
 // The lines of a timed plan.

@@ -10,13 +10,13 @@ ghost use Rattle.plus_lift.specs.Command.Lift.{TellsStop, LiftsPlan, LiftsPair, 
 
 use crate::command::again::again;
 use crate::command::calls::lifted;
-use plus_words::interval::Interval;
 use plus_io::{Freeing, Shelf};
 use plus_numeric::{Source, Stop, numeric};
 use plus_reply::pair::pair::{pair, release};
 use plus_reply::reply::{Fault, Reply, refused};
 use plus_reply::status::Status;
 use plus_types::Typed;
+use plus_words::interval::Interval;
 use std::alloc::Global;
 
 // Tells why there is no plan.

@@ -10,12 +10,12 @@ ghost use Rattle.plus_reply.specs.Pair.Reads.{NotPair};
 ghost use Rattle.plus_reply.specs.Reply.{IsPlain};
 ghost use Rattle.plus_trial.specs.Trial.{farm_domain, farm_problem, farm_plan, word_of, summary_of, IsTrial};
 
+use crate::{Summary, Word, domain_text, plan_text, problem_text, summary_text};
 use plus_io::Freeing;
 use plus_reply::pair::pair::{Refusal, release};
 use plus_reply::pair::texts::pair_of;
 use plus_reply::reply::{Fault, Reply, refused};
 use plus_reply::status::Status;
-use crate::{Summary, Word, domain_text, plan_text, problem_text, summary_text};
 use plus_types::Typed;
 use plus_validator::judge::judge;
 use plus_validator::{Judged, Outcome};

@@ -1,6 +1,6 @@
 //! Each word of typing with its place, and pairs with subtypes and numbers that are played.
 
-use crate::tests::{CHECK, Files, Row, expect_check, expect_rows};
+use crate::runs::{CHECK, Files, Row, expect_check, expect_rows};
 use plus_reply::status::Status;
 use std::test::Fail;
 

@@ -1,6 +1,6 @@
 //! Trials: farms of few tanks, one of a thousand, and words that are no number of tanks.
 
-use crate::tests::{USAGE, expect_run};
+use crate::runs::{USAGE, expect_run};
 use plus_io::{MemShelf, MemSink};
 use plus_reply::status::Status;
 use std::process::Abort;

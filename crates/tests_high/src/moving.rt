@@ -1,7 +1,7 @@
 //! A world that moves: a tank that an event closes, with a valve that a timetable opens, a cascade without an end and a
 //! ramp whose event has no first moment.
 
-use crate::tests::{CHECK, Row, expect_rows, status_of};
+use crate::runs::{CHECK, Row, expect_rows, status_of};
 use plus_io::{QuietShelf, QuietSink};
 use plus_reply::status::Status;
 use std::alloc::Global;

@@ -1,6 +1,6 @@
 //! Words that are a command, and words that are none.
 
-use crate::tests::{DOOR, OPENED, OPENED_REPORT, USAGE, door, expect_run, shelf_of};
+use crate::runs::{DOOR, OPENED, OPENED_REPORT, USAGE, door, expect_run, shelf_of};
 use plus_io::MemSink;
 use plus_reply::status::Status;
 use std::process::Abort;

@@ -1,8 +1,8 @@
 //! The edges of a run: each call of the shelf and of the sink that fails, in turn, and how much of a
 //! file is taken.
 
-use crate::limit_tests::{LONG_REPORT, TEXT_LIMIT, peopled, wide};
-use crate::tests::{
+use crate::limits::{LONG_REPORT, TEXT_LIMIT, peopled, wide};
+use crate::runs::{
     CHECK, D1, DOOR, Files, OPENED, OPENED_REPORT, door, expect_check, expect_run, shelf_of,
     status_of,
 };

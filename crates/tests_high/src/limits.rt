@@ -1,6 +1,6 @@
 //! Both sides of each limit: a text at the limit is read, and one past it is refused, with its place.
 
-use crate::tests::{
+use crate::runs::{
     CHECK, D1, DOOR, Files, OPENED, OPENED_REPORT, door, expect_check, shelf_of, status_of,
 };
 use plus_io::MemSink;

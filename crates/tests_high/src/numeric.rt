@@ -1,7 +1,7 @@
 //! Plans without time: what is beyond them, an action whose effects read the state before it, the translation of a tank, and what a
 //! refused line leaves unread.
 
-use crate::tests::{Files, Row, expect_rows, expect_run, shelf_of};
+use crate::runs::{Files, Row, expect_rows, expect_run, shelf_of};
 use plus_io::{MemShelf, MemSink};
 use plus_reply::status::Status;
 use std::alloc::Global;

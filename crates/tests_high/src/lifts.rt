@@ -1,6 +1,6 @@
 //! Rows of `lift`.
 
-use crate::tests::{Files, expect_words};
+use crate::runs::{Files, expect_words};
 use plus_reply::status::Status;
 use std::test::Fail;
 

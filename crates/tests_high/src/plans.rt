@@ -1,6 +1,6 @@
 //! Rows of `plan`.
 
-use crate::tests::{Files, USAGE, expect_check, expect_words};
+use crate::runs::{Files, USAGE, expect_check, expect_words};
 use plus_reply::status::Status;
 use std::test::Fail;
 
