@@ -105,7 +105,7 @@ fn predicate(
 }
 
 // One more predicate, which begins with a token.
-#[tactic(auto, unfolding(crate::phrases::specs::Grammar::form_step))]
+#[tactic(auto, unfolding(crate::specs::Phrases::Grammar::form_step))]
 fn next_predicate(
     alloc: Global,
     reader: &mut Reader<'_>,

@@ -95,7 +95,7 @@ fn number(reader: &mut Reader<'_>, room: u8) -> Result<Literal, TextFault>
 }
 
 // One more member of `:init`, which begins with a token.
-#[tactic(auto, unfolding(crate::phrases::specs::Grammar::form_step))]
+#[tactic(auto, unfolding(crate::specs::Phrases::Grammar::form_step))]
 fn next_init(
     alloc: Global,
     reader: &mut Reader<'_>,

@@ -22,7 +22,7 @@ use std::alloc::Global;
 const FEW: usize = 2;
 
 // The term that comes next.
-#[tactic(auto, unfolding(crate::forms::specs::ReadingForms::term_next))]
+#[tactic(auto, unfolding(crate::specs::Forms::ReadingForms::term_next))]
 fn term(alloc: Global, reader: &mut Reader<'_>, room: u8) -> Result<Term, TextFault>
     ensures gives { Gives (λ t. t) reader.new result (term_next room reader.old) }
     ensures shorter { OnOk result (length reader.new < length reader.old) }
@@ -73,7 +73,7 @@ fn same(
 }
 
 // A comparison, behind its sign.
-#[tactic(auto, unfolding(crate::forms::specs::ReadingForms::compared_of))]
+#[tactic(auto, unfolding(crate::specs::Forms::ReadingForms::compared_of))]
 fn compared(
     alloc: Global,
     reader: &mut Reader<'_>,
@@ -141,7 +141,7 @@ fn made(node: CondNode, front: Span, last: Span) -> CondTree
 
 // The condition behind an opening parenthesis, where room is left for so many more.
 #[cycle(cond)]
-#[tactic(auto, unfolding(crate::forms::specs::ReadingForms::cond_body))]
+#[tactic(auto, unfolding(crate::specs::Forms::ReadingForms::cond_body))]
 fn cond(
     alloc: Global,
     reader: &mut Reader<'_>,
@@ -186,7 +186,7 @@ fn cond(
 
 /// The condition that comes next.
 #[cycle(cond)]
-#[tactic(auto, unfolding(crate::forms::specs::ReadingForms::form_next))]
+#[tactic(auto, unfolding(crate::specs::Forms::ReadingForms::form_next))]
 pub fn next(alloc: Global, reader: &mut Reader<'_>, room: u8) -> Result<CondTree, TextFault>
     ensures gives { Gives (λ c. c) reader.new result (form_next room (cond_at room) reader.old) }
     ensures shorter { OnOk result (length reader.new < length reader.old) }
@@ -208,7 +208,7 @@ fn boxed(alloc: Global, reader: &mut Reader<'_>, room: u8) -> Result<Box<CondTre
 
 // Two conditions and the closing parenthesis.
 #[cycle(cond)]
-#[tactic(auto, unfolding(crate::forms::specs::ReadingForms::both_of))]
+#[tactic(auto, unfolding(crate::specs::Forms::ReadingForms::both_of))]
 fn two(
     alloc: Global,
     reader: &mut Reader<'_>,
@@ -226,7 +226,7 @@ fn two(
 
 // Variables, a condition on them and the closing parenthesis.
 #[cycle(cond)]
-#[tactic(auto, unfolding(crate::forms::specs::ReadingForms::both_of))]
+#[tactic(auto, unfolding(crate::specs::Forms::ReadingForms::both_of))]
 fn bound(
     alloc: Global,
     reader: &mut Reader<'_>,
@@ -244,7 +244,7 @@ fn bound(
 
 // One more condition, which begins with a token.
 #[cycle(cond)]
-#[tactic(auto, unfolding(crate::phrases::specs::Grammar::form_step))]
+#[tactic(auto, unfolding(crate::specs::Phrases::Grammar::form_step))]
 fn member(
     alloc: Global,
     reader: &mut Reader<'_>,

@@ -20,7 +20,7 @@ const FEW: usize = 2;
 
 // The effect behind an opening parenthesis, where room is left for so many more.
 #[cycle(effect)]
-#[tactic(auto, unfolding(crate::forms::specs::ReadingForms::effect_body))]
+#[tactic(auto, unfolding(crate::specs::Forms::ReadingForms::effect_body))]
 fn effect(
     alloc: Global,
     reader: &mut Reader<'_>,
@@ -70,7 +70,7 @@ fn effect(
 }
 
 // A condition, what is done where it holds, and the closing parenthesis.
-#[tactic(auto, unfolding(crate::forms::specs::ReadingForms::both_of))]
+#[tactic(auto, unfolding(crate::specs::Forms::ReadingForms::both_of))]
 fn guarded(
     alloc: Global,
     reader: &mut Reader<'_>,
@@ -88,7 +88,7 @@ fn guarded(
 
 // The effect that comes next.
 #[cycle(effect)]
-#[tactic(auto, unfolding(crate::forms::specs::ReadingForms::form_next))]
+#[tactic(auto, unfolding(crate::specs::Forms::ReadingForms::form_next))]
 fn next(alloc: Global, reader: &mut Reader<'_>, room: u8) -> Result<EffectTree, TextFault>
     ensures gives { Gives (λ e. e) reader.new result (form_next room (effect_at room) reader.old) }
     ensures shorter { OnOk result (length reader.new < length reader.old) }
@@ -110,7 +110,7 @@ fn boxed(alloc: Global, reader: &mut Reader<'_>, room: u8) -> Result<Box<EffectT
 
 // Variables, an effect for them and the closing parenthesis.
 #[cycle(effect)]
-#[tactic(auto, unfolding(crate::forms::specs::ReadingForms::both_of))]
+#[tactic(auto, unfolding(crate::specs::Forms::ReadingForms::both_of))]
 fn bound(
     alloc: Global,
     reader: &mut Reader<'_>,
@@ -128,7 +128,7 @@ fn bound(
 
 // One more effect, which begins with a token.
 #[cycle(effect)]
-#[tactic(auto, unfolding(crate::phrases::specs::Grammar::form_step))]
+#[tactic(auto, unfolding(crate::specs::Phrases::Grammar::form_step))]
 fn member(
     alloc: Global,
     reader: &mut Reader<'_>,

@@ -29,7 +29,7 @@ fn change_node(change: Change, fluent: Use, amount: ExprTree) -> LeafNode
 }
 
 // The fluent and the amount of a change, and the closing parenthesis.
-#[tactic(auto, unfolding(crate::forms::specs::ReadingForms::both_of))]
+#[tactic(auto, unfolding(crate::specs::Forms::ReadingForms::both_of))]
 fn changed(
     alloc: Global,
     reader: &mut Reader<'_>,
@@ -46,7 +46,7 @@ fn changed(
 }
 
 /// A leaf, behind its first token.
-#[tactic(auto, unfolding(crate::forms::specs::ReadingForms::leaf_behind))]
+#[tactic(auto, unfolding(crate::specs::Forms::ReadingForms::leaf_behind))]
 pub fn behind(
     alloc: Global,
     reader: &mut Reader<'_>,
@@ -87,7 +87,7 @@ pub fn behind(
 }
 
 // The leaf whose opening parenthesis took one of so many places.
-#[tactic(auto, unfolding(crate::forms::specs::ReadingForms::leaf_at))]
+#[tactic(auto, unfolding(crate::specs::Forms::ReadingForms::leaf_at))]
 fn leaf(alloc: Global, reader: &mut Reader<'_>, room: u8, front: Span) -> Result<Leaf, TextFault>
     requires { 0 < room }
     ensures gives { Gives (λ l. l) reader.new result (leaf_at room front reader.old) }
@@ -98,7 +98,7 @@ fn leaf(alloc: Global, reader: &mut Reader<'_>, room: u8, front: Span) -> Result
 }
 
 // One more leaf, which begins with a token.
-#[tactic(auto, unfolding(crate::phrases::specs::Grammar::form_step))]
+#[tactic(auto, unfolding(crate::specs::Phrases::Grammar::form_step))]
 fn next_leaf(
     alloc: Global,
     reader: &mut Reader<'_>,
@@ -140,7 +140,7 @@ fn leaves(
 }
 
 // What is done where a condition holds, whose opening parenthesis took one of so many places.
-#[tactic(auto, unfolding(crate::forms::specs::ReadingForms::simple_at))]
+#[tactic(auto, unfolding(crate::specs::Forms::ReadingForms::simple_at))]
 fn simple(
     alloc: Global,
     reader: &mut Reader<'_>,
@@ -167,7 +167,7 @@ fn simple(
 }
 
 /// What is done where a condition holds: `()`, `(and ..)` of leaves, or a leaf.
-#[tactic(auto, unfolding(crate::forms::specs::ReadingForms::form_next))]
+#[tactic(auto, unfolding(crate::specs::Forms::ReadingForms::form_next))]
 pub fn next_simple(
     alloc: Global,
     reader: &mut Reader<'_>,

@@ -24,7 +24,7 @@ fn has_sign(negative: bool, digits: u128) -> bool
 
 // The number `digits / 10^places` without zeros at the end of its places, and 0 without a sign.
 #[inline(always)]
-#[tactic(auto, using(crate::phrases::proofs::Trimmed::trimming))]
+#[tactic(auto, using(crate::proofs::PhraseLemmas::Trimmed::trimming))]
 fn trimmed(negative: bool, digits: u128, places: u8, span: Span) -> Literal
     ensures { result ≡ trimmed negative span places digits }
 {
@@ -48,7 +48,7 @@ fn trimmed(negative: bool, digits: u128, places: u8, span: Span) -> Literal
 }
 
 /// The number that a token spells, where it spells one.
-#[tactic(auto, unfolding(crate::phrases::specs::Literals::kind_literal))]
+#[tactic(auto, unfolding(crate::specs::Phrases::Literals::kind_literal))]
 pub fn literal_of(token: &Seen<'_>) -> Option<Literal>
     ensures { result ≡ literal_of (seen token.now) }
 {
@@ -58,7 +58,7 @@ pub fn literal_of(token: &Seen<'_>) -> Option<Literal>
 
 /// The expression from its first token on.
 #[cycle(expr)]
-#[tactic(auto, unfolding(crate::phrases::specs::Grammar::expr_from))]
+#[tactic(auto, unfolding(crate::specs::Phrases::Grammar::expr_from))]
 pub fn from_token(
     alloc: Global,
     reader: &mut Reader<'_>,
@@ -96,7 +96,7 @@ fn number(token: &Seen<'_>) -> Result<ExprTree, TextFault>
 
 /// The expression that comes next.
 #[cycle(expr)]
-#[tactic(auto, unfolding(crate::phrases::specs::Grammar::expr_next))]
+#[tactic(auto, unfolding(crate::specs::Phrases::Grammar::expr_next))]
 pub fn next(alloc: Global, reader: &mut Reader<'_>, room: u8) -> Result<ExprTree, TextFault>
     ensures gives { Gives (λ x. x) reader.new result (expr_next room (expr_at room) reader.old) }
     ensures shorter { OnOk result (length reader.new < length reader.old) }
@@ -107,7 +107,7 @@ pub fn next(alloc: Global, reader: &mut Reader<'_>, room: u8) -> Result<ExprTree
 
 // Two expressions.
 #[cycle(expr)]
-#[tactic(auto, unfolding(crate::phrases::specs::Grammar::two_of))]
+#[tactic(auto, unfolding(crate::specs::Phrases::Grammar::two_of))]
 fn two(alloc: Global, reader: &mut Reader<'_>, room: u8) -> Result<(ExprTree, ExprTree), TextFault>
     ensures gives { Gives (λ x. x) reader.new result (two_of room (expr_at room) reader.old) }
     ensures shorter { OnOk result (length reader.new < length reader.old) }
@@ -160,7 +160,7 @@ fn negated(alloc: Global, expr: ExprTree, span: Span) -> Result<ExprTree, AllocE
 
 // Two expressions and the closing parenthesis.
 #[cycle(expr)]
-#[tactic(auto, unfolding(crate::phrases::specs::Grammar::pair_of))]
+#[tactic(auto, unfolding(crate::specs::Phrases::Grammar::pair_of))]
 fn pair(
     alloc: Global,
     reader: &mut Reader<'_>,
@@ -216,7 +216,7 @@ fn members(
 
 // Two expressions or more, up to the closing parenthesis.
 #[cycle(expr)]
-#[tactic(auto, unfolding(crate::phrases::specs::Grammar::many_of))]
+#[tactic(auto, unfolding(crate::specs::Phrases::Grammar::many_of))]
 fn many(
     alloc: Global,
     reader: &mut Reader<'_>,
@@ -244,7 +244,7 @@ fn of_two(alloc: Global, both: (ExprTree, ExprTree)) -> Result<Vec<ExprTree>, Al
 
 // `(- x)` or `(- x y)`, behind the sign.
 #[cycle(expr)]
-#[tactic(auto, unfolding(crate::phrases::specs::Grammar::minus_of))]
+#[tactic(auto, unfolding(crate::specs::Phrases::Grammar::minus_of))]
 fn minus(
     alloc: Global,
     reader: &mut Reader<'_>,
@@ -267,7 +267,7 @@ fn minus(
 
 // The expression behind an opening parenthesis, where room is left for so many more.
 #[cycle(expr)]
-#[tactic(auto, unfolding(crate::phrases::specs::Grammar::expr_body))]
+#[tactic(auto, unfolding(crate::specs::Phrases::Grammar::expr_body))]
 fn expr(
     alloc: Global,
     reader: &mut Reader<'_>,

@@ -90,7 +90,7 @@ fn type_of_waiting(
 }
 
 // One more name, or the type of those before it.
-#[tactic(auto, unfolding(crate::phrases::specs::Grammar::list_step))]
+#[tactic(auto, unfolding(crate::specs::Phrases::Grammar::list_step))]
 fn member(
     alloc: Global,
     reader: &mut Reader<'_>,
@@ -139,7 +139,7 @@ pub fn names(
 }
 
 /// A list of names with their types, up to the closing parenthesis.
-#[tactic(auto, unfolding(crate::phrases::specs::Grammar::list_of))]
+#[tactic(auto, unfolding(crate::specs::Phrases::Grammar::list_of))]
 pub fn list(
     alloc: Global,
     reader: &mut Reader<'_>,
@@ -154,7 +154,7 @@ pub fn list(
 }
 
 /// Variables in parentheses, with their types.
-#[tactic(auto, unfolding(crate::phrases::specs::Grammar::variables_of))]
+#[tactic(auto, unfolding(crate::specs::Phrases::Grammar::variables_of))]
 pub fn variables(
     alloc: Global,
     reader: &mut Reader<'_>,

@@ -71,7 +71,7 @@ impl<'a> Reader<'a> {
     }
 
     /// The opening parenthesis that comes next.
-    #[tactic(auto, unfolding(crate::phrases::specs::Grammar::token_of))]
+    #[tactic(auto, unfolding(crate::specs::Phrases::Grammar::token_of))]
     pub fn open(&mut self, room: u8) -> Result<Seen<'a>, TextFault>
         ensures gives { Gives seen self.new result (open_of room self.old) }
         ensures room_left { OnOk result (0 < room) }
@@ -86,7 +86,7 @@ impl<'a> Reader<'a> {
 
     /// The closing parenthesis that comes next.
     #[inline(always)]
-    #[tactic(auto, unfolding(crate::phrases::specs::Grammar::token_of))]
+    #[tactic(auto, unfolding(crate::specs::Phrases::Grammar::token_of))]
     pub fn close(&mut self, room: u8) -> Result<Seen<'a>, TextFault>
         ensures gives { Gives seen self.new result (close_of room self.old) }
         ensures shorter { OnOk result (length self.new < length self.old) }
@@ -99,7 +99,7 @@ impl<'a> Reader<'a> {
     }
 
     /// The name that comes next.
-    #[tactic(auto, unfolding(crate::phrases::specs::Grammar::token_of))]
+    #[tactic(auto, unfolding(crate::specs::Phrases::Grammar::token_of))]
     pub fn name(&mut self, room: u8) -> Result<Seen<'a>, TextFault>
         ensures gives { Gives seen self.new result (name_of room self.old) }
         ensures shorter { OnOk result (length self.new < length self.old) }
@@ -113,7 +113,7 @@ impl<'a> Reader<'a> {
 
     /// The name that comes next, which may be that of a predicate.
     #[inline(always)]
-    #[tactic(auto, unfolding(crate::phrases::specs::Grammar::token_of))]
+    #[tactic(auto, unfolding(crate::specs::Phrases::Grammar::token_of))]
     pub fn plain(&mut self, room: u8) -> Result<Seen<'a>, TextFault>
         ensures gives { Gives seen self.new result (plain_of room self.old) }
         ensures shorter { OnOk result (length self.new < length self.old) }
@@ -126,7 +126,7 @@ impl<'a> Reader<'a> {
     }
 
     /// This very word.
-    #[tactic(auto, unfolding(crate::phrases::specs::Grammar::token_of))]
+    #[tactic(auto, unfolding(crate::specs::Phrases::Grammar::token_of))]
     pub fn word(&mut self, small: &[u8], room: u8) -> Result<Seen<'a>, TextFault>
         requires { lowered small.now ≡ small.now }
         ensures gives { Gives seen self.new result (word_of small.now room self.old) }

@@ -25,7 +25,7 @@ pub fn around(first: Span, last: Span) -> Span
 }
 
 // One more argument.
-#[tactic(auto, unfolding(crate::phrases::specs::Grammar::argument_step))]
+#[tactic(auto, unfolding(crate::specs::Phrases::Grammar::argument_step))]
 fn argument(
     alloc: Global,
     allowed: Allowed,
@@ -65,7 +65,7 @@ fn arguments(
 }
 
 /// A predicate or a function that is used, behind its name.
-#[tactic(auto, unfolding(crate::phrases::specs::Grammar::use_end))]
+#[tactic(auto, unfolding(crate::specs::Phrases::Grammar::use_end))]
 pub fn use_end(
     alloc: Global,
     reader: &mut Reader<'_>,
@@ -87,7 +87,7 @@ pub fn use_end(
 }
 
 /// A predicate or a function that is used, with its parentheses.
-#[tactic(auto, unfolding(crate::phrases::specs::Grammar::use_form))]
+#[tactic(auto, unfolding(crate::specs::Phrases::Grammar::use_form))]
 pub fn use_form(
     alloc: Global,
     reader: &mut Reader<'_>,

@@ -34,7 +34,7 @@ use plus_types::{File, Typed};
 use std::alloc::{AllocError, Global};
 
 // How the text of a domain opens, up to its actions.
-#[tactic(auto, using(plus_printer::proofs::AppendedLemmas::appending), unfolding(crate::printer::specs::Woven::opening_text))]
+#[tactic(auto, using(plus_printer::proofs::AppendedLemmas::appending), unfolding(crate::specs::Printer::Woven::opening_text))]
 fn put_opening(text: &mut Vec<u8>, frame: &Domain) -> Result<(), AllocError>
     ensures { Prints text.old.items text.new.items (opening_text frame.now) result }
 {

@@ -11,7 +11,7 @@ use plus_tree::Schema;
 use std::alloc::{AllocError, Global};
 
 // How the text of an old action opens.
-#[tactic(auto, using(plus_printer::proofs::AppendedLemmas::appending), unfolding(crate::printer::specs::Woven::heading_text))]
+#[tactic(auto, using(plus_printer::proofs::AppendedLemmas::appending), unfolding(crate::specs::Printer::Woven::heading_text))]
 fn heading(text: &mut Vec<u8>, action: &Schema) -> Result<(), AllocError>
     ensures { Prints text.old.items text.new.items (heading_text action.now) result }
 {
@@ -22,7 +22,7 @@ fn heading(text: &mut Vec<u8>, action: &Schema) -> Result<(), AllocError>
     Ok(())
 }
 
-#[tactic(auto, using(plus_printer::proofs::AppendedLemmas::appending), unfolding(crate::printer::specs::Woven::condition_part))]
+#[tactic(auto, using(plus_printer::proofs::AppendedLemmas::appending), unfolding(crate::specs::Printer::Woven::condition_part))]
 fn to_condition(text: &mut Vec<u8>, action: &Schema) -> Result<(), AllocError>
     ensures { Prints text.old.items text.new.items (condition_part action.now) result }
 {
@@ -33,7 +33,7 @@ fn to_condition(text: &mut Vec<u8>, action: &Schema) -> Result<(), AllocError>
     Ok(())
 }
 
-#[tactic(auto, using(plus_printer::proofs::AppendedLemmas::appending), unfolding(crate::printer::specs::Woven::effect_part))]
+#[tactic(auto, using(plus_printer::proofs::AppendedLemmas::appending), unfolding(crate::specs::Printer::Woven::effect_part))]
 fn to_effect(text: &mut Vec<u8>, action: &Schema) -> Result<(), AllocError>
     ensures { Prints text.old.items text.new.items (effect_part action.now) result }
 {

@@ -18,7 +18,7 @@ fn is_digits(word: &str) -> bool
 }
 
 // The number of these digits, of which there are at most so many.
-#[tactic(auto, using(crate::interval::proofs::DigitsLemmas::no_number))]
+#[tactic(auto, using(crate::proofs::DigitsLemmas::no_number))]
 fn digits(word: &str, most: usize) -> Option<u64>
     requires { most ≤ 19 }
     ensures { result ≡ digits_in most word.now }
