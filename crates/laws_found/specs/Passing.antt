@@ -15,7 +15,7 @@ use Rattle.plus_plan.specs.Lines.{plan_lines}
 use Rattle.plus_stretch.specs.Tests.{Test, AllPass}
 use Rattle.plus_planner.specs.Grid.{timed}
 use Rattle.plus_plan_command.specs.Planning.Planned.{task_of}
-use Rattle.plus_validator.specs.Limits.{text_limit}
+use Rattle.plus_io.specs.Limits.{text_limit}
 use Rattle.plus_validator.specs.Plans.{pair, lines_meant}
 use Rattle.plus_validator.specs.Asking.{entries_of, call_tests, instances_of, NoneFails, IsClear}
 

@@ -5,7 +5,7 @@ use Rattle.plus_tree.specs.declared.trees.Domain.{Domain}
 use Rattle.plus_tree.specs.declared.trees.Problem.{Problem}
 use Rattle.laws_found.specs.Text.Written.{HasShortLines}
 use Rattle.plus_validator.specs.Accepted.{IsAccepted}
-use Rattle.plus_validator.specs.Limits.{text_limit}
+use Rattle.plus_io.specs.Limits.{text_limit}
 
 -- the text is within the length of a text, and each of its lines within that of a line
 pub record HasRoom (text : List ℕ) : Type 0 where

@@ -15,7 +15,7 @@ ghost use Rattle.plus_validator.specs.declared.judge.Outcome.{Outcome};
 ghost use Rattle.plus_validator.specs.declared.judge.Outcome.TheVariants as outcomes;
 ghost use Rattle.plus_validator.specs.Verdicts.{IsAnswered};
 ghost use Rattle.plus_reply.specs.Pair.Pair.{SpellsWellTyped};
-ghost use Rattle.plus_reply.specs.declared.status.Status.TheVariants as statuses;
+ghost use Rattle.plus_report.specs.declared.status.Status.TheVariants as statuses;
 ghost use Rattle.plus_plan_command.specs.Plan.{answer_text, Plans};
 ghost use Rattle.laws_found.specs.Passing.{IsTextOf, InstancesPass};
 ghost use Rattle.laws_found.specs.Room.{HasRoom, HasFewParameters, AcceptsText};

@@ -4,6 +4,7 @@
 
 mod fault;
 mod freeing;
+mod limits;
 mod mem_shelf;
 mod mem_sink;
 mod quiet;
@@ -13,6 +14,7 @@ mod stored;
 
 pub use fault::{Failed, ReadStop};
 pub use freeing::Freeing;
+pub use limits::{MOST_HAPPENINGS, PIECE, TEXT_LIMIT};
 pub use mem_shelf::MemShelf;
 pub use mem_sink::MemSink;
 pub use quiet::{QuietShelf, QuietSink};

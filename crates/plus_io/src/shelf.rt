@@ -6,7 +6,7 @@ ghost use Rattle.std.specs.Io.KnownBytes.{IsAtEnd};
 ghost use Rattle.plus_io.specs.Files.{IsUnpicked, KeepsFiles, IsPrefix, Takes, TakesAtMost};
 ghost use Rattle.plus_io.specs.Picks.{Pick, ReadsOnce, with_pick, with_read};
 
-use crate::{Failed, ReadStop};
+use crate::{Failed, PIECE, ReadStop};
 
 /// Byte texts under names. One is picked, and then read piece by piece.
 ///
@@ -72,9 +72,6 @@ pub trait Shelf {
         ensures untold { OnErr result (picks self.new ≡ picks self.old) }
         ensures keeps { KeepsFiles names bytes faults self.old self.new };
 }
-
-/// How many bytes are asked of a shelf at once.
-const PIECE: usize = 4096;
 
 /// Reads the text under a name whole, if it has at most `limit` bytes.
 ///

@@ -9,6 +9,7 @@ ghost use Rattle.plus_literal.specs.Value.{signed_whole, AnswersLiteral};
 use plus_number::divisor::common_divisor;
 use plus_number::exact::{Exact, Outside};
 use plus_number::frac::Frac64;
+use plus_tokens::MOST_PLACES;
 use plus_tree::Literal;
 
 /// A type of exact fractions whose values can be had from parts of any size.
@@ -64,9 +65,6 @@ impl FromParts for Frac64 {
         Frac64::ratio(signed_top, reduced_bottom as i64)
     }
 }
-
-/// The most places of a literal.
-const MOST_PLACES: u8 = 9;
 
 fn power_of_ten(places: u8) -> u128
     requires { places ≤ 9 }

@@ -27,7 +27,7 @@ use Rattle.plus_numeric.specs.declared.source.Source.{Source}
 use Rattle.plus_report.specs.declared.verdicts.Verdict.TheVariants as verdicts
 use Rattle.plus_report.specs.declared.refusals.Early.TheVariants.{TooLong}
 use Rattle.plus_report.specs.declared.refusals.Text.TheVariants as texts
-use Rattle.plus_numeric.specs.Cut.{text_limit}
+use Rattle.plus_io.specs.Limits.{text_limit}
 use Rattle.plus_numeric.specs.Calls.{calls_of}
 use Rattle.plus_numeric.specs.Tests.{Test, no_line, too_long, Passes, AllPass, FirstFailing}
 use Rattle.plus_numeric.specs.Asked.{line_tests, lines_tests, end_tests, text_lines, last_tests}

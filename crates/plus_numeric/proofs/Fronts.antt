@@ -16,7 +16,8 @@ use Rattle.plus_plan.specs.Answers.{RefusedAs}
 use Rattle.plus_plan.specs.Pending.{Pending}
 use Rattle.plus_plan.specs.Pieces.{AtLine, MayFollow, lines_with, IsIdle, IsNext, IsRefusedNext}
 use Rattle.plus_plan.specs.Given.{HasGiven, GoesOnWith}
-use Rattle.plus_numeric.specs.Cut.{text_limit, has_lf, whole_lines, last_piece}
+use Rattle.plus_numeric.specs.Cut.{has_lf, whole_lines, last_piece}
+use Rattle.plus_io.specs.Limits.{text_limit}
 use Rattle.plus_numeric.specs.Asked.{cut_piece, long_lines, text_lines}
 use Rattle.plus_numeric.specs.Playing.{IsReadOf}
 

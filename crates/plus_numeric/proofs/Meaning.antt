@@ -34,7 +34,7 @@ use Rattle.plus_expansion.specs.declared.counts.Count.TheVariants.{Nodes}
 use Rattle.plus_expansion.specs.Nodes.{action_nodes}
 use Rattle.plus_expansion.specs.Literals.{call_literals}
 use Rattle.plus_expansion.specs.Counting.{most_nodes}
-use Rattle.plus_numeric.specs.Cut.{text_limit}
+use Rattle.plus_io.specs.Limits.{text_limit}
 use Rattle.plus_numeric.specs.Calls.{calls_of, call_meant, PlanOf}
 use Rattle.plus_numeric.specs.Tests.{Test, no_line, too_long, beyond, count, literal, unknown_action, wrong_arguments, in_line, at_end, Passes, AllPass, FirstFailing, IsBreach}
 use Rattle.plus_numeric.specs.Asked.{in_text, pair_tests, call_tests, after_call, lines_tests, end_tests, text_lines, last_tests, text_tests, numeric_tests}

@@ -19,7 +19,7 @@ use Rattle.plus_report.specs.declared.refusals.Early.TheVariants.{TooLong}
 use Rattle.plus_report.specs.declared.refusals.Text.TheVariants as texts
 use Rattle.plus_expansion.specs.Expansion.{expanded}
 use Rattle.plus_model.specs.Terms.{Problem}
-use Rattle.plus_numeric.specs.Cut.{text_limit}
+use Rattle.plus_io.specs.Limits.{text_limit}
 use Rattle.plus_numeric.specs.Playing.{domain_in, problem_in, IsPlay, Stays, IsFed, IsReadOf, HaltsOn, HaltsWith, Feeds, HaltsFeeding, Ends, HaltsEnding, IsPlayed}
 use Rattle.plus_numeric.specs.Streaming.{IsFresh, HasCome, IsOpen}
 use Rattle.plus_numeric.proofs.FeedLemmas.{halts_all, halted_long}

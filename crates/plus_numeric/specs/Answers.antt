@@ -11,7 +11,7 @@ use Rattle.plus_numeric.specs.declared.answer.Kind.{Kind}
 use Rattle.plus_numeric.specs.declared.answer.Stop.{Stop}
 use Rattle.plus_numeric.specs.declared.answer.Stop.TheVariants.{Refused, ReadFault, NoMemory}
 use Rattle.plus_numeric.specs.declared.source.Source.{Source}
-use Rattle.plus_numeric.specs.Cut.{text_limit}
+use Rattle.plus_io.specs.Limits.{text_limit}
 use Rattle.plus_numeric.specs.Calls.{calls_of, PlanOf}
 use Rattle.plus_numeric.specs.Tests.{Test, FirstFailing, AllPass, IsBreach}
 use Rattle.plus_numeric.specs.Asked.{numeric_tests}

@@ -24,7 +24,8 @@ use Rattle.plus_expansion.specs.Literals.{literals_of, call_literals}
 use Rattle.plus_expansion.specs.Counting.{counts_of, most_nodes}
 use Rattle.plus_stepped.specs.Asked.{where_ok, action_tests, goal_tests}
 use Rattle.plus_numeric.specs.Level.{beyond_level_two}
-use Rattle.plus_numeric.specs.Cut.{text_limit, whole_lines, last_piece}
+use Rattle.plus_numeric.specs.Cut.{whole_lines, last_piece}
+use Rattle.plus_io.specs.Limits.{text_limit}
 use Rattle.plus_numeric.specs.Calls.{call_meant}
 use Rattle.plus_numeric.specs.Tests.{Test, beyond, count, literal, no_line, too_long, unknown_action, wrong_arguments, in_line, at_end}
 

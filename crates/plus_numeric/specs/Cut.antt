@@ -2,10 +2,6 @@
 use Rattle.std.specs.Prelude.{ℕ, List, [], ◌∷◌, ◌==◌, if◌then◌else◌, Bool}
 use Rattle.std.specs.List.{list_any}
 
--- the most bytes of a plan text (this project's profile)
-abbrev pub text_limit : ℕ
-text_limit = 1048576
-
 -- an LF stands in these bytes
 abbrev pub has_lf : List ℕ → Bool
 has_lf bytes = list_any (λ b. b == 10) bytes

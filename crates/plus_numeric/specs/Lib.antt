@@ -10,3 +10,4 @@ pub mod Telling
 pub mod Streaming
 pub mod Refusing
 pub mod Laws
+pub mod Statuses

@@ -36,7 +36,7 @@ use Rattle.plus_numeric.specs.declared.play.Play.{Play}
 use Rattle.plus_numeric.specs.declared.feed.Feed.{Feed}
 use Rattle.plus_plan.specs.declared.forms.PlanForm.TheVariants.{Untimed}
 use Rattle.plus_plan.specs.Given.{HasGiven}
-use Rattle.plus_numeric.specs.Cut.{text_limit}
+use Rattle.plus_io.specs.Limits.{text_limit}
 use Rattle.plus_numeric.specs.Answers.{Reads}
 use Rattle.plus_numeric.specs.declared.source.Source.{Source}
 use Rattle.plus_numeric.specs.Calls.{calls_of, call_meant}

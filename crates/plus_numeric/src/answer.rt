@@ -1,5 +1,10 @@
 //! What is answered on a plan that is none.
 
+ghost use Rattle.std.specs.Prelude.{◌≡◌};
+ghost use Rattle.plus_numeric.specs.Statuses.{kind_status};
+
+use plus_report::Status;
+
 /// What kind of refusal it is.
 #[derive(Clone, Copy, Debug, PartialEq, Eq)]
 pub enum Kind {
@@ -9,6 +14,19 @@ pub enum Kind {
     Beyond,
     /// A text goes beyond the language of plans without time, or a line is none of a plan.
     BadText,
+}
+
+impl Kind {
+    /// The status of a run that ends so.
+    pub fn status(self) -> Status
+        ensures { result ≡ kind_status self }
+    {
+        match self {
+            Kind::Invalid => Status::Invalid,
+            Kind::Beyond => Status::Beyond,
+            Kind::BadText => Status::BadText,
+        }
+    }
 }
 
 /// A plan that is refused, and the line that says why.

@@ -11,7 +11,7 @@ ghost use Rattle.plus_tree.specs.declared.trees.Problem.{Problem};
 ghost use Rattle.plus_expansion.specs.Expansion.{expanded, labels_meant};
 ghost use Rattle.plus_expansion.specs.Counting.{IsGroundable};
 ghost use Rattle.plus_ground.specs.Refusals.{RefusesGround};
-ghost use Rattle.plus_numeric.specs.Cut.{text_limit};
+ghost use Rattle.plus_io.specs.Limits.{text_limit, piece_size};
 ghost use Rattle.plus_numeric.specs.Level.{beyond_level_two, IsFirstPlace};
 ghost use Rattle.plus_numeric.specs.Answers.{IsAccepted, Stops};
 ghost use Rattle.plus_numeric.specs.Refusing.{StopsPair};
@@ -28,7 +28,7 @@ use crate::source::Source;
 use crate::told::{told, told_early};
 use plus_expansion::Count;
 use plus_ground::ground;
-use plus_io::{Failed, Shelf};
+use plus_io::{Failed, PIECE, Shelf, TEXT_LIMIT};
 use plus_number::frac::Frac64;
 use plus_numbering::{GroundFault, Numbering};
 use plus_plan::{PlanForm, PlanReader};
@@ -37,12 +37,6 @@ use plus_state::problem::Ground;
 use plus_tree::Call;
 use plus_types::Typed;
 use std::alloc::Global;
-
-/// The most bytes of a plan text.
-const TEXT_LIMIT: usize = 1048576;
-
-/// How many bytes are asked of a shelf at once.
-const PIECE: usize = 4096;
 
 /// Why a plan is read no further.
 #[derive(Drop)]
@@ -133,7 +127,7 @@ fn too_long() -> Halt
 // Reads a piece of a plan of which so many bytes have come: at most one byte past the limit.
 fn read_piece<S: Shelf>(shelf: &mut S, buffer: &mut [u8], total: usize) -> Result<usize, Failed>
     requires within { total ≤ text_limit }
-    requires size { length buffer.old ≡ PIECE }
+    requires size { length buffer.old ≡ piece_size }
     ensures fits { IfOk result (λ count. count ≤ length buffer.new) }
     ensures most { IfOk result (λ count. total + count ≤ text_limit + 1) }
     ensures piece { IfOk result (λ count. Takes (S.rest shelf.old) (S.rest shelf.new) (take count buffer.new)) }

@@ -15,7 +15,9 @@ use crate::phrases::spelled::spelled_of;
 use crate::phrases::uses::around;
 use crate::phrases::words::is_close;
 use plus_tokens::Seen;
-use plus_tree::{CondNode, CondTree, EffectNode, EffectTree, Members, Schema, Span, TextFault};
+use plus_tree::{
+    CondNode, CondTree, EffectNode, EffectTree, Members, NOWHERE, Schema, Span, TextFault,
+};
 use std::alloc::Global;
 
 /// These members, or none.
@@ -97,8 +99,6 @@ fn keys(alloc: Global, reader: &mut Reader<'_>, room: u8) -> Result<(Keys, Span)
     let last = keys_into(alloc, reader, room, &mut found)?;
     Ok((found, last))
 }
-
-const NOWHERE: Span = Span { start: 0, end: 0 };
 
 fn or_all(alloc: Global, condition: Option<Kept<CondTree>>) -> CondTree
     ensures { result ≡ or_all condition }

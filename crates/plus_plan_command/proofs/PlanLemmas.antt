@@ -15,7 +15,7 @@ use Rattle.plus_reply.specs.declared.pair.pair.Refusal.{Refusal}
 use Rattle.plus_reply.specs.declared.pair.pair.Refusal.TheVariants as refusals
 use Rattle.plus_reply.specs.Pair.Reads.{ReadsPair, NoPair}
 use Rattle.plus_reply.proofs.PairLemmas.SpelledLemmas.{on_pair}
-use Rattle.plus_reply.specs.declared.status.Status.{Status}
+use Rattle.plus_report.specs.declared.status.Status.{Status}
 use Rattle.plus_reply.specs.declared.reply.Reply.{Reply}
 use Rattle.plus_reply.specs.declared.reply.Fault.{Fault}
 use Rattle.plus_reply.specs.declared.reply.Fault.TheVariants as faults

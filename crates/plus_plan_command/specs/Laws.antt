@@ -2,7 +2,7 @@
 -- not one reply.
 use Rattle.std.specs.Prelude.{ℕ, List}
 use Rattle.plus_fraction.specs.Fraction.{Fraction}
-use Rattle.plus_reply.specs.declared.status.Status.TheVariants.{Valid, Invalid}
+use Rattle.plus_report.specs.declared.status.Status.TheVariants.{Valid, Invalid}
 use Rattle.plus_plan_command.specs.Plan.{Plans}
 
 -- The same two texts never have a plan, and none by as many decisions on the same grid, however many tries either search has.

@@ -20,8 +20,8 @@ use Rattle.plus_plan_command.specs.Planning.Planned.{IsPlanned, IsUnplanned}
 use Rattle.plus_reply.specs.declared.pair.pair.Refusal.{Refusal}
 use Rattle.plus_reply.specs.declared.pair.pair.Refusal.TheVariants as refusals
 use Rattle.plus_reply.specs.Pair.Pair.{text_named, PairRefused, SpellsWellTyped}
-use Rattle.plus_reply.specs.declared.status.Status.{Status}
-use Rattle.plus_reply.specs.declared.status.Status.TheVariants as s
+use Rattle.plus_report.specs.declared.status.Status.{Status}
+use Rattle.plus_report.specs.declared.status.Status.TheVariants as s
 use Rattle.plus_reply.specs.Statuses.{early_status}
 
 -- a pair that is not searched is refused so

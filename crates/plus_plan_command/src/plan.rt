@@ -4,7 +4,7 @@ ghost use Rattle.std.specs.Prelude.{◌≡◌, ◌+◌, [], ◌∷◌, IfOk, IfE
 ghost use Rattle.plus_io.specs.Files.{KeepsFiles};
 ghost use Rattle.plus_io.specs.Picks.{ReadsInOrder};
 ghost use Rattle.plus_number.specs.Frac.{fraction_of};
-ghost use Rattle.plus_reply.specs.Pair.Pair.{text_limit};
+ghost use Rattle.plus_io.specs.Limits.{text_limit};
 ghost use Rattle.plus_report.specs.Plans.{acts_of, plan_text};
 ghost use Rattle.plus_reply.specs.Reply.{IsPlain, HasCause};
 ghost use Rattle.plus_validator.specs.Validates.{kind_meant};
@@ -19,8 +19,7 @@ use plus_numbering::GroundFault;
 use plus_planner::Answer;
 use plus_reply::pair::pair::{Refusal, pair, release, text_for};
 use plus_reply::reply::{Fault, Reply, refused};
-use plus_reply::status::Status;
-use plus_report::{Early, Kinds, write_plan};
+use plus_report::{Early, Kinds, Status, write_plan};
 use plus_state::TimedPlan;
 use plus_types::Typed;
 use plus_words::decisions::Decisions;

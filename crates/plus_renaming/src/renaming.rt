@@ -11,12 +11,9 @@ use crate::numerals::fresh_name;
 use crate::scope::Scope;
 use plus_tree::{
     Args, CondNode, CondTree, EffectNode, EffectTree, ExprNode, ExprTree, Leaf, LeafNode, Members,
-    Name, Schema, Span, Spelled, Term, TypedName, Use,
+    NOWHERE, Name, Schema, Span, Spelled, Term, TypedName, Use,
 };
 use std::alloc::{AllocError, Global};
-
-// The place of what is new.
-const NOWHERE: Span = Span { start: 0, end: 0 };
 
 // One more. A count past 64 bits would not lie in memory.
 fn one_more(count: u64) -> Result<u64, AllocError>

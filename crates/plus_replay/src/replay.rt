@@ -15,6 +15,7 @@ use crate::unmet::append_failing;
 use plus_ground::{InstanceFault, ground};
 use plus_indexed::Indexed;
 use plus_instances::Instances;
+use plus_io::MOST_HAPPENINGS;
 use plus_number::exact::Exact;
 use plus_number::frac::Frac64;
 use plus_numbering::Numbering;
@@ -25,9 +26,6 @@ use plus_tree::Call;
 use plus_types::Typed;
 use std::alloc::{AllocError, Global};
 use std::cmp::Ordering;
-
-/// The most moments that a plan may enter.
-const MOST_MOMENTS: u64 = 1_000_000;
 
 fn is_earlier(time: Frac64, other: Frac64) -> bool
     ensures { result ≡ is_below (fraction_of time) (fraction_of other) }
@@ -119,7 +117,7 @@ impl<'a> Replay<'a> {
         ensures { IfOk result (Stands ground.now) }
     {
         Ok(Replay {
-            timeline: Indexed::begin(alloc, ground, MOST_MOMENTS)?,
+            timeline: Indexed::begin(alloc, ground, MOST_HAPPENINGS)?,
             instances: Instances::new(alloc, numbering),
         })
     }

@@ -5,9 +5,9 @@ ghost use Rattle.plus_report.specs.Refusals.{early_text};
 ghost use Rattle.plus_reply.specs.Reply.{TellsRefusal, Gives};
 
 use crate::pair::pair::Refusal;
-use crate::status::{Status, status_for, tell};
+use crate::status::{status_for, tell};
 use plus_io::{MemSink, Sink};
-use plus_report::{Early, write_early};
+use plus_report::{Early, Status, write_early};
 use std::alloc::{AllocError, Global};
 
 /// A text that a command writes, and its status.

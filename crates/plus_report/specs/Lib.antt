@@ -9,3 +9,4 @@ pub mod Wrote
 pub mod Refusals
 pub mod Verdicts
 pub mod Plans
+pub mod Statuses

@@ -9,6 +9,7 @@ mod parts;
 mod plans;
 mod put;
 mod refusals;
+mod status;
 mod verdicts;
 
 pub use parts::{
@@ -17,4 +18,5 @@ pub use parts::{
 };
 pub use plans::write_plan;
 pub use refusals::{Early, Kinds, Text, Word, write_early};
+pub use status::Status;
 pub use verdicts::{Verdict, write_verdict};

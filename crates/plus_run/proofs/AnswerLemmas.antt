@@ -5,8 +5,8 @@ use Rattle.plus_io.specs.Faults.{Rose}
 use Rattle.plus_report.specs.declared.refusals.Early.{Early}
 use Rattle.plus_report.specs.declared.refusals.Early.TheVariants as es
 use Rattle.plus_report.specs.Refusals.{early_text}
-use Rattle.plus_reply.specs.declared.status.Status.{Status}
-use Rattle.plus_reply.specs.declared.status.Status.TheVariants as s
+use Rattle.plus_report.specs.declared.status.Status.{Status}
+use Rattle.plus_report.specs.declared.status.Status.TheVariants as s
 use Rattle.plus_run.specs.Command.{Command, Check, ShowDomain, ShowProblem, Numeric, Trial, Translate, Lift, Plan}
 use Rattle.plus_run.specs.Headline.{RunsValid, RunsRefused, RunsBroken, RunsUnread, RunsStopped, IsUnreadRun, at_once, IsStoppedRun, nothing, OnRefusal, usage_line, IsAnswer}
 use Rattle.plus_reply.specs.Statuses.{early_status, Writes}

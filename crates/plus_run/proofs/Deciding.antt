@@ -8,8 +8,8 @@ use Rattle.plus_validator.specs.Validates.{IsUngrounded, IsWhole}
 use Rattle.plus_validator.specs.Laws as plans
 use Rattle.plus_validator.proofs.Excluding.{not_groundable}
 use Rattle.plus_validator.proofs.Deciding as plan
-use Rattle.plus_reply.specs.declared.status.Status.{Status}
-use Rattle.plus_reply.specs.declared.status.Status.TheVariants as s
+use Rattle.plus_report.specs.declared.status.Status.{Status}
+use Rattle.plus_report.specs.declared.status.Status.TheVariants as s
 use Rattle.plus_run.specs.Command.{Command, Check, ShowDomain, ShowProblem, Numeric, Trial, Translate, Lift, Plan}
 use Rattle.plus_run.specs.Headline.{SpellsWellTyped, IsValidRun, IsRefusedRun, OnRefusal, status_of, IsAnswer}
 use Rattle.plus_run.specs.Laws.{IsSettled, IsInside, IsDecided, is_valid, is_invalid, Decides, DecidesFor}

@@ -14,10 +14,11 @@ use Rattle.plus_validator.specs.Laws.{IsJudgedFor, accepted, refused}
 use Rattle.plus_validator.proofs.Excluding.{pair_or_plan}
 use Rattle.plus_validator.proofs.OneLine.{one_line}
 use Rattle.plus_validator.proofs.OneText as plans
-use Rattle.plus_reply.specs.Pair.Pair.{text_limit, PairRefused}
+use Rattle.plus_reply.specs.Pair.Pair.{PairRefused}
+use Rattle.plus_io.specs.Limits.{text_limit}
 use Rattle.plus_reply.proofs.PairLemmas.OnePair.{pair_once, pair_refused_once, pair_or_not}
-use Rattle.plus_reply.specs.declared.status.Status.{Status}
-use Rattle.plus_reply.specs.declared.status.Status.TheVariants as s
+use Rattle.plus_report.specs.declared.status.Status.{Status}
+use Rattle.plus_report.specs.declared.status.Status.TheVariants as s
 use Rattle.plus_reply.specs.Statuses.{early_status}
 use Rattle.plus_reply.specs.Reply.{Same}
 use Rattle.plus_run.specs.Command.{Command, Check, ShowDomain, ShowProblem}

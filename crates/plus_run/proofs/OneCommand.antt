@@ -2,8 +2,8 @@
 use Rattle.std.proofs.Common.{◌≡◌, ℕ, List, Option, Some, None, subst, sym, ◌∙◌, refl, inl, inr}
 use Rattle.plus_grammar.specs.Texts.{IsDomainText, IsProblemText}
 use Rattle.plus_printer.specs.Canon.{domain_text, problem_text}
-use Rattle.plus_reply.specs.declared.status.Status.{Status}
-use Rattle.plus_reply.specs.declared.status.Status.TheVariants as s
+use Rattle.plus_report.specs.declared.status.Status.{Status}
+use Rattle.plus_report.specs.declared.status.Status.TheVariants as s
 use Rattle.plus_trial.specs.Trial.{IsTrial}
 use Rattle.plus_trial.proofs.CommandLemmas.OneReply as trials
 use Rattle.plus_translate_command.specs.Translate.{Translates}

@@ -9,12 +9,13 @@ use Rattle.plus_numeric.specs.declared.answer.Kind.{Kind}
 use Rattle.plus_numeric.specs.declared.source.Source.TheVariants.{Given}
 use Rattle.plus_numeric.specs.Answers.{IsAccepted, IsRefused}
 use Rattle.plus_numeric.proofs.Excluding.{one_refusal, not_both}
-use Rattle.plus_reply.specs.declared.status.Status.{Status}
-use Rattle.plus_reply.specs.declared.status.Status.TheVariants as s
+use Rattle.plus_report.specs.declared.status.Status.{Status}
+use Rattle.plus_report.specs.declared.status.Status.TheVariants as s
 use Rattle.plus_reply.specs.Pair.Pair.{PairRefused, SpellsWellTyped}
 use Rattle.plus_run.specs.Numeric.{valid_line, IsNumeric, IsNotNumeric, no_pair, no_plan, RunsNumeric, RefusesNumeric}
 use Rattle.plus_run.specs.Headline.{OnRefusal}
-use Rattle.plus_reply.specs.Statuses.{early_status, kind_status}
+use Rattle.plus_reply.specs.Statuses.{early_status}
+use Rattle.plus_numeric.specs.Statuses.{kind_status}
 use Rattle.plus_run.specs.Laws.{IsSettled}
 use Rattle.plus_reply.proofs.PairLemmas.OnePair.{pair_once, pair_refused_once, pair_or_not}
 use Rattle.plus_reply.specs.Reply.{Same}

@@ -1,8 +1,8 @@
 -- A command that has one reply has one answer over the same files.
 use Rattle.std.proofs.Common.{◌≡◌, ℕ, List, Option, Some, None, refl}
 use Rattle.std.specs.Prelude.{IfSome, IsSome}
-use Rattle.plus_reply.specs.declared.status.Status.{Status}
-use Rattle.plus_reply.specs.declared.status.Status.TheVariants as s
+use Rattle.plus_report.specs.declared.status.Status.{Status}
+use Rattle.plus_report.specs.declared.status.Status.TheVariants as s
 use Rattle.plus_reply.specs.Reply.{Replied, HasOneReply}
 use Rattle.plus_run.specs.Headline.{OnRefusal}
 use Rattle.plus_run.specs.Laws.{IsSettled}

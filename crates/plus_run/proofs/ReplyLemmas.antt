@@ -4,8 +4,8 @@ use Rattle.std.specs.Prelude.{IfSome, IfOk, IfErr, Result, Ok, Err}
 use Rattle.plus_fraction.specs.Fraction.{Fraction}
 use Rattle.plus_types.specs.declared.faults.File.{File}
 use Rattle.plus_io.specs.Taken.{Took, TookPart}
-use Rattle.plus_reply.specs.declared.status.Status.{Status}
-use Rattle.plus_reply.specs.declared.status.Status.TheVariants as s
+use Rattle.plus_report.specs.declared.status.Status.{Status}
+use Rattle.plus_report.specs.declared.status.Status.TheVariants as s
 use Rattle.plus_reply.specs.declared.reply.Reply.{Reply}
 use Rattle.plus_reply.specs.declared.reply.Fault.{Fault}
 use Rattle.plus_reply.specs.declared.reply.Fault.TheVariants as faults

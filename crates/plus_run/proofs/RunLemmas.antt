@@ -14,8 +14,8 @@ use Rattle.plus_io.specs.Files.{IsPrefix}
 use Rattle.plus_io.proofs.Pieces.{Takes-prefix}
 use Rattle.plus_validator.specs.Validates.{Accepts, IsRefusal, Refuses, BreaksOff, RefusesPair, RefusesPairInPart}
 use Rattle.plus_validator.specs.Leaving.{TookLines, TookSoFar, LeavesReport, BreaksOffSoFar, StopsReading, unpicked, reading, StopsWriting, on_way, at_end}
-use Rattle.plus_reply.specs.declared.status.Status.{Status}
-use Rattle.plus_reply.specs.declared.status.Status.TheVariants as s
+use Rattle.plus_report.specs.declared.status.Status.{Status}
+use Rattle.plus_report.specs.declared.status.Status.TheVariants as s
 use Rattle.plus_run.specs.Command.{Command}
 use Rattle.plus_reply.specs.Pair.Pair.{PairRefused}
 use Rattle.plus_reply.specs.Pair.Reads.{ReadsPair}

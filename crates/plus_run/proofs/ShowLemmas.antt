@@ -3,8 +3,8 @@ use Rattle.std.proofs.Common.{◌≡◌, ℕ, ◌≤◌, List, length, Option, S
 use Rattle.std.specs.Prelude.{IfSome}
 use Rattle.plus_report.specs.declared.refusals.Early.{Early}
 use Rattle.plus_report.specs.Refusals.{early_text}
-use Rattle.plus_reply.specs.declared.status.Status.{Status}
-use Rattle.plus_reply.specs.declared.status.Status.TheVariants as s
+use Rattle.plus_report.specs.declared.status.Status.{Status}
+use Rattle.plus_report.specs.declared.status.Status.TheVariants as s
 use Rattle.plus_reply.specs.Statuses.{early_status, Writes}
 use Rattle.plus_run.specs.Shown.{IsShown, IsNotShown, IsShownInPart, of_text, of_line}
 use Rattle.plus_run.specs.Headline.{OnRefusal}

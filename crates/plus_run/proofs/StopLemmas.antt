@@ -9,10 +9,11 @@ use Rattle.plus_report.specs.declared.refusals.Early.{Early}
 use Rattle.plus_report.specs.declared.refusals.Early.TheVariants as es
 use Rattle.plus_report.specs.Refusals.{early_text}
 use Rattle.plus_validator.specs.Leaving.{StopsReading}
-use Rattle.plus_reply.specs.declared.status.Status.{Status}
-use Rattle.plus_reply.specs.declared.status.Status.TheVariants as s
+use Rattle.plus_report.specs.declared.status.Status.{Status}
+use Rattle.plus_report.specs.declared.status.Status.TheVariants as s
 use Rattle.plus_reply.specs.Statuses.{early_status, Writes}
-use Rattle.plus_reply.specs.Pair.Pair.{text_limit, SpellsWellTyped}
+use Rattle.plus_reply.specs.Pair.Pair.{SpellsWellTyped}
+use Rattle.plus_io.specs.Limits.{text_limit}
 use Rattle.plus_reply.specs.Pair.Reads.{ReadsPair}
 use Rattle.plus_reply.proofs.PairLemmas.SpelledLemmas.{on_pair}
 use Rattle.plus_run.specs.Command.{Command, Check, ShowDomain, ShowProblem, Numeric, Trial, Translate, Lift, Plan}

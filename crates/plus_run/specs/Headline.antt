@@ -6,8 +6,8 @@ use Rattle.plus_tree.specs.declared.trees.Domain.{Domain}
 use Rattle.plus_tree.specs.declared.trees.Problem.{Problem}
 use Rattle.plus_report.specs.declared.refusals.Early.{Early}
 use Rattle.plus_validator.specs.declared.judge.Outcome.{Outcome}
-use Rattle.plus_reply.specs.declared.status.Status.{Status}
-use Rattle.plus_reply.specs.declared.status.Status.TheVariants as s
+use Rattle.plus_report.specs.declared.status.Status.{Status}
+use Rattle.plus_report.specs.declared.status.Status.TheVariants as s
 use Rattle.plus_report.specs.Refusals.{early_text}
 use Rattle.plus_validator.specs.Validates.{Accepts, Refuses, BreaksOff, RefusesPair, RefusesPairInPart}
 use Rattle.plus_validator.specs.Leaving.{TookLines, TookSoFar, BreaksOffSoFar}
@@ -17,7 +17,8 @@ use Rattle.plus_run.specs.Command.{Command, Check, ShowDomain, ShowProblem, Nume
 use Rattle.plus_reply.specs.Pair.Pair.{depth_limit, PairRefused, DomainRefused, ProblemRefused}
 pub use Rattle.plus_reply.specs.Pair.Pair.{SpellsWellTyped}
 use Rattle.plus_reply.specs.Statuses.{early_status, Writes}
-pub use Rattle.plus_reply.specs.Statuses.{status_of, exit_number}
+pub use Rattle.plus_report.specs.Statuses.{exit_number}
+pub use Rattle.plus_validator.specs.Statuses.{status_of}
 use Rattle.plus_reply.specs.Reply.{Replied, RepliedInPart}
 use Rattle.plus_trial.specs.Trial.{IsTrial}
 use Rattle.plus_translate_command.specs.Translate.{Translates}

@@ -3,8 +3,8 @@ use Rattle.std.specs.Prelude.{◌≡◌, ℕ, ◌≤◌, List, length, Option}
 use Rattle.plus_io.specs.Taken.{Took, TookPart}
 use Rattle.plus_report.specs.declared.refusals.Early.{Early}
 use Rattle.plus_report.specs.Refusals.{early_text}
-use Rattle.plus_reply.specs.declared.status.Status.{Status}
-use Rattle.plus_reply.specs.Pair.Pair.{text_limit}
+use Rattle.plus_report.specs.declared.status.Status.{Status}
+use Rattle.plus_io.specs.Limits.{text_limit}
 use Rattle.plus_reply.specs.Statuses.{early_status}
 
 -- the text is within its limit and spells the tree

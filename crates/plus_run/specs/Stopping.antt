@@ -5,7 +5,8 @@ use Rattle.plus_io.specs.Picks.{Pick, ReadsEach, ReadsInOrder}
 use Rattle.plus_tree.specs.declared.trees.Domain.{Domain}
 use Rattle.plus_tree.specs.declared.trees.Problem.{Problem}
 use Rattle.plus_validator.specs.Leaving.{StopsReading}
-use Rattle.plus_reply.specs.Pair.Pair.{text_limit, SpellsWellTyped}
+use Rattle.plus_reply.specs.Pair.Pair.{SpellsWellTyped}
+use Rattle.plus_io.specs.Limits.{text_limit}
 use Rattle.plus_run.specs.Command.{Command, Check}
 
 -- A check stopped at a file that failed, between the shelf before and after: what it tells of the text that was picked and of what is

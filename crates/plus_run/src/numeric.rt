@@ -3,7 +3,7 @@
 ghost use Rattle.std.specs.Prelude.{◌≡◌, ℕ, ◌≤◌, ◌+◌, List, [], ◌∷◌, Some};
 ghost use Rattle.plus_io.specs.Files.{KeepsFiles};
 ghost use Rattle.plus_io.specs.Picks.{ReadsInOrder};
-ghost use Rattle.plus_reply.specs.Pair.Pair.{text_limit};
+ghost use Rattle.plus_io.specs.Limits.{text_limit};
 ghost use Rattle.plus_reply.specs.Pair.Reads.{ReadsPair};
 ghost use Rattle.plus_run.specs.Command.{Numeric};
 ghost use Rattle.plus_run.specs.Headline.{IsAnswer};
@@ -12,7 +12,8 @@ use crate::command::PlanFiles;
 use plus_io::{Freeing, Shelf, Sink};
 use plus_numeric::{Source, Stop};
 use plus_reply::pair::pair::{Refusal, pair, release};
-use plus_reply::status::{Status, refuse, tell};
+use plus_reply::status::{refuse, tell};
+use plus_report::Status;
 use plus_types::Typed;
 use std::alloc::Global;
 
@@ -35,7 +36,7 @@ fn play<S: Shelf, O: Sink>(
 {
     match plus_numeric::numeric(alloc, typed, Source::Given, shelf, plan, false) {
         Ok(_) => tell(out, b"valid\n", Status::Valid),
-        Err(Stop::Refused(refused)) => tell(out, &refused.line, Status::of_kind(refused.kind)),
+        Err(Stop::Refused(refused)) => tell(out, &refused.line, refused.kind.status()),
         Err(Stop::ReadFault) => Status::ReadFault,
         Err(Stop::NoMemory) => Status::NoMemory,
     }

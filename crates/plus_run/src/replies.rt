@@ -3,7 +3,7 @@
 ghost use Rattle.std.specs.Prelude.{◌≡◌, ℕ, ◌≤◌, ◌+◌, List, Option, [], ◌∷◌, Some};
 ghost use Rattle.plus_io.specs.Files.{KeepsFiles};
 ghost use Rattle.plus_io.specs.Picks.{ReadsInOrder};
-ghost use Rattle.plus_reply.specs.Pair.Pair.{text_limit};
+ghost use Rattle.plus_io.specs.Limits.{text_limit};
 ghost use Rattle.plus_run.specs.Command.{Trial};
 ghost use Rattle.plus_run.specs.Headline.{IsAnswer};
 ghost use Rattle.plus_run.specs.Meant.{meant};
@@ -11,7 +11,7 @@ ghost use Rattle.plus_run.specs.Meant.{meant};
 use crate::command::{Command, LiftFiles, Searched, Stepped};
 use plus_io::{Freeing, Shelf, Sink};
 use plus_reply::reply::give;
-use plus_reply::status::Status;
+use plus_report::Status;
 use plus_types::File;
 use plus_words::tanks::Tanks;
 use std::alloc::Global;

@@ -3,7 +3,7 @@
 ghost use Rattle.std.specs.Prelude.{◌≡◌, ◌≤◌, ◌+◌, map, string_bytes, Some};
 ghost use Rattle.plus_io.specs.Files.{KeepsFiles};
 ghost use Rattle.plus_io.specs.Picks.{ReadsInOrder};
-ghost use Rattle.plus_reply.specs.Pair.Pair.{text_limit};
+ghost use Rattle.plus_io.specs.Limits.{text_limit};
 ghost use Rattle.plus_reply.specs.Statuses.{Writes};
 ghost use Rattle.plus_run.specs.Command.{command_of, files_of};
 ghost use Rattle.plus_run.specs.Laws.{DecidesFor};
@@ -17,7 +17,8 @@ use crate::replies::{lift, plan, translate, trial};
 use crate::show::{show_domain, show_problem};
 use plus_io::{Freeing, Shelf, Sink};
 use plus_reply::pair::pair::{Refusal, pair, release};
-use plus_reply::status::{Status, refuse, tell};
+use plus_reply::status::{refuse, tell};
+use plus_report::Status;
 use plus_validator::validate;
 use std::alloc::Global;
 
@@ -53,7 +54,7 @@ fn check<S: Shelf, O: Sink>(
             let most = files.happenings.number;
             let outcome = validate(alloc, &typed, shelf, files.plan, out, most, freeing);
             release(typed, freeing);
-            Status::of(outcome)
+            outcome.status()
         }
         Err(Refusal::Early(early)) => refuse(out, &early),
         Err(Refusal::ReadFault) => Status::ReadFault,

@@ -4,7 +4,7 @@ ghost use Rattle.std.specs.Prelude.{◌≡◌, ◌≤◌, ◌+◌, [], ◌∷◌
 ghost use Rattle.plus_io.specs.Files.{KeepsFiles};
 ghost use Rattle.plus_io.specs.Picks.{ReadsInOrder};
 ghost use Rattle.plus_printer.specs.Canon.{domain_text, problem_text};
-ghost use Rattle.plus_reply.specs.Pair.Pair.{text_limit};
+ghost use Rattle.plus_io.specs.Limits.{text_limit};
 ghost use Rattle.plus_run.specs.Command.{ShowDomain, ShowProblem};
 ghost use Rattle.plus_reply.specs.Statuses.{Writes};
 ghost use Rattle.plus_run.specs.Headline.{IsAnswer};
@@ -14,7 +14,8 @@ use plus_reply::canonical::{domain_text, problem_text};
 use plus_reply::pair::pair::{
     Refusal, domain_under, problem_under, release_domain, release_problem,
 };
-use plus_reply::status::{Status, refuse, tell};
+use plus_reply::status::{refuse, tell};
+use plus_report::Status;
 use std::alloc::Global;
 
 /// `show domain`: reads a domain, and writes its canonical text.

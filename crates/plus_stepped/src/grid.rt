@@ -8,8 +8,8 @@ ghost use Rattle.plus_stepped.specs.Grid.{OnGrid, AllOnGrid};
 use plus_number::exact::Exact;
 use plus_state::problem::Ground;
 
-// The greatest number of steps.
-const MOST_STEPS: u128 = 9_223_372_036_854_775_807;
+/// The greatest number of steps.
+pub const MOST_STEPS: u128 = 9_223_372_036_854_775_807;
 
 fn product(x: i64, y: i64) -> u128
     ensures { result ≡ unsigned_abs x * unsigned_abs y }

@@ -5,7 +5,7 @@ ghost use Rattle.plus_tokens.specs.Bytes.{is_digit, decimal};
 ghost use Rattle.plus_tokens.specs.Lowered.{lowered};
 ghost use Rattle.plus_tokens.specs.Numeral.{numeral_of, unsigned};
 
-use crate::lexer::{PLACES, WHOLE_DIGITS, byte_at, digits_end};
+use crate::lexer::{MOST_PLACES, WHOLE_DIGITS, byte_at, digits_end};
 
 /// The number `digits / 10^places`, with a minus sign where it is negative.
 #[derive(Clone, Copy, Debug, PartialEq, Eq)]
@@ -57,7 +57,7 @@ fn unsigned(negative: bool, word: &[u8], first: usize) -> Option<Numeral>
         return None;
     }
     let places = end - (whole_end + 1);
-    if places == 0 || places > PLACES {
+    if places == 0 || places > MOST_PLACES as usize {
         return None;
     }
     Some(Numeral {

@@ -6,3 +6,6 @@ pub struct Span {
     pub start: usize,
     pub end: usize,
 }
+
+/// The place of what stands in no text.
+pub const NOWHERE: Span = Span { start: 0, end: 0 };

@@ -11,11 +11,11 @@ use crate::fires::put_fires;
 use crate::flows::{length_of_step, put_flows};
 use crate::guards::{put_clears, put_heads, put_none, put_repeats, put_some};
 use crate::initial::init_translated;
-use crate::pieces::{NOWHERE, both, everything, word};
+use crate::pieces::{both, everything, word};
 use plus_number::frac::Frac64;
 use plus_renaming::copies;
 use plus_tree::{
-    CondNode, CondTree, Domain, EffectTree, Head, Init, Members, Problem, Schema, Spelled,
+    CondNode, CondTree, Domain, EffectTree, Head, Init, Members, NOWHERE, Problem, Schema, Spelled,
     TypedName,
 };
 use std::alloc::{AllocError, Global};

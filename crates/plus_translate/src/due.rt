@@ -13,12 +13,12 @@ ghost use Rattle.plus_translate.specs.Dues.{due_of, dues_of, NotDue};
 use crate::fault::TransFault;
 use crate::flows::number;
 use crate::grid::steps;
-use crate::pieces::{NOWHERE, leaf, when, word, writes};
+use crate::pieces::{leaf, when, word, writes};
 use plus_number::frac::Frac64;
 use plus_renaming::copies;
 use plus_tree::{
     Args, Comparison, CondNode, CondTree, EffectTree, ExprNode, ExprTree, Init, LeafNode, Literal,
-    Use,
+    NOWHERE, Use,
 };
 use std::alloc::{AllocError, Global};
 

@@ -11,12 +11,12 @@ ghost use Rattle.plus_translation.specs.Translated.{natural, length_of_step, flo
 ghost use Rattle.plus_translate.specs.Placed.{shown};
 ghost use Rattle.plus_translate.specs.Fires.{flow_of};
 
-use crate::pieces::{NOWHERE, leaf, natural, nested, when};
+use crate::pieces::{leaf, natural, nested, when};
 use crate::placed::{Placed, writes_of};
 use plus_number::exact::Exact;
 use plus_number::frac::Frac64;
 use plus_renaming::copies;
-use plus_tree::{CondTree, EffectTree, ExprNode, ExprTree, LeafNode, Schema, Use};
+use plus_tree::{CondTree, EffectTree, ExprNode, ExprTree, LeafNode, NOWHERE, Schema, Use};
 use std::alloc::{AllocError, Global};
 
 /// A whole number as an expression.

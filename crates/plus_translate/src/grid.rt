@@ -10,13 +10,9 @@ ghost use Rattle.plus_translate.specs.Grid.{StandsOnGrid};
 use plus_number::divisor::common_divisor;
 use plus_number::exact::Exact;
 use plus_number::frac::Frac64;
+use plus_stepped::grid::MOST_STEPS;
+use plus_tokens::MOST_PLACES;
 use plus_tree::Literal;
-
-// The greatest number of steps.
-const MOST_STEPS: u128 = 9_223_372_036_854_775_807;
-
-// The most places of a literal.
-const MOST_PLACES: u8 = 9;
 
 // How many times the one quotient is the other, where it is that so many times.
 fn whole_quotient(top: u128, bottom: u128, step_top: u64, step_bottom: u64) -> Option<u64>

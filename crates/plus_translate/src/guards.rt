@@ -7,11 +7,9 @@ ghost use Rattle.plus_translation.specs.Leaves.{over, some, over_effect};
 ghost use Rattle.plus_translation.specs.Translated.{mark_heads, none_hold, none_repeats, clears};
 ghost use Rattle.plus_translate.specs.Single.{none_of, repeats_of, some_of, clear_of, head_of};
 
-use crate::pieces::{
-    NOWHERE, atom, both, leaf, mark, mark_name, not, over, over_effect, some, writes,
-};
+use crate::pieces::{atom, both, leaf, mark, mark_name, not, over, over_effect, some, writes};
 use plus_renaming::copies;
-use plus_tree::{CondTree, EffectTree, Head, LeafNode, Members, Schema};
+use plus_tree::{CondTree, EffectTree, Head, LeafNode, Members, NOWHERE, Schema};
 use std::alloc::{AllocError, Global};
 
 // An event does not hold.

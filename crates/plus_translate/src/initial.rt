@@ -11,9 +11,9 @@ ghost use Rattle.plus_translate.specs.Parts.{beginning_of, clock_start};
 
 use crate::atoms::Atoms;
 use crate::due::{Due, clock_use, has_later};
-use crate::pieces::{NOWHERE, natural};
+use crate::pieces::natural;
 use plus_renaming::copies;
-use plus_tree::{Init, Members, Use};
+use plus_tree::{Init, Members, NOWHERE, Use};
 use std::alloc::{AllocError, Global};
 
 // The atoms that literals of time 0 set, each once.

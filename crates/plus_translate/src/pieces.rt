@@ -11,13 +11,10 @@ ghost use Rattle.plus_translate.specs.Placed.{lists_of};
 use plus_renaming::copies;
 use plus_renaming::numerals::put_numeral;
 use plus_tree::{
-    Args, CondNode, CondTree, EffectNode, EffectTree, Leaf, LeafNode, Literal, Members, Name,
-    Schema, Span, Spelled, Term, TypedName, Use,
+    Args, CondNode, CondTree, EffectNode, EffectTree, Leaf, LeafNode, Literal, Members, NOWHERE,
+    Name, Schema, Span, Spelled, Term, TypedName, Use,
 };
 use std::alloc::{AllocError, Global};
-
-/// The place of what is new.
-pub const NOWHERE: Span = Span { start: 0, end: 0 };
 
 /// A new name.
 pub fn word(alloc: Global, bytes: &[u8]) -> Result<Spelled, AllocError>

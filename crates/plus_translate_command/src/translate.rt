@@ -4,7 +4,7 @@ ghost use Rattle.std.specs.Prelude.{◌≡◌, ◌≤◌, ◌+◌, [], ◌∷◌
 ghost use Rattle.plus_io.specs.Files.{KeepsFiles};
 ghost use Rattle.plus_io.specs.Picks.{ReadsInOrder};
 ghost use Rattle.plus_number.specs.Frac.{fraction_of};
-ghost use Rattle.plus_reply.specs.Pair.Pair.{text_limit};
+ghost use Rattle.plus_io.specs.Limits.{text_limit};
 ghost use Rattle.plus_reply.specs.Reply.{IsPlain, HasCause};
 ghost use Rattle.plus_translate.specs.Translates.{IsTranslation};
 ghost use Rattle.plus_translate_command.specs.HalfReply.{TellsRefusal, Gives};
@@ -14,8 +14,7 @@ use crate::printer::{HalfText, translated_half};
 use plus_io::{Freeing, Shelf, Sink};
 use plus_reply::pair::pair::{Refusal, bad_text, pair, release, text_for};
 use plus_reply::reply::{Fault, refused};
-use plus_reply::status::Status;
-use plus_report::{Early, Text, Word};
+use plus_report::{Early, Status, Text, Word};
 use plus_translate::{TransFault, translate};
 use plus_tree::{Domain, Problem};
 use plus_types::{File, Typed};

@@ -16,8 +16,9 @@ use Rattle.plus_trial.specs.Farm.{domain_text, problem_text, plan_text}
 use Rattle.plus_trial.specs.Summary.{summary_text}
 use Rattle.plus_words.specs.Happenings.{default_happenings}
 use Rattle.plus_reply.specs.Pair.Pair.{PairRefused, SpellsWellTyped}
-use Rattle.plus_reply.specs.declared.status.Status.{Status}
-use Rattle.plus_reply.specs.Statuses.{early_status, status_of}
+use Rattle.plus_report.specs.declared.status.Status.{Status}
+use Rattle.plus_reply.specs.Statuses.{early_status}
+use Rattle.plus_validator.specs.Statuses.{status_of}
 
 -- the three texts of a farm of n tanks, whose bytes are of no matter to what is said of them here
 unfoldable pub farm_domain : List ℕ

@@ -7,7 +7,7 @@ use Rattle.std.proofs.lemmas.Bool.{cases_lt}
 use Rattle.std.proofs.Math.Seq.{take-append-add}
 use Rattle.plus_plan.specs.Cut.{line_end, goes_on}
 use Rattle.plus_plan.specs.Pieces.{AtLine}
-use Rattle.plus_validator.specs.Limits.{text_limit}
+use Rattle.plus_io.specs.Limits.{text_limit}
 use Rattle.plus_validator.specs.Refused.{IsCut}
 use Rattle.plus_validator.specs.Validates.{IsRead}
 

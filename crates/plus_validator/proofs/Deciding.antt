@@ -34,7 +34,7 @@ use Rattle.plus_report.specs.declared.refusals.Early.TheVariants as early
 use Rattle.plus_report.specs.declared.refusals.Text.TheVariants as texts
 use Rattle.plus_validator.specs.declared.judge.Outcome.{Outcome}
 use Rattle.plus_validator.specs.declared.judge.Outcome.TheVariants.{Valid, Invalid, Beyond, BadText, ReadFault, WriteFault, NoMemory}
-use Rattle.plus_validator.specs.Limits.{text_limit}
+use Rattle.plus_io.specs.Limits.{text_limit}
 use Rattle.plus_validator.specs.Outcomes.{outcome_of}
 use Rattle.plus_validator.specs.Plans.{Pair, pair, lines_meant, plan_of, Reading, plan_in}
 use Rattle.plus_validator.specs.Asking.{asked_at, instances_of, NoneFails}

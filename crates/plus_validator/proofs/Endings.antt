@@ -20,7 +20,7 @@ use Rattle.plus_validator.specs.declared.stream.Ending.{Ending}
 use Rattle.plus_validator.specs.Account.{Progress, progress}
 use Rattle.plus_validator.specs.Halts.{HaltFits, HasCause}
 use Rattle.plus_validator.specs.Handing.{HandsOn, Left, left, BreaksOffAt}
-use Rattle.plus_validator.specs.Limits.{text_limit}
+use Rattle.plus_io.specs.Limits.{text_limit}
 use Rattle.plus_validator.specs.Plans.{Pair, pair}
 use Rattle.plus_validator.specs.Playing.{Begins}
 use Rattle.plus_validator.specs.Feeding.{Course, course, EndsFeeding, HaltsEnding}

@@ -26,7 +26,7 @@ use Rattle.plus_validator.specs.declared.halt.Halt.TheVariants.{Refused, Memory,
 use Rattle.plus_validator.specs.Account.{Progress}
 use Rattle.plus_validator.specs.Halts.{line_halt}
 use Rattle.plus_validator.specs.Handing.{Left, left_by, IsPartOut}
-use Rattle.plus_validator.specs.Limits.{text_limit}
+use Rattle.plus_io.specs.Limits.{text_limit}
 use Rattle.plus_validator.specs.Plans.{Pair}
 use Rattle.plus_validator.specs.Playing.{ReadiedFor, PlaysLine, Closes}
 use Rattle.plus_validator.specs.Refused.{cut_verdict, WholeLines}

@@ -23,7 +23,7 @@ use Rattle.plus_validator.specs.Handing.{HandsOn, Left, left_by, left, IsPartOut
 use Rattle.plus_validator.specs.declared.feed.Feed.{Feed}
 use Rattle.plus_validator.specs.declared.halt.Halt.{Halt}
 use Rattle.plus_validator.specs.declared.halt.Halt.TheVariants.{Refused, WriteFault}
-use Rattle.plus_validator.specs.Limits.{text_limit}
+use Rattle.plus_io.specs.Limits.{text_limit}
 use Rattle.plus_validator.specs.Plans.{Pair, pair_in}
 use Rattle.plus_validator.specs.Playing.{IsResting}
 use Rattle.plus_validator.specs.Feeding.{Course, course, IsFresh, IsFed, IsOpen, HaltsWith, HaltsOn, Feeds, HaltsFeeding, PlaysText, EndsFeeding, HaltsEnding, IsPlayedOut}

@@ -15,7 +15,7 @@ use Rattle.plus_report.specs.Report.{report_of}
 use Rattle.plus_validator.specs.Plans.{pair, plan_of, HasValue}
 use Rattle.plus_validator.specs.Asking.{entries_of, instances_of, NoneFails, IsClear}
 use Rattle.plus_validator.specs.Fires.{FiresExactly}
-use Rattle.plus_validator.specs.Limits.{text_limit}
+use Rattle.plus_io.specs.Limits.{text_limit}
 
 pub record IsAccepted (d : Domain) (p : Problem) (most : ℕ) (text bytes : List ℕ) : Type 0 where
   pub groundable : IsGroundable IsFrac64 d p

@@ -15,7 +15,7 @@ use Rattle.plus_validator.specs.declared.halt.Halt.{Halt}
 use Rattle.plus_validator.specs.declared.run.Run.{Run}
 use Rattle.plus_validator.specs.Account.{Progress, progress}
 use Rattle.plus_validator.specs.Handing.{Left, left}
-use Rattle.plus_validator.specs.Limits.{text_limit}
+use Rattle.plus_io.specs.Limits.{text_limit}
 use Rattle.plus_validator.specs.Plans.{Pair, HasValue}
 use Rattle.plus_validator.specs.Playing.{ReadiedFor, IsResting, Begins, PlaysAll}
 use Rattle.plus_validator.specs.Refused.{WholeLines}

@@ -1,5 +1,4 @@
 pub mod Plans
-pub mod Limits
 pub mod Asking
 pub mod Account
 pub mod Handing
@@ -20,3 +19,4 @@ pub mod Feeding
 pub mod Streaming
 pub mod Tame
 pub mod Laws
+pub mod Statuses

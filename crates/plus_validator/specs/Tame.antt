@@ -16,7 +16,7 @@ use Rattle.plus_expansion.specs.Expansion.{expanded}
 use Rattle.plus_expansion.specs.Counting.{IsGroundable}
 use Rattle.plus_validator.specs.Plans.{Pair, pair, lines_meant, plan_of, HasValue}
 use Rattle.plus_validator.specs.Asking.{instances_of, Fails}
-use Rattle.plus_validator.specs.Limits.{text_limit}
+use Rattle.plus_io.specs.Limits.{text_limit}
 
 -- at no prefix of the plan is the first test that fails a limit
 abbrev pub StaysInside : Problem → Plan → ℕ → (ℕ → List Test) → Type 0

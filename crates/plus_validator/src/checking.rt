@@ -3,7 +3,7 @@ ghost use Rattle.std.specs.Prelude.{◌≡◌, ◌⊎◌, ◌≤◌, ◌+◌, []
 ghost use Rattle.plus_expansion.specs.Counting.{IsGroundable};
 ghost use Rattle.plus_io.specs.Files.{KeepsFiles};
 ghost use Rattle.plus_io.specs.Picks.{ReadsInOrder};
-ghost use Rattle.plus_validator.specs.Limits.{text_limit, most_happenings};
+ghost use Rattle.plus_io.specs.Limits.{text_limit, most_happenings};
 ghost use Rattle.plus_validator.specs.Validates.{Accepts, Refuses, RefusesPair, RefusesPairInPart, IsRefusal, EndsUngrounded};
 ghost use Rattle.plus_validator.specs.Leaving.{StopsReading, StopsWriting, LeavesReport};
 ghost use Rattle.plus_validator.specs.Halts.{HaltFits};

@@ -5,9 +5,10 @@ ghost use Rattle.plus_ground.specs.Refusals.{RefusesGround};
 ghost use Rattle.plus_number.specs.Frac.{IsFrac64};
 ghost use Rattle.plus_tree.specs.declared.trees.Domain.{Domain};
 ghost use Rattle.plus_tree.specs.declared.trees.Problem.{Problem};
-ghost use Rattle.plus_validator.specs.Limits.{most_happenings};
+ghost use Rattle.plus_io.specs.Limits.{most_happenings};
 ghost use Rattle.plus_validator.specs.Outcomes.{outcome_of};
 ghost use Rattle.plus_validator.specs.Playing.{IsGroundOf};
+ghost use Rattle.plus_validator.specs.Statuses.{status_of};
 ghost use Rattle.plus_validator.specs.Verdicts.{RefusesPairWith, JudgesText};
 
 use crate::feed::Feed;
@@ -20,7 +21,7 @@ use plus_ground::ground;
 use plus_io::Freeing;
 use plus_number::frac::Frac64;
 use plus_numbering::{GroundFault, Numbering};
-use plus_report::{Early, Verdict, write_early};
+use plus_report::{Early, Status, Verdict, write_early};
 use plus_state::problem::Ground;
 use plus_types::Typed;
 use std::alloc::{AllocError, Global};
@@ -42,6 +43,23 @@ pub enum Outcome {
     WriteFault,
     /// Memory is wanting.
     NoMemory,
+}
+
+impl Outcome {
+    /// The status of a run that ends so.
+    pub fn status(self) -> Status
+        ensures { result ≡ status_of self }
+    {
+        match self {
+            Outcome::Valid => Status::Valid,
+            Outcome::Invalid => Status::Invalid,
+            Outcome::Beyond => Status::Beyond,
+            Outcome::BadText => Status::BadText,
+            Outcome::ReadFault => Status::ReadFault,
+            Outcome::WriteFault => Status::WriteFault,
+            Outcome::NoMemory => Status::NoMemory,
+        }
+    }
 }
 
 /// The verdict on a plan text, and how much happens before it.

@@ -7,7 +7,6 @@ mod halt;
 pub mod judge;
 mod judgement;
 pub mod laws;
-pub mod limits;
 mod memory;
 mod play;
 mod run;

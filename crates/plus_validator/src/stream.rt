@@ -9,7 +9,7 @@ ghost use Rattle.plus_expansion.specs.Counting.{IsGroundable};
 ghost use Rattle.plus_number.specs.Frac.{fraction_of, IsFrac64};
 ghost use Rattle.plus_state.specs.View.{problem_of, labels_of};
 ghost use Rattle.plus_validator.specs.Account.{progress};
-ghost use Rattle.plus_validator.specs.Limits.{text_limit};
+ghost use Rattle.plus_io.specs.Limits.{text_limit, piece_size};
 ghost use Rattle.plus_validator.specs.Plans.{pair_in};
 ghost use Rattle.plus_validator.specs.Halts.{HaltFits};
 ghost use Rattle.plus_validator.specs.Playing.{IsGroundOf};
@@ -19,15 +19,11 @@ ghost use Rattle.plus_validator.specs.Streaming.{IsPlayedFrom, IsPlayedThrough, 
 
 use crate::feed::Feed;
 use crate::halt::Halt;
-use crate::limits::TEXT_LIMIT;
-use plus_io::{Failed, QuietSink, Shelf, Sink};
+use plus_io::{Failed, PIECE, QuietSink, Shelf, Sink, TEXT_LIMIT};
 use plus_number::frac::Frac64;
 use plus_report::{Early, Text, Verdict};
 use plus_state::problem::Ground;
 use std::alloc::Global;
-
-/// How many bytes are played at once, at most.
-const PIECE: usize = 4096;
 
 // A plan text that goes on behind its limit.
 fn too_long() -> Halt
@@ -40,7 +36,7 @@ fn too_long() -> Halt
 // Reads a piece of a plan of which so many bytes have come, and at most one byte past the limit.
 fn read_piece<S: Shelf>(shelf: &mut S, buffer: &mut [u8], total: usize) -> Result<usize, Failed>
     requires within { total ≤ text_limit }
-    requires room { PIECE ≤ length buffer.old }
+    requires room { piece_size ≤ length buffer.old }
     ensures fits { IfOk result (λ count. count ≤ length buffer.new) }
     ensures most { IfOk result (λ count. total + count ≤ text_limit + 1) }
     ensures piece { IfOk result (λ count. Takes (S.rest shelf.old) (S.rest shelf.new) (take count buffer.new)) }

@@ -1,22 +1,21 @@
 //! How many moments a plan may enter.
 
 ghost use Rattle.std.specs.Prelude.{◌≡◌, ◌≤◌, option_map};
+ghost use Rattle.plus_io.specs.Limits.{most_happenings};
 ghost use Rattle.plus_words.specs.Happenings.{happenings_of};
 
 use crate::numbers::number_of;
+use plus_io::MOST_HAPPENINGS;
 
 // How many digits a word has at most that names such a number.
 const DIGITS: usize = 7;
-
-// The greatest such number.
-const MOST: u64 = 1000000;
 
 /// A number of moments that a plan may enter.
 #[derive(Clone, Copy)]
 pub struct Happenings {
     pub number: u64,
     ghost some: { 1 ≤ number },
-    ghost few: { number ≤ 1000000 },
+    ghost few: { number ≤ most_happenings },
 }
 
 impl Happenings {
@@ -27,7 +26,7 @@ impl Happenings {
     pub fn parse(word: &str) -> Option<Happenings>
         ensures { option_map (λ h. h.number) result ≡ happenings_of word.now }
     {
-        match number_of(word, DIGITS, 1, MOST) {
+        match number_of(word, DIGITS, 1, MOST_HAPPENINGS) {
             Some(number) => Some(Happenings { number }),
             None => None,
         }

@@ -7,7 +7,7 @@ use crate::runs::{
     status_of,
 };
 use plus_io::{MemShelf, MemSink, Shelf};
-use plus_reply::status::Status;
+use plus_report::Status;
 use std::alloc::Global;
 use std::process::Abort;
 use std::test::Fail;

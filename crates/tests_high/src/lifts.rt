@@ -1,7 +1,7 @@
 //! Rows of `lift`.
 
 use crate::runs::{Files, expect_words};
-use plus_reply::status::Status;
+use plus_report::Status;
 use std::test::Fail;
 
 const TANK: &str =

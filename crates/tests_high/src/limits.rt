@@ -4,7 +4,7 @@ use crate::runs::{
     CHECK, D1, DOOR, Files, OPENED, OPENED_REPORT, door, expect_check, shelf_of, status_of,
 };
 use plus_io::MemSink;
-use plus_reply::status::Status;
+use plus_report::Status;
 use std::alloc::Global;
 use std::process::Abort;
 use std::test::Fail;

@@ -3,7 +3,7 @@
 
 use crate::runs::{CHECK, Row, expect_rows, status_of};
 use plus_io::{QuietShelf, QuietSink};
-use plus_reply::status::Status;
+use plus_report::Status;
 use std::alloc::Global;
 use std::test::Fail;
 

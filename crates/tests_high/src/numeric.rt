@@ -3,7 +3,7 @@
 
 use crate::runs::{Files, Row, expect_rows, expect_run, shelf_of};
 use plus_io::{MemShelf, MemSink};
-use plus_reply::status::Status;
+use plus_report::Status;
 use std::alloc::Global;
 use std::test::Fail;
 

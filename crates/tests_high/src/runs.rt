@@ -2,7 +2,7 @@
 //! rules of time and of the texts.
 
 use plus_io::{Freeing, MemShelf, MemSink, Shelf, Sink};
-use plus_reply::status::Status;
+use plus_report::Status;
 use plus_run::run::run;
 use std::alloc::Global;
 use std::process::Abort;

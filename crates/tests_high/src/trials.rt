@@ -2,7 +2,7 @@
 
 use crate::runs::{USAGE, expect_run};
 use plus_io::{MemShelf, MemSink};
-use plus_reply::status::Status;
+use plus_report::Status;
 use std::process::Abort;
 use std::test::Fail;
 

@@ -1,7 +1,7 @@
 //! Each word of typing with its place, and pairs with subtypes and numbers that are played.
 
 use crate::runs::{CHECK, Files, Row, expect_check, expect_rows};
-use plus_reply::status::Status;
+use plus_report::Status;
 use std::test::Fail;
 
 const TRUCKS: &str = "(define (domain d) (:types van - truck truck place) (:constants home - place)

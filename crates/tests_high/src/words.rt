@@ -2,7 +2,7 @@
 
 use crate::runs::{DOOR, OPENED, OPENED_REPORT, USAGE, door, expect_run, shelf_of};
 use plus_io::MemSink;
-use plus_reply::status::Status;
+use plus_report::Status;
 use std::process::Abort;
 use std::test::Fail;
 

@@ -12,7 +12,7 @@ use Rattle.plus_planner.specs.declared.searching.Answer.TheVariants.{Plan, NoPla
 use Rattle.plus_plan_command.specs.Planning.Planned.{IsPlanned}
 use Rattle.plus_reply.specs.Pair.Pair.{SpellsWellTyped}
 use Rattle.plus_reply.proofs.PairLemmas.OnePair.{pair_once}
-use Rattle.plus_reply.specs.declared.status.Status.TheVariants as s
+use Rattle.plus_report.specs.declared.status.Status.TheVariants as s
 use Rattle.plus_reply.specs.Statuses.{early_status}
 use Rattle.plus_plan_command.specs.Plan.{answer_status, answer_text, answered, no_search, Plans, no_pair, of_pair}
 

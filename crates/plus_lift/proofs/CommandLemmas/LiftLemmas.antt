@@ -18,14 +18,14 @@ use Rattle.plus_reply.specs.declared.pair.pair.Refusal.{Refusal}
 use Rattle.plus_reply.specs.declared.pair.pair.Refusal.TheVariants as refusals
 use Rattle.plus_reply.specs.Pair.Reads.{ReadsPair, NoPair}
 use Rattle.plus_reply.proofs.PairLemmas.SpelledLemmas.{on_pair}
-use Rattle.plus_reply.specs.declared.status.Status.{Status}
+use Rattle.plus_report.specs.declared.status.Status.{Status}
 use Rattle.plus_reply.specs.declared.reply.Reply.{Reply}
 use Rattle.plus_reply.specs.declared.reply.Fault.{Fault}
 use Rattle.plus_reply.specs.declared.reply.Fault.TheVariants as faults
 use Rattle.plus_reply.specs.Reply.{IsPlain, HasCause, TellsRefusal}
 use Rattle.plus_reply.proofs.ReplyLemmas.{no_pair_told}
 use Rattle.plus_lift.specs.Command.Again.{SpellsAgain, NotReadAgain}
-use Rattle.plus_reply.specs.Statuses.{kind_status}
+use Rattle.plus_numeric.specs.Statuses.{kind_status}
 use Rattle.plus_lift.specs.Command.Lift.{TellsStop, LiftsCalls, LiftsPlan, no_plan, lifts, LiftsPair, no_texts, of_texts, Lifts, no_pair, of_pair}
 
 -- ---- a plan

@@ -11,8 +11,7 @@ use crate::{LiftFault, lift, overflow_line};
 use plus_io::{Freeing, MemSink};
 use plus_number::frac::Frac64;
 use plus_reply::reply::{Fault, Reply};
-use plus_reply::status::Status;
-use plus_report::write_plan;
+use plus_report::{Status, write_plan};
 use plus_state::TimedPlan;
 use plus_state::term::Overflow;
 use plus_tree::Call;
@@ -54,7 +53,7 @@ fn judged(alloc: Global, typed: &Typed, plan: &TimedPlan<Frac64>) -> Result<Repl
     text.extend_from_slice(b"; ")?;
     text.extend_from_slice(&judged.line)?;
     Ok(Reply {
-        status: Status::of(judged.outcome()),
+        status: judged.outcome().status(),
         text,
     })
 }

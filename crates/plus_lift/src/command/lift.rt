@@ -4,7 +4,7 @@ ghost use Rattle.std.specs.Prelude.{◌≡◌, ◌+◌, [], ◌∷◌, IfOk, IfE
 ghost use Rattle.plus_io.specs.Files.{KeepsFiles};
 ghost use Rattle.plus_io.specs.Picks.{ReadsInOrder};
 ghost use Rattle.plus_number.specs.Frac.{fraction_of};
-ghost use Rattle.plus_reply.specs.Pair.Pair.{text_limit};
+ghost use Rattle.plus_io.specs.Limits.{text_limit};
 ghost use Rattle.plus_reply.specs.Reply.{IsPlain, HasCause};
 ghost use Rattle.plus_lift.specs.Command.Lift.{TellsStop, LiftsPlan, LiftsPair, Lifts};
 
@@ -14,7 +14,7 @@ use plus_io::{Freeing, Shelf};
 use plus_numeric::{Source, Stop, numeric};
 use plus_reply::pair::pair::{pair, release};
 use plus_reply::reply::{Fault, Reply, refused};
-use plus_reply::status::Status;
+use plus_report::Status;
 use plus_types::Typed;
 use plus_words::interval::Interval;
 use std::alloc::Global;
@@ -25,7 +25,7 @@ fn stopped(stop: Stop) -> Result<Reply, Fault>
 {
     match stop {
         Stop::Refused(refused) => Ok(Reply {
-            status: Status::of_kind(refused.kind),
+            status: refused.kind.status(),
             text: refused.line,
         }),
         Stop::ReadFault => Err(Fault::ReadFault),

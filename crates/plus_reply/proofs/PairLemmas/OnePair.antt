@@ -17,7 +17,8 @@ use Rattle.plus_reply.proofs.PairLemmas.LawLemmas.{read_domain_place, read_probl
 use Rattle.plus_report.specs.declared.refusals.Early.{Early}
 use Rattle.plus_report.specs.declared.refusals.Text.TheVariants as texts
 use Rattle.plus_reply.specs.declared.pair.pair.Refusal.TheVariants as refusals
-use Rattle.plus_reply.specs.Pair.Pair.{text_limit, depth_limit, text_refusal, type_refusal, DomainRefused, long_domain, no_domain, ProblemRefused, long_problem, no_problem, SpellsPair, SpellsWellTyped, PairRefused, by_domain, by_problem, by_types}
+use Rattle.plus_reply.specs.Pair.Pair.{depth_limit, text_refusal, type_refusal, DomainRefused, long_domain, no_domain, ProblemRefused, long_problem, no_problem, SpellsPair, SpellsWellTyped, PairRefused, by_domain, by_problem, by_types}
+use Rattle.plus_io.specs.Limits.{text_limit}
 
 over : (n : ℕ) → text_limit < n → n ≤ text_limit → ⊥
 over n a b = absurd (omega arith)

@@ -25,7 +25,7 @@ use Rattle.plus_report.specs.declared.refusals.Word.{Word}
 use Rattle.plus_report.specs.declared.refusals.Word.TheVariants as words
 use Rattle.plus_report.specs.declared.refusals.Early as early
 use Rattle.plus_report.specs.declared.refusals.Early.TheVariants.{BadText, TooLong, Depth}
-pub use Rattle.plus_validator.specs.Limits.{text_limit}
+use Rattle.plus_io.specs.Limits.{text_limit}
 use Rattle.plus_reply.specs.declared.pair.pair.Refusal.{Refusal}
 use Rattle.plus_reply.specs.declared.pair.pair.Refusal.TheVariants.{Early, NoMemory}
 

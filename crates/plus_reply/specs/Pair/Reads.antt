@@ -9,7 +9,8 @@ use Rattle.plus_report.specs.declared.refusals.Text.{Text}
 use Rattle.plus_report.specs.declared.refusals.Early.TheVariants.{TooLong}
 use Rattle.plus_reply.specs.declared.pair.pair.Refusal.{Refusal}
 use Rattle.plus_reply.specs.declared.pair.pair.Refusal.TheVariants.{Early, ReadFault, NoMemory}
-use Rattle.plus_reply.specs.Pair.Pair.{text_limit, depth_limit, DomainRefused, ProblemRefused, PairRefused, SpellsPair}
+use Rattle.plus_reply.specs.Pair.Pair.{depth_limit, DomainRefused, ProblemRefused, PairRefused, SpellsPair}
+use Rattle.plus_io.specs.Limits.{text_limit}
 
 -- the text is too long, or a fault or want of memory came
 abbrev pub NotRead : Text → Option (List ℕ) → ℕ → ℕ → Refusal → Type 0

@@ -6,16 +6,16 @@ ghost use Rattle.plus_io.specs.Files.{KeepsFiles};
 ghost use Rattle.plus_io.specs.Picks.{ReadsOnce, ReadsEach, ReadsInOrder};
 ghost use Rattle.plus_parser.specs.SpellsDomain.{SpellsWithin};
 ghost use Rattle.plus_parser.specs.SpellsProblem.{SpellsProblemWithin};
-ghost use Rattle.plus_reply.specs.Pair.Pair.{text_limit, behind, text_refusal, type_refusal, word_of, text_named};
+ghost use Rattle.plus_reply.specs.Pair.Pair.{behind, text_refusal, type_refusal, word_of, text_named};
+ghost use Rattle.plus_io.specs.Limits.{text_limit};
 ghost use Rattle.plus_reply.specs.Pair.Reads.{NotRead, ReadsDomain, ReadsProblem, ReadsPair, NoDomain, NoProblem, NoPair};
 
-use plus_io::{Freeing, ReadStop, Shelf, read_all};
+use plus_io::{Freeing, ReadStop, Shelf, TEXT_LIMIT, read_all};
 use plus_places::{read_domain, read_problem};
 use plus_report::{Early, Text, Word};
 use plus_tokens::LexFault;
 use plus_tree::{Domain, Problem, Span, TextFault};
 use plus_types::{File, TypeFault, Typed, Wrong, check};
-use plus_validator::limits::TEXT_LIMIT;
 use std::alloc::Global;
 
 /// Why there is no pair to check.

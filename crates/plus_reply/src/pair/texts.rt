@@ -5,11 +5,11 @@ ghost use Rattle.plus_reply.specs.Pair.Pair.{SpellsPair};
 ghost use Rattle.plus_reply.specs.Pair.Reads.{ReadsDomain, ReadsProblem, NotDomain, NotProblem, NotPair};
 
 use crate::pair::pair::{Refusal, refuse_text, refuse_types};
+use plus_io::TEXT_LIMIT;
 use plus_places::{read_domain, read_problem};
 use plus_report::{Early, Text};
 use plus_tree::{Domain, Problem};
 use plus_types::{Typed, check};
-use plus_validator::limits::TEXT_LIMIT;
 use std::alloc::Global;
 
 // The domain that a text spells.

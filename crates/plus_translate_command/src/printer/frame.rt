@@ -9,8 +9,7 @@ use plus_number::frac::Frac64;
 use plus_renaming::copies;
 use plus_translate::domain::{constants, fire, functions, predicates, requirements, step};
 use plus_translate::due::Due;
-use plus_translate::pieces::NOWHERE;
-use plus_tree::{Domain, Members, Problem, Schema};
+use plus_tree::{Domain, Members, NOWHERE, Problem, Schema};
 use std::alloc::{AllocError, Global};
 
 /// The translated domain without its old actions, by its renamed events and its literals.

@@ -21,12 +21,12 @@ use Rattle.plus_reply.specs.declared.pair.pair.Refusal.TheVariants as refusals
 use Rattle.plus_reply.specs.Pair.Pair.{SpellsPair}
 use Rattle.plus_reply.specs.Pair.Reads.{NotPair}
 use Rattle.plus_reply.proofs.PairLemmas.SpelledLemmas.{well_spelled}
-use Rattle.plus_reply.specs.declared.status.Status.{Status}
+use Rattle.plus_report.specs.declared.status.Status.{Status}
 use Rattle.plus_reply.specs.declared.reply.Reply.{Reply}
 use Rattle.plus_reply.specs.declared.reply.Fault.{Fault}
 use Rattle.plus_reply.specs.declared.reply.Fault.TheVariants as faults
 use Rattle.plus_reply.specs.Reply.{IsPlain, TellsRefusal}
-use Rattle.plus_reply.specs.Statuses.{status_of}
+use Rattle.plus_validator.specs.Statuses.{status_of}
 use Rattle.plus_trial.specs.Trial.{farm_domain, farm_problem, farm_plan, summary_of, IsTrial, is_judged, no_pair}
 
 -- ---- the texts that are made are those of the farm

@@ -15,7 +15,7 @@ use plus_io::Freeing;
 use plus_reply::pair::pair::{Refusal, release};
 use plus_reply::pair::texts::pair_of;
 use plus_reply::reply::{Fault, Reply, refused};
-use plus_reply::status::Status;
+use plus_report::Status;
 use plus_types::Typed;
 use plus_validator::judge::judge;
 use plus_validator::{Judged, Outcome};
@@ -90,7 +90,7 @@ fn told(alloc: Global, tanks: u32, typed: &Typed, freeing: Freeing) -> Result<Re
     let judged = judged(alloc, tanks, typed, freeing)?;
     let text = summary(alloc, tanks, &judged)?;
     Ok(Reply {
-        status: Status::of(judged.outcome()),
+        status: judged.outcome().status(),
         text,
     })
 }

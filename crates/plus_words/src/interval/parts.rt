@@ -5,10 +5,10 @@ ghost use Rattle.std.specs.Char.{is_ascii_digit};
 ghost use Rattle.std.specs.List.{list_all};
 ghost use Rattle.plus_words.specs.Interval.{digits_in, decimal, quotient, number, parts_in};
 
-// How many digits a whole number has at most, and how many may stand behind a point.
-const DIGITS: usize = 19;
+use plus_tokens::MOST_PLACES;
 
-const PLACES: usize = 9;
+// How many digits a whole number has at most.
+const DIGITS: usize = 19;
 
 // The word has digits alone.
 fn is_digits(word: &str) -> bool
@@ -38,7 +38,7 @@ fn decimal(front: &str, back: &str) -> Option<(u128, u128)>
     ensures { result ≡ decimal front.now back.now }
 {
     let units = digits(front, DIGITS)?;
-    let rest = digits(back, PLACES)?;
+    let rest = digits(back, MOST_PLACES as usize)?;
     let scale = 10u128.pow(back.len() as u32);
     Some((u128::from(units) * scale + u128::from(rest), scale))
 }

@@ -5,7 +5,7 @@ use Rattle.plus_io.specs.Picks.{taken}
 use Rattle.plus_io.proofs.Pieces.{once_over, told_more, KeepsFiles-trans}
 use Rattle.plus_number.specs.Frac.{fraction_of}
 use Rattle.plus_state.specs.View.{problem_of}
-use Rattle.plus_numeric.specs.Cut.{text_limit}
+use Rattle.plus_io.specs.Limits.{text_limit}
 use Rattle.plus_numeric.proofs.PlayLemmas.{stays_then}
 use Rattle.plus_numeric.proofs.StreamLemmas.{fresh_open, fresh_come, expands_still, most_read, halts_more, halts_long, has_more, halts_ended}
 use Rattle.plus_numeric.proofs.run.play_plan.Goals as goal

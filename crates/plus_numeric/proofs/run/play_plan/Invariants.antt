@@ -1,7 +1,7 @@
 use Rattle.std.proofs.Common.{◌≡◌, ◌≤◌, ◌-◌, length}
 use Rattle.plus_io.specs.Files.{KeepsFiles}
 use Rattle.plus_io.specs.Picks.{with_pick}
-use Rattle.plus_numeric.specs.Cut.{text_limit}
+use Rattle.plus_io.specs.Limits.{text_limit}
 use Rattle.plus_numeric.specs.Streaming.{HasCome, IsOpen}
 use Rattle.plus_numeric.proofs.run.play_plan.Given as goal
 

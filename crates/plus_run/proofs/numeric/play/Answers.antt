@@ -21,7 +21,7 @@ returns-in-Err-Refused-clause-answers g c = λ domain problem before reads rose.
     let p = c.args.typed.now.problem in
     let typed = c.args.typed.now.well_typed in
     let refused = rw c.in-Err-Refused.field-0-is at c.in-Err-Refused.ensures.stops in
-    let told = rw (c.of_kind.ensures, c.deref.ensures.value) at c.tell-in-Err-Refused.ensures.writes in
+    let told = rw (c.status.ensures, c.deref.ensures.value) at c.tell-in-Err-Refused.ensures.writes in
     let kind = c.in-Err-Refused.refused.kind in
     let line = c.in-Err-Refused.refused.line.items in
     kind_answer _ _ _ _ _ _ _ _ _ kind line told

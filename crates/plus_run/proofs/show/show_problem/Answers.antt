@@ -1,7 +1,7 @@
 use Rattle.std.proofs.Common.{◌∙◌, subst}
 use Rattle.plus_grammar.specs.Texts.{IsProblemText}
 use Rattle.plus_printer.specs.Canon.{problem_text}
-use Rattle.plus_reply.specs.declared.status.Status.TheVariants as s
+use Rattle.plus_report.specs.declared.status.Status.TheVariants as s
 use Rattle.plus_reply.specs.Pair.Pair.{depth_limit, ProblemRefused}
 use Rattle.plus_reply.specs.Statuses.{Writes}
 use Rattle.plus_run.proofs.ShowLemmas.{shown, shown_in_part, not_shown, not_shown_in_part}

@@ -4,7 +4,7 @@ use Rattle.plus_io.specs.Picks.{with_pick}
 use Rattle.plus_number.specs.Frac.{fraction_of}
 use Rattle.plus_state.specs.View.{problem_of, labels_of}
 use Rattle.plus_validator.specs.Account.{progress}
-use Rattle.plus_validator.specs.Limits.{text_limit}
+use Rattle.plus_io.specs.Limits.{text_limit}
 use Rattle.plus_validator.specs.Plans.{pair_in}
 use Rattle.plus_validator.specs.Feeding.{IsOpen}
 use Rattle.plus_validator.specs.Streaming.{IsOut}
