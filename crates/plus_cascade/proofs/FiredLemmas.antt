@@ -50,9 +50,6 @@ pub record Growing (rest : List ℕ) (now old : List Bool) (whole : List ℕ) : 
   pub so_far : with_fired now rest ≡ with_fired old whole
   pub size : length now ≡ length old
 
-pub growing_start : (whole : List ℕ) (old : List Bool) → All (λ e. e < length old) whole → Growing whole old old whole
-growing_start whole old h = record { inside = h; so_far = refl; size = refl }
-
 module _ (e : ℕ) (rest : List ℕ) (now old : List Bool) (whole : List ℕ) (h : Growing (e ∷ rest) now old whole) where
   pub growing_inside : e < length now
   growing_inside = All-head (λ e. e < length now) e rest h.inside
@@ -73,9 +70,6 @@ pub record Clearing (rest : List ℕ) (now old : List Bool) (whole : List ℕ) :
   pub left : IsSetOf old whole → (k : ℕ) → has_fired now k ≡ true → is_in rest k ≡ true
   pub size : length now ≡ length old
 
-pub clearing_start : (whole : List ℕ) (old : List Bool) → All (λ e. e < length old) whole → Clearing whole old old whole
-clearing_start whole old h = record { inside = h; left = λ s k f. sym (s.same k) ∙ f; size = refl }
-
 module _ (e : ℕ) (rest : List ℕ) (now old : List Bool) (whole : List ℕ) (h : Clearing (e ∷ rest) now old whole) where
   pub clearing_inside : e < length now
   clearing_inside = All-head (λ e. e < length now) e rest h.inside
@@ -95,10 +89,3 @@ module _ (e : ℕ) (rest : List ℕ) (now old : List Bool) (whole : List ℕ) (h
     left = λ s j f. left_by s j (nat_eq j e) refl (sym (unwrap_or-slice_get (set now e false) j false) ∙ f);
     size = length-set now e false ∙ h.size;
   })
-
-none_left : (b : Bool) → ((b ≡ true) → false ≡ true) → b ≡ false
-none_left true f = sym (f refl)
-none_left false f = refl
-
-pub clearing_end : (now old : List Bool) (whole : List ℕ) → Clearing [] now old whole → IsSetOf old whole → IsSetOf now []
-clearing_end now old whole h s = record { same = λ k. none_left (has_fired now k) (h.left s k) }

@@ -27,10 +27,6 @@ unfolding IsStrictlySortedBy
 sorted_keys [] r = tt
 sorted_keys (e ∷ es) r = (over_all e.0 es r.0, sorted_keys es r.1)
 
-over_less : {Q : Type 0} (j k : ℕ) (es : List (ℕ × Q)) → j ≤ k → Over k es → Over j es
-over_less j k [] l o = tt
-over_less j k (e ∷ es) l o = (let a = o.0 in omega arith, over_less j k es l o.1)
-
 -- the rate of another number is looked for behind
 behind : {Q : Type 0} (j : ℕ) (e : ℕ × Q) (es : List (ℕ × Q)) → (e.0 ≡ j → ⊥) → lookup (is_at (nat_cmp j)) (e ∷ es) ≡ lookup (is_at (nat_cmp j)) es
 behind j e es h = lookup_tail (is_at (nat_cmp j)) e es (apart_at j e.0 h)
@@ -206,9 +202,6 @@ module _ {Q : Type 0} (v : Q → Fraction) where
     pub within : below ≤ n
     pub rise : Rises es
     pub zeros : AreZero es
-
-  pub making_start : (n : ℕ) (es : List (ℕ × Q)) → es ≡ [] → Making 0 n es
-  making_start n es e = subst (λ (xs : List (ℕ × Q)). Making 0 n xs) (sym e) (record { inside = tt; within = omega arith; rise = tt; zeros = tt })
 
   in_end : (es : List (ℕ × Q)) (below k : ℕ) (z : Q) → AreIn below es → below ≤ k → AreIn (k + 1) (es ++ (k, z) ∷ [])
   in_end [] below k z a l = (omega arith, tt)

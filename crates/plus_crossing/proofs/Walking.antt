@@ -35,24 +35,10 @@ module _ (all : Bool) (count : ℕ) (c : Condition) (rest whole : List Condition
   counted : count + (comparisons c + comparisons (joined all rest)) ≡ comparisons (joined all whole)
   counted = ap (λ (n : ℕ). count + n) (sym (comparisons_pair all c (joined all rest))) ∙ h.so_far
 
-  pub counting_inside : comparisons c < 2 ^ 32
-  counting_inside = let k = counted in let f = h.few in omega arith
-
-  pub counting_next : (n : ℕ) → n ≡ comparisons c → Counting all (count + n) rest whole
-  counting_next n e = record { so_far = let k = counted in omega (arith, e); few = h.few }
-
-  pub counting_below : (n : ℕ) → n ≡ comparisons c → count + n < 2 ^ 32
-  counting_below n e = let k = counted in let f = h.few in omega (arith, e)
-
 pub counting_end : (all : Bool) (count : ℕ) (whole : List Condition) → Counting all count [] whole → count ≡ comparisons (joined all whole)
 counting_end all count whole h = let e = comparisons_unit all in omega (arith, h.so_far)
 
 pub ruleset counting = (fits_all, fits_any)
-
--- ---- what is asked
-open_none : (fits : Fraction → Type 0) (o : Option Bool) (xs ys : List Ask) → None ≡ o → asks_open o xs ys ≡ xs ++ ys
-unfolding asks_open
-open_none fits o xs ys e = ap (λ (o : Option Bool). if_open o (xs ++ ys)) (sym e)
 
 open_some : (o : Option Bool) (b : Bool) (xs ys : List Ask) → Some b ≡ o → asks_open o xs ys ≡ []
 unfolding asks_open
@@ -133,20 +119,8 @@ module _ (on : Expression → Expression → List Ask) (s : State) where
   walking_start fits all from whole h n f = record { inside = h; undecided = λ e. cc; counted = refl; few = f; pass = λ a. a; stop = λ m u. u }
 
   module _ (fits : Fraction → Type 0) (all : Bool) (from k : ℕ) (c : Condition) (rest whole : List Condition) (h : Walking fits all from k (c ∷ rest) whole) where
-    pub walking_inside : Fits (length s.atoms) (length s.fluents) c
-    walking_inside = fits_head all _ _ c (joined all rest) h.inside
-
     numbers : k + (comparisons c + comparisons (joined all rest)) ≡ from + comparisons (joined all whole)
     numbers = ap (λ (n : ℕ). k + n) (sym (comparisons_pair all c (joined all rest))) ∙ h.counted
-
-    pub walking_few : k + comparisons c < 2 ^ 32
-    walking_few = let e = numbers in let f = h.few in omega arith
-
-    pub walking_below : comparisons c < 2 ^ 32
-    walking_below = let e = numbers in let f = h.few in omega arith
-
-    pub walking_sum : (n : ℕ) → n ≡ comparisons c → k + n < 2 ^ 32
-    walking_sum n d = let e = numbers in let f = h.few in omega (arith, d)
 
     asked_here : live_tests on k (pair all c (joined all rest)) s ≡ live_tests on k c s ++ live_tests on (k + comparisons c) (joined all rest) s
     asked_here = tests_pair all k c (joined all rest) h.undecided
@@ -212,10 +186,6 @@ module _ (rs : List Fraction) (s : State) where
   decided_nowhere (Either c d) b x e h = let k : RootOpen (Some b) (LiveRoot c s rs) (LiveRoot d s rs) x = subst (λ (o : Option Bool). RootOpen o (LiveRoot c s rs) (LiveRoot d s rs) x) (sym e) h in k
   decided_nowhere (Atom a positive) b x e h = h
   decided_nowhere (Compare t l r positive) b x e h = let n = decided_compare t l r positive s in cc
-
-  root_open : (all : Bool) (c d : Condition) (x : Fraction) → LiveRoot (pair all c d) s rs x ≡ RootOpen (decided (pair all c d) s) (LiveRoot c s rs) (LiveRoot d s rs) x
-  root_open true c d x = refl
-  root_open false c d x = refl
 
   open_to : (all : Bool) (c d : Condition) (x : Fraction) → LiveRoot (pair all c d) s rs x → RootOpen (decided (pair all c d) s) (LiveRoot c s rs) (LiveRoot d s rs) x
   open_to true c d x h = h

@@ -35,19 +35,6 @@ length-places types kind n (x ∷ xs) = by (is_under types x.1 kind) (length-pla
     by true more = omega arith
     by false more = omega arith
 
--- one more object of a list that is walked
-pub places-step :
-    (types : List Binding) (kind : List ℕ) (n i : ℕ) (xs : List TypedName) (x : TypedName) → i < length xs → x ≡ get_or xs i x
-    → places_from types kind n (bindings_of (drop i xs))
-    ≡ cond (is_under types x.kind.name kind) (n ∷ places_from types kind (n + 1) (bindings_of (drop (i + 1) xs))) (places_from types kind (n + 1) (bindings_of (drop (i + 1) xs)))
-places-step types kind n i xs x h m =
-    let d : drop i xs ≡ x ∷ drop (suc i) xs = drop-cons xs i x h ∙ ap (λ y. y ∷ drop (suc i) xs) (sym m) in
-    let s : suc i ≡ i + 1 = omega arith in
-    let t : suc n ≡ n + 1 = omega arith in
-    ap (λ ys. places_from types kind n (bindings_of ys)) d
-    ∙ ap (λ j. cond (is_under types x.kind.name kind) (n ∷ places_from types kind (suc n) (bindings_of (drop j xs))) (places_from types kind (suc n) (bindings_of (drop j xs)))) s
-    ∙ ap (λ j. cond (is_under types x.kind.name kind) (n ∷ places_from types kind j (bindings_of (drop (i + 1) xs))) (places_from types kind j (bindings_of (drop (i + 1) xs)))) t
-
 -- ---- numbers that ascend, the first of which is no less than n
 
 abbrev pub Rises : ℕ → List ℕ → Type 0

@@ -5,6 +5,3 @@ use Rattle.plus_fraction.specs.Fraction.{Fraction}
 
 pub coded_fraction : Coded Fraction
 coded_fraction = hlevel (codes, prop_coded, le_prop, ℕ_set)
-
-pub fraction_set : IsSet Fraction
-fraction_set = Coded-set coded_fraction

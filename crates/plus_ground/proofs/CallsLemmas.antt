@@ -95,12 +95,6 @@ expanded_is d p atoms fluents processes events timed s goal a f ps es ts i g =
     let fs = ap length f ∙ labels_many (problem_context d p) 0 d.functions in
     λ j. record { atoms = names j; fluents = fs j; processes = ps j; events = es j; timed = ts j; initial = i j; goal = g j }
 
-pub labels_is :
-    (d : Domain) (p : Problem) (atoms fluents : List (List ℕ))
-    → atoms ≡ ground_labels (problem_context d p) d.predicates → fluents ≡ ground_labels (problem_context d p) d.functions
-    → record { atoms = atoms; fluents = fluents } ≡ labels_meant d p
-labels_is d p atoms fluents a f = λ j. record { atoms = a j; fluents = f j }
-
 -- ---- calls
 
 missing_is_length : {X : Type 0} (p : X → Bool) (xs : List X) → position p xs ≡ None → length xs ≡ position_or_len p xs
@@ -140,14 +134,6 @@ named_none d name e =
     let m = names_many d.actions in
     beyond d.actions (position_or_len (bytes_eq name) (action_names d)) (omega arith)
 
-pub called_unknown : (d : Domain) (p : Problem) (name : List ℕ) (args : List (List ℕ)) → slice_get d.actions (position_or_len (bytes_eq name) (action_names d)) ≡ None → called_of d p name args ≡ plan.UnknownAction name
-called_unknown d p name args e = rw e refl
-
-called_wrong :
-    (d : Domain) (p : Problem) (name : List ℕ) (args : List (List ℕ)) (a : Schema) → slice_get d.actions (position_or_len (bytes_eq name) (action_names d)) ≡ Some a
-    → bound_by (problem_context d p) a.params args [] ≡ None → called_of d p name args ≡ plan.WrongArguments name
-called_wrong d p name args a e f = rw (e, f) refl
-
 called_instance :
     (d : Domain) (p : Problem) (name : List ℕ) (args : List (List ℕ)) (a : Schema) (env : Environment) → slice_get d.actions (position_or_len (bytes_eq name) (action_names d)) ≡ Some a
     → bound_by (problem_context d p) a.params args [] ≡ Some env → called_of d p name args ≡ plan.Instance (action_meant (problem_context d p) a env)
@@ -160,46 +146,14 @@ called_literals d name a e = rw e refl
 abbrev TellsSmall : Bool → Context → Schema → Type 0
 TellsSmall small c a = (env : Environment) → small ≡ not (nat_lt 1000000 (action_nodes (action_meant c a env)))
 
--- arguments that do not fit
-pub wrong_refused :
-    (d : Domain) (p : Problem) (name : List ℕ) (args : List (List ℕ)) (a : Schema) (env : Environment) (b : Bool)
-    → slice_get d.actions (position_or_len (bytes_eq name) (action_names d)) ≡ Some a
-    → cond b (Some env) None ≡ bound_by (problem_context d p) a.params args [] → b ≡ false → called_of d p name args ≡ plan.WrongArguments name
-wrong_refused d p name args a env b e f q = called_wrong d p name args a e (sym f ∙ ap (λ x. cond x (Some env) None) q)
-
 bound_instance :
     (d : Domain) (p : Problem) (name : List ℕ) (args : List (List ℕ)) (a : Schema) (env : Environment) (b : Bool)
     → slice_get d.actions (position_or_len (bytes_eq name) (action_names d)) ≡ Some a
     → cond b (Some env) None ≡ bound_by (problem_context d p) a.params args [] → b ≡ true → called_of d p name args ≡ plan.Instance (action_meant (problem_context d p) a env)
 bound_instance d p name args a env b e f q = called_instance d p name args a env e (sym f ∙ ap (λ x. cond x (Some env) None) q)
 
--- an instance that is too large
-pub large_refused :
-    (d : Domain) (p : Problem) (name : List ℕ) (args : List (List ℕ)) (a : Schema) (env : Environment) (b small : Bool)
-    → slice_get d.actions (position_or_len (bytes_eq name) (action_names d)) ≡ Some a
-    → cond b (Some env) None ≡ bound_by (problem_context d p) a.params args [] → b ≡ true
-    → TellsSmall small (problem_context d p) a → small ≡ false → IsTooLarge (called_of d p name args)
-large_refused d p name args a env b small e f q t k = record {
-  action = action_meant (problem_context d p) a env;
-  is = bound_instance d p name args a env b e f q;
-  large = let h : not (nat_lt 1000000 (action_nodes (action_meant (problem_context d p) a env))) ≡ false = sym (t env) ∙ k in grind (arith, nat_tests);
-}
-
 small_enough : (small : Bool) (c : Context) (a : Schema) (env : Environment) → TellsSmall small c a → small ≡ true → action_nodes (action_meant c a env) ≤ 1000000
 small_enough small c a env t k = let h : not (nat_lt 1000000 (action_nodes (action_meant c a env))) ≡ true = sym (t env) ∙ k in grind (arith, nat_tests)
-
--- an instance with a literal that is no value
-pub unfit_refused :
-    (fits : Fraction → Type 0) (d : Domain) (p : Problem) (name : List ℕ) (args : List (List ℕ)) (a : Schema) (env : Environment) (b small : Bool) (span : Span)
-    → slice_get d.actions (position_or_len (bytes_eq name) (action_names d)) ≡ Some a
-    → cond b (Some env) None ≡ bound_by (problem_context d p) a.params args [] → b ≡ true
-    → TellsSmall small (problem_context d p) a → small ≡ true → IsFirstUnfitAt fits (schema_literals a) span → HasUnfit fits d name (called_of d p name args) span
-unfit_refused fits d p name args a env b small span e f q t k u = record {
-  action = action_meant (problem_context d p) a env;
-  is = bound_instance d p name args a env b e f q;
-  small = small_enough small (problem_context d p) a env t k;
-  unfit = subst (λ ls. IsFirstUnfitAt fits ls span) (sym (called_literals d name a e)) u;
-}
 
 -- the instance that is answered
 pub is_instance :

@@ -226,9 +226,6 @@ initial_start c inits atoms fluents s e a f =
     e ∙ ap₂ state (ap (λ n. replicate n false) a ∙ no_truths 0 (length (ground_names c c.predicates)))
     (ap (λ n. replicate n None) f ∙ no_values 0 (length (ground_names c c.functions)))
 
-pub initial_end : (c : Context) (inits : List Init) (i : ℕ) (s : State) → length inits ≤ i → s ≡ initial_state c (take i inits) → s ≡ initial_state c inits
-initial_end c inits i s h e = e ∙ ap (initial_state c) (take_all i inits h)
-
 -- what a member of `:init` does, by its kind
 pub holds_entered :
     (c : Context) (env : List (List ℕ × ℕ)) (member : Init) (u : Use) (n : ℕ) (s t : State)

@@ -16,7 +16,7 @@ use std::default::MadeWith;
 use std::marker::Model;
 
 /// A variable, by its name, and the object that it stands for, by its place.
-#[derive(Clone, Copy, Debug)]
+#[derive(Clone, Copy)]
 struct Bound<'a> {
     name: &'a [u8],
     object: u32,

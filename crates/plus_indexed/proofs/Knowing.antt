@@ -161,22 +161,9 @@ module _ (fits : Fraction → Type 0) (P : Problem) where
           rests = λ R e. absurd (no_run mid.line.now.running R (ap (λ (v : TimelineView). v.now.running) d.is) e);
         }
 
-  pub begun_knows : (line : TimelineView) (i : Index) (most : ℕ) → line ≡ begun P most → Indexes P i → Knows fits P (record { line = line; kept = record { index = i; events = None; processes = None } })
-  begun_knows line i most e x = record {
-    serves = subst (Serves P) (sym e) (begun_serves P most);
-    index = x;
-    events = λ w n. absurd (none_some w n);
-    processes = λ w n. absurd (none_some w n);
-    rests = λ R n. absurd (no_run line.now.running R (ap (λ (v : TimelineView). v.now.running) e) n);
-  }
-
 -- ---- what the calls ask for, by the code's fields
 abbrev pub numbers : Option (Vec EventId Global) → Option (List ℕ)
 numbers o = option_map (λ (w : Vec EventId Global). event_numbers w.items) o
-
-pub of_numbers : (R : List ℕ → Type 0) (o : Option (Vec EventId Global)) → IfSome o (λ w. R (event_numbers w.items)) → (ns : List ℕ) → numbers o ≡ Some ns → R ns
-of_numbers R None h ns e = cc
-of_numbers R (Some w) h ns e = let k : event_numbers w.items ≡ ns = cc in subst R k h
 
 pub wait_at : (fits : Fraction → Type 0) (P : Problem) (line : TimelineView) (i : Index) (o : Option (Vec EventId Global)) (ps : Option (List ℕ)) (es : Vec EventId Global) (xs : List EventId) → Knows fits P (record { line = line; kept = record { index = i; events = numbers o; processes = ps } }) → o ≡ Some es → xs ≡ es.items → Wait fits P line.now.state (event_numbers xs)
 wait_at fits P line i o ps es xs k e f = k.events (event_numbers xs) (ap numbers e ∙ ap (λ (ys : List EventId). Some (event_numbers ys)) (sym f))

@@ -40,9 +40,6 @@ module _ {Q : Type 0} (value : Q → Fraction) (fits : Fraction → Type 0) (P :
   pub is_there : (new : TimelineView) → IsReachedBy P u T → new ≡ record T { now = record T.now { running = None }; answer = Some There; acted = false } → AdvanceTold value fits P u L new (Ok There)
   is_there new e n = subst (λ (t : TimelineView). AdvanceTold value fits P u t new (Ok There)) line (there value fits P u T here.going new here.moment here.passed here.still e here.ahead n)
 
-  pub is_refused : (stop : Stop Q) → AdvanceTold value fits P u T T (Err stop) → AdvanceTold value fits P u L T (Err stop)
-  is_refused stop a = subst (λ (t : TimelineView). AdvanceTold value fits P u t T (Err stop)) line a
-
   pub is_unsettled : (stop : SettleStop Q) → CanClose P u T → SettleAnswers value fits P L.now.state (Err stop) → AdvanceTold value fits P u L T (Err (of_settle_stop stop))
   is_unsettled stop may a =
       subst (λ (t : TimelineView). AdvanceTold value fits P u t T (Err (of_settle_stop stop))) line

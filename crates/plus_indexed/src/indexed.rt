@@ -72,11 +72,12 @@ impl<Q: Exact> Indexed<Q> {
         ensures begun { IfOk result (λ t. t.line ≡ begun (problem_of Q.value ground.now) happenings) }
         ensures knows { IfOk result (Knows Q.fits (problem_of Q.value ground.now)) }
     {
-        let timeline = Timeline::begin(alloc, ground, happenings)?;
         let index = Index::new(alloc, ground)?;
+        let shared = Rc::new(alloc, index)?;
+        let timeline = Timeline::begin(alloc, ground, happenings)?;
         Ok(Indexed {
             timeline,
-            kept: Kept::new(alloc, Rc::new(alloc, index)?),
+            kept: Kept::new(alloc, shared),
             room: no_room(alloc),
             spare: DueRound::none(alloc),
         })

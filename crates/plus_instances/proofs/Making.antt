@@ -34,36 +34,12 @@ slice_get_end (y ∷ ys) x = slice_get_end ys x
 pub kept_too : (t u : Typed) (k : Kept) → u ≡ t → IsKept t k → IsKept u k
 kept_too t u k e h = subst (λ v. IsKept v k) (sym e) h
 
--- a copy of a call has its instance
-pub kept_copy : (t : Typed) (k : Kept) (name : List ℕ) (args : List (List ℕ)) → k.name ≡ name → k.args.items ≡ args
-    → IsMade t name args (action_of fraction_of k.action) → IsKept t k
-kept_copy t k name args n b h =
-    subst (λ m. IsMade t k.name m (action_of fraction_of k.action)) (sym b)
-    (subst (λ m. IsMade t m args (action_of fraction_of k.action)) (sym n) h)
-
 -- another one stands at a place
 pub all_set : (t : Typed) (k : Kept) (xs : List Kept) (i : ℕ) → All (IsKept t) xs → IsKept t k → All (IsKept t) (set xs i k)
 all_set t k xs i a h = All-set (IsKept t) xs i k h a
 
 pub slice_get_set : {A : Type 0} (xs : List A) (i : ℕ) (x : A) → i < length xs → slice_get (set xs i x) i ≡ Some x
 slice_get_set xs i x l = slice_get-get_or (set xs i x) i x (omega (arith, length-set xs i x, l)) ∙ ap Some (get_or-set_same xs i x x l)
-
--- what stands at a place is the instance of its call
-pub small_made : (t : Typed) (i : Instances) (k : Kept) (place : ℕ) (name : List ℕ) (args : List (List ℕ))
-    → slice_get i.small.items place ≡ Some k → IsMade t name args (action_of fraction_of k.action) → HasMade t i name args (Small place)
-small_made t i k place name args e h = record {
-  action = action_of fraction_of k.action;
-  is = ap (option_map (λ (k : Kept). action_of fraction_of k.action)) e;
-  made = h;
-}
-
-pub large_made : (t : Typed) (i : Instances) (k : Kept) (place : ℕ) (name : List ℕ) (args : List (List ℕ))
-    → slice_get i.large.items place ≡ Some k → IsMade t name args (action_of fraction_of k.action) → HasMade t i name args (Large place)
-large_made t i k place name args e h = record {
-  action = action_of fraction_of k.action;
-  is = ap (option_map (λ (k : Kept). action_of fraction_of k.action)) e;
-  made = h;
-}
 
 -- one more is kept
 pub all_kept : (t : Typed) (k : Kept) (xs ys : List Kept) → All (IsKept t) xs → IsKept t k → ys ≡ xs ++ k ∷ []

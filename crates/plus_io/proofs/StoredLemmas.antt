@@ -29,16 +29,6 @@ position-map f p xs = rw (length-map f xs, prefix_len-map f (λ y. not (p y)) xs
 pub first_named : (files : List File) (name : List ℕ) → position (λ (file : File). bytes_eq file.name.items name) files ≡ place_of (names_of files) name
 first_named files name = position-map (λ (file : File). file.name.items) (λ n. bytes_eq n name) files
 
--- a text is put in the place of another
-pub with_file-there : (t : Texts) (name text : List ℕ) (place : ℕ) (names texts : List (List ℕ)) → place_of t.names name ≡ Some place → names ≡ t.names → texts ≡ slice_set t.texts place text
-    → record { names = names; texts = texts; most = t.most; picked = None; rest = [] } ≡ with_file t name text
-with_file-there t name text place names texts there same set = rw (there, same, set) refl
-
--- a text is put under a new name
-pub with_file-new : (t : Texts) (name text : List ℕ) (names texts : List (List ℕ)) → place_of t.names name ≡ None → names ≡ t.names ++ name ∷ [] → texts ≡ t.texts ++ text ∷ []
-    → record { names = names; texts = texts; most = t.most; picked = None; rest = [] } ≡ with_file t name text
-with_file-new t name text names texts absent longer more = rw (absent, longer, more) refl
-
 -- the first place that passes is inside the list, or there is none
 first_cases : (n len : ℕ) → ((n < len) × (cond (ltb n len) (Some n) None ≡ Some n)) ⊎ ((len ≤ n) × (cond (ltb n len) (Some n) None ≡ None))
 first_cases n len = at (ltb n len) refl where

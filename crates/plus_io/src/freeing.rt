@@ -3,7 +3,7 @@
 use std::mem;
 
 /// When memory that is needed no more is given back.
-#[derive(Clone, Copy, Debug, PartialEq, Eq)]
+#[derive(Clone, Copy, PartialEq, Eq)]
 pub enum Freeing {
     /// Now, value by value: for a caller that goes on.
     Now,

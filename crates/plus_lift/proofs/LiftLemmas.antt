@@ -43,10 +43,6 @@ alone P x p (suc k) d h = absurd (omega (arith, h))
 pub lift_begin : (interval : Frac64) (steps : List Call) → LiftSoFar interval steps 0 0 []
 lift_begin interval steps = record { few = omega arith; acts_are = refl; ends = refl; before = []; split = refl; fit = none_yet (λ n. IsFrac64 (time_of_step (fraction_of interval) n)) }
 
--- ---- what the next call is
-choice : Bool → Bool → Move CallName → List (Move CallName) → List (Move CallName)
-choice step fire act rest = if step then Tick ∷ rest else (if fire then rest else act ∷ rest)
-
 next_call : (steps : List Call) (i : ℕ) (x : Call) → i < length steps → x ≡ get_or steps i x
     → moves steps i ≡ (if bytes_eq x.name (codes "pp-step") then Tick ∷ moves steps (suc i)
     else (if bytes_eq x.name (codes "pp-fire") then moves steps (suc i) else Act (x.name, x.args) ∷ moves steps (suc i)))

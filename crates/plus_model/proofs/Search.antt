@@ -103,16 +103,6 @@ quiet_between P s R rs a b x calm ax xb = record {
     no_events : firing P (moved s rs x) ≡ []
     no_events = none_fire P (moved s rs x) silent
 
--- a stretch goes on past a quiet place
-pub stretch_on : (P : Problem) (s : State) (R : List ℕ) (rs : List Fraction) (a b : Fraction) → Stretch P s R rs a → IsQuiet P (moved s rs a) R rs → IsCalm P s R rs a b → Stretch P s R rs b
-stretch_on P s R rs a b st q calm x p l = elim (<ℚ_or x a) [
-  | inl h ↦ st x p h
-  | inr o ↦ elim o [
-    | inl e ↦ subst (λ z. IsQuiet P (moved s rs z) R rs) (sym e) q
-    | inr h ↦ quiet_between P s R rs a b x calm h l
-  ]
-]
-
 -- and it begins where the running set does
 values_still : (vs : List (Option Fraction)) (rs : List Fraction) → moved_values vs rs (whole (pos 0)) ≡ vs
 values_still [] rs = refl

@@ -22,9 +22,6 @@ over-top_by n d g h e = over-top n d h ∙ ap (λ (k : ℕ). with_sign n (unsign
 pub reduced_by : (x : Fraction) (t : ℤ) (b : ℕ) → x.top ≡ t → x.bottom ≡ b → gcd (unsigned_abs t) b ≡ 1
 reduced_by x t b p q = sym (ap₂ (λ (t : ℤ) (b : ℕ). gcd (unsigned_abs t) b) p q) ∙ x.reduced
 
-pub same_as : (f : Frac64) (x : Fraction) → x.top ≡ f.n → x.bottom ≡ f.d → fraction_of f ≡ x
-same_as f x p q = same_parts (fraction_of f) x (sym p) (sym q)
-
 -- a whole number
 pub whole-bottom : (n : ℤ) → (whole n).bottom ≡ 1
 whole-bottom n = over-bottom n 1 (omega arith) ∙ ap (λ (k : ℕ). 1 / k) (gcd-one _)

@@ -39,11 +39,6 @@ refuses-fluents c (TooMany k m) h a o =
           ∙ ap (λ (x : Count). Some (record { kind = x; most = 50000; number = n })) (sym o.0) ∙ ap (λ (x : ℕ). Some (record { kind = k; most = x; number = n })) (sym o.1),
     )
 
-pub all-few :
-    (c : Context) → length c.objects ≤ 10000 → length (ground_names c c.predicates) ≤ 200000 → length (ground_names c c.functions) ≤ 50000 → first_over (name_counts c) ≡ None
-all-few c h a f =
-    not-over 10000 (length c.objects) _ _ h ∙ not-over 200000 (length (ground_names c c.predicates)) _ _ a ∙ not-over 50000 (length (ground_names c c.functions)) _ _ f
-
 -- none is over
 pub low-first : (m n : ℕ) (c : Counted) (rest : Option Counted) → cond (nat_lt m n) (Some c) rest ≡ None → (n ≤ m) × (rest ≡ None)
 low-first m n c rest e = ⊎_elim high low (cases_lt m n)

@@ -108,12 +108,3 @@ starts-step c n (x ∷ hs) zero d h = starts-first c (n + length (tuples (extent
 starts-step c n (x ∷ hs) (suc i) d h =
     let s : suc i + 1 ≡ suc (i + 1) = omega arith in
     ap (λ j. get_or (starts_from c n (x ∷ hs)) j 0) s ∙ starts-step c (n + length (tuples (extents_of c x.params))) hs i d (omega arith)
-
-pub starts-below : (c : Context) (n : ℕ) (heads : List Head) (i : ℕ) → i ≤ length heads → get_or (starts_from c n heads) i 0 ≤ n + count c heads
-starts-below c n [] zero h = omega arith
-starts-below c n [] (suc i) h = absurd (omega arith)
-starts-below c n (x ∷ hs) zero h = omega arith
-starts-below c n (x ∷ hs) (suc i) h =
-    let more : get_or (starts_from c (n + length (tuples (extents_of c x.params))) hs) i 0 ≤ n + length (tuples (extents_of c x.params)) + count c hs =
-    starts-below c (n + length (tuples (extents_of c x.params))) hs i (omega arith) in
-    omega arith

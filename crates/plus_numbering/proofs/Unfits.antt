@@ -61,9 +61,6 @@ pub record Left (fits : Fraction → Type 0) (whole rest : List Literal) : Type 
   pub all : AllFit fits rest → AllFit fits whole
   pub first : (s : Span) → IsFirstUnfitAt fits rest s → IsFirstUnfitAt fits whole s
 
-pub left_whole : (fits : Fraction → Type 0) (xs : List Literal) → Left fits xs xs
-left_whole fits xs = record { all = λ h. h; first = λ s h. h }
-
 left-more : (fits : Fraction → Type 0) (whole xs ys : List Literal) → Left fits whole (xs ++ ys) → AllFit fits xs → Left fits whole ys
 left-more fits whole xs ys l h =
     record { all = λ e. l.all (none_more fits xs ys h e); first = λ s e. l.first s (first_later fits xs ys s h e) }
@@ -92,17 +89,6 @@ pub member_unfit :
     → Left fits whole (literals (drop i xs)) → IsFirstUnfitAt fits (one x) s → IsFirstUnfitAt fits whole s
 member_unfit fits literals one step xs i x whole s h m l e =
     (from-member fits literals one step xs i x whole h m l).first s (first_here fits (one x) (literals (drop (i + 1) xs)) s e)
-
-drop-past : {X : Type 0} (xs : List X) (i : ℕ) → length xs ≤ i → drop i xs ≡ []
-drop-past [] zero h = refl
-drop-past [] (suc i) h = refl
-drop-past (x ∷ xs) zero h = absurd (omega arith)
-drop-past (x ∷ xs) (suc i) h = drop-past xs i (omega arith)
-
-pub all_members_fit :
-    {X : Type 0} (fits : Fraction → Type 0) (literals : List X → List Literal) → literals [] ≡ []
-    → (xs : List X) (i : ℕ) (whole : List Literal) → length xs ≤ i → Left fits whole (literals (drop i xs)) → AllFit fits whole
-all_members_fit fits literals e xs i whole h l = l.all (subst (AllFit fits) (sym (ap literals (drop-past xs i h) ∙ e)) (none fits))
 
 -- the answer of a walk, in the words of lists
 pub answer : {A : Type 0} (fits : Fraction → Type 0) (ls : List Literal) (r : Result A Span) → Tests fits ls r

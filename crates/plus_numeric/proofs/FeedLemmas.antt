@@ -132,15 +132,6 @@ fed_by text lines first old new g f same h s k = record {
   keep_is = k ∙ ap (λ (q : Play). q.keep) (sym same);
 }
 
--- no line is due
-pub fed_none : (old new : Feed) → new.reader ≡ old.reader → new.play ≡ old.play → Feeds [] old new
-fed_none old new r same = record {
-  fed = λ text first h w.
-      fed_by (text ++ []) h.lines first old new
-      (subst (λ (x : Pending). HasGiven Untimed (text ++ []) h.lines x) (sym r) (subst (λ t. HasGiven Untimed t h.lines old.reader) (sym (append-nil text)) h.given))
-      (ap (λ (x : Pending). x.fault) r ∙ h.no_fault) same h.played h.source_is h.keep_is;
-}
-
 -- one is played
 pub fed_line :
     (old new : Feed) (line : Line) → IsNext old.reader line → new.reader ≡ without_line old.reader → Leads (line_tests (domain_in old.play) (problem_in old.play) line old.play.numeric) new.play.numeric

@@ -97,12 +97,6 @@ length-oks (l ∷ ls) = ap suc (length-oks ls)
 lines_count : (text : List ℕ) (lines : List Line) → plan_lines Untimed text ≡ map Ok lines → length (lines_of text) ≡ length lines
 lines_count text lines e = sym (length-numbered 1 (lines_of text)) ∙ ap length e ∙ length-oks lines
 
-within_so : (bytes : List ℕ) (b : Bool) → nat_lt text_limit (length bytes) ≡ b → b ≡ false → length bytes ≤ text_limit
-within_so bytes b e f = grind (arith, common_steps)
-
-over_so : (bytes : List ℕ) → nat_lt text_limit (length bytes) ≡ true → text_limit < length bytes
-over_so bytes e = grind (arith, common_steps)
-
 pub lines_within : (bytes : List ℕ) → nat_lt text_limit (length bytes) ≡ false → text_lines bytes ≡ plan_lines Untimed bytes
 unfolding text_lines
 lines_within bytes e = ap (λ (b : Bool). if b then long_lines (take text_limit bytes) else plan_lines Untimed bytes) e

@@ -16,19 +16,6 @@ pub first_place : (xs : List Schema) (x : Schema) → 1 ≤ length xs → x ≡ 
 first_place [] x l e = absurd (omega arith)
 first_place (y ∷ ys) x l e = (map schema_place ys, ap (λ z. schema_place z ∷ map schema_place ys) (sym e))
 
--- one more without a place
-pub none_more : (xs : List Init) (x : Init) (i : ℕ) → flat_map literal_places (take i xs) ≡ [] → i < length xs → x ≡ get_or xs i x → literal_places x ≡ [] → flat_map literal_places (take (i + 1) xs) ≡ []
-none_more [] x i e l g n = absurd (omega arith)
-none_more (y ∷ ys) x zero e l g n = ap (λ z. literal_places z ++ []) (sym g) ∙ ap (λ ps. ps ++ []) n
-none_more (y ∷ ys) x (suc i) e l g n =
-    let here : literal_places y ≡ [] = left_nil (literal_places y) (flat_map literal_places (take i ys)) e in
-    ap (λ j. flat_map literal_places (take j (y ∷ ys))) (add-one (suc i)) ∙ ap (λ ps. ps ++ flat_map literal_places (take (suc i) ys)) here
-    ∙ ap (λ j. flat_map literal_places (take j ys)) (sym (add-one i)) ∙ none_more ys x i (ap (λ ps. ps ++ flat_map literal_places (take i ys)) (sym here) ∙ e) (omega arith) g n
-  where
-    left_nil : (xs bs : List Place) → xs ++ bs ≡ [] → xs ≡ []
-    left_nil [] bs h = refl
-    left_nil (a ∷ xs) bs h = cc h
-
 -- the first with a place
 pub literal_first : (xs : List Init) (x : Init) (place : Place) (i : ℕ) → flat_map literal_places (take i xs) ≡ [] → i < length xs → x ≡ get_or xs i x → literal_places x ≡ place ∷ [] → (more : List Place) × (flat_map literal_places xs ≡ place ∷ more)
 literal_first [] x place i e l g n = absurd (omega arith)

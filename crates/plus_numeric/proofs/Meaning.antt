@@ -184,12 +184,6 @@ module _ (d : Domain) (p : tree.Problem) where
             (subst AllPass (after_done (call_meant d p call) can.action s after (λ x. asked x lines) can.is can.done.effect) (pass_right Passes own more h)),
       )
 
-  one_state : (a b : Action) (called : Called) (s x y : State) → called ≡ Instance a → called ≡ Instance b → joint a.effects s ≡ Ok x → joint b.effects s ≡ Ok y → x ≡ y
-  one_state a b called s x y e g j k =
-      let same : a ≡ b = cc (e, g) in
-      let again : joint a.effects s ≡ Ok y = ap (λ (c : Action). joint c.effects s) same ∙ k in
-      cc (j, again)
-
   lines_not : (lines : List Line) (s : State) (t : Test) → FirstFailing (asked s lines) t → IsBreach t → Plan s lines → ⊥
   lines_not [] s t h b plan =
       let k = carry_from end_carries (goal_tests (expanded d p).goal s) t h in

@@ -155,12 +155,6 @@ module _ (d : Domain) (p : tree.Problem) (P : Problem) (s : State) (same : P ≡
 
 -- ---- a line without a call
 
-pub quiet_calls : (read : Line) → ((n : ℕ) (call : Call) → read ≡ Step n call → ⊥) → line_calls read ≡ []
-quiet_calls Blank h = refl
-quiet_calls (Act n t call) h = refl
-quiet_calls (End n t) h = refl
-quiet_calls (Step n call) h = absurd (h n call refl)
-
 pub quiet_leads : (d : Domain) (p : tree.Problem) (read : Line) (s : State) → ((n : ℕ) (call : Call) → read ≡ Step n call → ⊥) → Leads (line_tests d p read s) s
 quiet_leads d p Blank s h = leads_nothing s
 quiet_leads d p (Act n t call) s h = leads_nothing s
@@ -175,18 +169,6 @@ module _ (d : Domain) (p : tree.Problem) (read : Line) (n : ℕ) (call : Call) (
   pub line_halts : {T : Type 0} (source : Source) (r : Result T Halt) → IfErr r (HaltsAt source (call_tests d n call.name (call_meant d p call) s)) → IfErr r (HaltsIn source (line_tests d p read s))
   line_halts source (Ok x) h = tt
   line_halts source (Err halt) h = subst (λ (l : Line). HaltsIn source (line_tests d p l s) halt) (sym is) (halts_step source d p n call s halt h)
-
-  pub line_keeps : {T E : Type 0} (r : Result T E) (keep : Bool) (old new : List Call) → OnOk r (new ≡ old ++ (if keep then call ∷ [] else [])) → OnOk r (new ≡ old ++ (if keep then calls_of (read ∷ []) else []))
-  line_keeps (Ok x) keep old new h = subst (λ (l : Line). new ≡ old ++ (if keep then calls_of (l ∷ []) else [])) (sym is) h
-  line_keeps (Err e) keep old new h = tt
-
-quiet_by : (keep : Bool) (calls : List Call) → calls ≡ calls ++ (if keep then [] else [])
-quiet_by true calls = sym (append-nil calls)
-quiet_by false calls = sym (append-nil calls)
-
-pub quiet_keeps : (read : Line) (keep : Bool) (calls : List Call) → ((n : ℕ) (call : Call) → read ≡ Step n call → ⊥) → calls ≡ calls ++ (if keep then calls_of (read ∷ []) else [])
-quiet_keeps read keep calls h =
-    quiet_by keep calls ∙ ap (λ cs. calls ++ (if keep then cs ++ [] else [])) (sym (quiet_calls read h))
 
 pub stays_same : (play : Play) → IsPlay play → Stays play play
 stays_same play h = record { numbering = refl; source_is = refl; keep_is = refl; going = h }

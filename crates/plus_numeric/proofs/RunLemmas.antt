@@ -215,9 +215,6 @@ module _ (n : Numbering) (source : Source) (keep : Bool) (play : Play) (b : IsBe
   pub begun_expands : (P : Problem) → P ≡ expanded d p → P ≡ expanded (domain_in play) (problem_in play)
   begun_expands P e = e ∙ ap (λ x. expanded x p) (sym same_domain) ∙ ap (λ q. expanded (domain_in play) q) (sym same_problem)
 
-  pub begun_fresh : (reader : Pending) → reader ≡ fresh Untimed → IsFresh (record { play = play; reader = reader })
-  begun_fresh reader e = record { reader = e; going = b.going }
-
   accepted_at : beyond_level_two d p ≡ [] → IsGroundable IsFrac64 d p → (text : List ℕ) (now : Play) (calls : List Call) → calls ≡ now.calls.items → IsPlayed (domain_in play) (problem_in play) text play now → IsAccepted d p text keep calls
   accepted_at level groundable text now calls c h =
       subst (λ cs. IsAccepted d p text keep cs) (sym c)

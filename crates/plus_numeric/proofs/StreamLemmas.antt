@@ -74,10 +74,6 @@ module _ (bytes rest left : Option (List ℕ)) (total count : ℕ) (first : Play
     pub text_within : length (come.text ++ part) ≤ text_limit
     text_within = let e = text_size in omega arith
 
-    -- what stands behind it
-    rest_of : List ℕ → List ℕ
-    rest_of behind = drop within (take count piece) ++ behind
-
     front_is : take count piece ≡ part ++ drop within (take count piece)
     front_is = sym (take-append-drop within (take count piece)) ∙ ap (λ z. z ++ drop within (take count piece)) (take-take within count piece w ∙ sym part_is)
 
@@ -152,11 +148,6 @@ module _ (bytes rest : Option (List ℕ)) (total : ℕ) (first : Play) (feed : F
 
   size_so : length come.text ≤ text_limit
   size_so = subst (λ n. n ≤ text_limit) (sym come.size) room
-
-  pub plays_all : (new : Feed) → Ends feed new → IfSome bytes (λ text. IsPlayed (domain_in first) (problem_in first) text first new.play)
-  plays_all new h = whole (λ text. IsPlayed (domain_in first) (problem_in first) text first new.play)
-      (subst (λ d. IsPlayed d (problem_in first) come.text first new.play) (ap (λ q. q.now.typed.now.domain) s.numbering)
-      (subst (λ p. IsPlayed (domain_in feed.play) p come.text first new.play) (ap (λ q. q.now.typed.now.problem) s.numbering) (h.ends come.text first come.fed size_so)))
 
   pub halts_ended : (halt : Halt) → HaltsEnding feed halt → IfSome bytes (λ text. HaltsWith (domain_in first) (problem_in first) text first halt)
   halts_ended halt h = whole (λ text. HaltsWith (domain_in first) (problem_in first) text first halt)

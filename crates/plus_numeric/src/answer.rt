@@ -6,7 +6,7 @@ ghost use Rattle.plus_numeric.specs.Statuses.{kind_status};
 use plus_report::Status;
 
 /// What kind of refusal it is.
-#[derive(Clone, Copy, Debug, PartialEq, Eq)]
+#[derive(Clone, Copy, PartialEq, Eq)]
 pub enum Kind {
     /// The plan breaks a rule.
     Invalid,
@@ -30,14 +30,14 @@ impl Kind {
 }
 
 /// A plan that is refused, and the line that says why.
-#[derive(Debug, Drop)]
+#[derive(Drop)]
 pub struct Refused {
     pub kind: Kind,
     pub line: Vec<u8>,
 }
 
 /// Why no plan is told.
-#[derive(Debug, Drop)]
+#[derive(Drop)]
 pub enum Stop {
     /// The pair or the plan is refused.
     Refused(Refused),

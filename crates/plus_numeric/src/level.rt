@@ -7,7 +7,7 @@ use plus_tree::{Init, Schema, Span};
 use plus_types::{File, Typed};
 
 /// A place in one of the two texts.
-#[derive(Clone, Copy, Debug, PartialEq, Eq)]
+#[derive(Clone, Copy, PartialEq, Eq)]
 pub struct Place {
     pub file: File,
     pub span: Span,

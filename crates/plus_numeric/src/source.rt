@@ -6,7 +6,7 @@ use plus_report::Text;
 use plus_types::File;
 
 /// Where the texts of a pair come from, by which a line names them.
-#[derive(Clone, Copy, Debug, PartialEq, Eq)]
+#[derive(Clone, Copy, PartialEq, Eq)]
 pub enum Source {
     /// They were given: `domain` and `problem`.
     Given,

@@ -26,9 +26,6 @@ pub record Skips (room n : ℕ) (rest : List Item) (total : Read Span) (most : �
   pub no_longer : length rest ≤ most
   pub same : skip turns room n rest ≡ total
 
-pub skip_starts : (room : ℕ) (items : List Item) → Skips room 0 items (skipped room items) (length items)
-skip_starts room items = record { turns = length items; enough = omega arith; no_longer = omega arith; same = refl }
-
 pub skip_stops : (room n : ℕ) (rest : List Item) (total : Read Span) (most : ℕ) (f : TextFault) → Skips room n rest total most → next_of room rest ≡ Err f → total ≡ Err f
 unfolding skip
 skip_stops room n rest total most f g e = at_turns g.turns g.enough g.same

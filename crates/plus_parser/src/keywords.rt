@@ -10,7 +10,7 @@ use crate::phrases::words::is_the;
 use plus_tokens::{Kind, Seen};
 
 /// What a keyword begins in an action, a process or an event.
-#[derive(Clone, Copy, Debug, PartialEq, Eq)]
+#[derive(Clone, Copy, PartialEq, Eq)]
 pub enum KeyWord {
     Parameters,
     Precondition,
@@ -19,7 +19,7 @@ pub enum KeyWord {
 }
 
 /// What a keyword begins in a domain.
-#[derive(Clone, Copy, Debug, PartialEq, Eq)]
+#[derive(Clone, Copy, PartialEq, Eq)]
 pub enum DomainWord {
     Requirements,
     Types,
@@ -33,7 +33,7 @@ pub enum DomainWord {
 }
 
 /// What a keyword begins in a problem.
-#[derive(Clone, Copy, Debug, PartialEq, Eq)]
+#[derive(Clone, Copy, PartialEq, Eq)]
 pub enum ProblemWord {
     Domain,
     Requirements,

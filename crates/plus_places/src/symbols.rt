@@ -3,7 +3,7 @@
 use plus_parser::phrases::words::Allowed;
 
 /// Which sections of a problem were met.
-#[derive(Clone, Copy, Debug, PartialEq, Eq)]
+#[derive(Clone, Copy, PartialEq, Eq)]
 pub struct Met {
     pub domain: bool,
     pub requirements: bool,
@@ -14,7 +14,7 @@ pub struct Met {
 }
 
 /// Which keys of an action, a process or an event were met.
-#[derive(Clone, Copy, Debug, PartialEq, Eq)]
+#[derive(Clone, Copy, PartialEq, Eq)]
 pub struct KeysMet {
     pub parameters: bool,
     pub condition: bool,
@@ -22,7 +22,7 @@ pub struct KeysMet {
 }
 
 /// Which sections of a domain were met.
-#[derive(Clone, Copy, Debug, PartialEq, Eq)]
+#[derive(Clone, Copy, PartialEq, Eq)]
 pub struct DomainMet {
     pub requirements: bool,
     pub types: bool,
@@ -33,7 +33,7 @@ pub struct DomainMet {
 
 /// A part of a text that is still to come. What is called inside comes behind its opening
 /// parenthesis, and goes up to its closing one; so does a list.
-#[derive(Clone, Copy, Debug, PartialEq, Eq)]
+#[derive(Clone, Copy, PartialEq, Eq)]
 pub enum Symbol {
     /// A parenthesis that opens.
     Open,

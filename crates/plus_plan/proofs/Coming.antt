@@ -24,11 +24,6 @@ yes x y e = ap (λ (t : Bool). cond t x y) e
 no : {A : Type 0} {b : Bool} (x y : A) → b ≡ false → cond b x y ≡ y
 no x y e = ap (λ (t : Bool). cond t x y) e
 
-pub refusal_fault : (items : List Item) (e : Refusal) → next_of items ≡ Err e → e ≡ refusal_ahead items
-refusal_fault [] e h = cc
-refusal_fault (bad f ∷ rest) e h = cc
-refusal_fault (tok p ∷ rest) e h = absurd cc
-
 -- ---- what reading makes of it
 
 fails_so : {Y : Type 0} (e : Refusal) (read : Result Y Refusal) → read ≡ Err e → Fails e read
@@ -57,11 +52,6 @@ comes_as : (q : Kind → Bool) (items : List Item) → comes q items ≡ true �
 comes_as q [] e = absurd (false≢true e)
 comes_as q (bad f ∷ rest) e = absurd (false≢true e)
 comes_as q (tok p ∷ rest) e = (p, ap (λ (is : List Item). Ok (p, is)) (sym (yes _ _ e)), e, refl)
-
-pub without_shorter : (q : Kind → Bool) (items : List Item) → comes q items ≡ true → length (without q items) < length items
-without_shorter q [] e = absurd (false≢true e)
-without_shorter q (bad f ∷ rest) e = absurd (false≢true e)
-without_shorter q (tok p ∷ rest) e = let l = ap length (yes rest (tok p ∷ rest) e) in omega (arith, l)
 
 -- a colon
 colon_read : (items : List Item) → comes is_colon items ≡ true → colon_of items ≡ Ok (tt, without is_colon items)
@@ -260,8 +250,3 @@ pub untimed_stopped : (n : ℕ) (items new : List Item) (r : Refusal) → false 
 untimed_stopped n items new r e is done why =
     let same = stays is_open items new (sym e) is in
     stopped items new r (untimed_line n items) same why (untimed_refused n items (sym e) (ap is_done (sym same) ∙ sym done))
-
-pub timed_entry : (n : ℕ) (items rest more : List Item) (p : Piece) (t : Time) → next_or_none items ≡ Ok (Some p, rest) → time_of p rest ≡ Ok (t, more) → timed_line n items ≡ entry_of n t more
-unfolding timed_line
-timed_entry n items rest more p t h k =
-    ap (λ (r : Read (Option Piece)). r >>= λ p. timed_from n p.0 p.1) h ∙ ap (λ (r : Read Time). r >>= λ t. entry_of n t.0 t.1) k

@@ -13,22 +13,12 @@ use Rattle.plus_plan.specs.Grammar.{with_name, args_with, args_of}
 abbrev pub with_front : List (List ℕ) → Read (List (List ℕ)) → Read (List (List ℕ))
 with_front front r = r >>= λ ws. Ok (front ++ ws.0, ws.1)
 
-pub no_front : (r : Read (List (List ℕ))) → with_front [] r ≡ r
-no_front (Ok x) = refl
-no_front (Err e) = refl
-
 pub next_args : (items rest : List Item) (p : Piece) → next_of items ≡ Ok (p, rest) → args_of items ≡ args_with p rest (args_of rest) p.kind
 unfolding args_of
 next_args [] rest p e = absurd cc
 next_args (bad f ∷ is) rest p e = absurd cc
 next_args (tok q ∷ is) rest p e =
     ap (λ (r : Read Piece). r >>= λ x. args_with x.0 x.1 (args_of x.1) x.0.kind) e
-
-pub no_next : (items : List Item) (r : Refusal) → next_of items ≡ Err r → args_of items ≡ Err r
-unfolding args_of
-no_next [] r e = let s : refusals.AtEnd ≡ r = cc in ap Err s
-no_next (bad f ∷ is) r e = let t : refusals.At (byte_place f) ≡ r = cc in ap Err t
-no_next (tok q ∷ is) r e = absurd cc
 
 -- one more name
 pub one_more : (front : List (List ℕ)) (items rest : List Item) (p : Piece) (total : Read (List (List ℕ))) → with_front front (args_of items) ≡ total → next_of items ≡ Ok (p, rest) → p.kind ≡ kinds.Name → with_front (front ++ p.word ∷ []) (args_of rest) ≡ total
@@ -48,17 +38,3 @@ other : (p : Piece) (rest : List Item) (more : Read (List (List ℕ))) (k : Kind
 other p rest more kinds.Name name close = absurd (name refl)
 other p rest more kinds.Close name close = absurd (close refl)
 other p rest more _ name close = refl
-
--- any other token
-pub at_other : (front : List (List ℕ)) (items rest : List Item) (p : Piece) (total : Read (List (List ℕ))) → with_front front (args_of items) ≡ total → next_of items ≡ Ok (p, rest) → (p.kind ≡ kinds.Name → ⊥) → (p.kind ≡ kinds.Close → ⊥) → total ≡ Err (refusals.At p.span)
-at_other front items rest p total h e name close =
-    sym h ∙ ap (with_front front) (next_args items rest p e ∙ other p rest (args_of rest) p.kind name close)
-
-pub at_end : (front : List (List ℕ)) (items : List Item) (r : Refusal) (total : Read (List (List ℕ))) → with_front front (args_of items) ≡ total → next_of items ≡ Err r → total ≡ Err r
-at_end front items r total h e = sym h ∙ ap (with_front front) (no_next items r e)
-
--- a refusal that passes through
-pub fails_along : {X Y : Type 0} (e : Refusal) (r : Result X Refusal) (total : Result Y Refusal) → ((f : Refusal) → r ≡ Err f → total ≡ Err f) → Fails e r → Fails e total
-fails_along (refusals.At s) r total go h = go (refusals.At s) h
-fails_along refusals.AtEnd r total go h = go refusals.AtEnd h
-fails_along refusals.Memory r total go h = tt

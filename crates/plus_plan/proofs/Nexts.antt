@@ -49,14 +49,6 @@ due_some r (ended lt) = omega arith
 due_some r (long lt) = omega arith
 due_some r (last h lt) = lt
 
--- a reader of which a line is due is not idle
-pub due_busy : (r : Pending) → IsDue r → IsIdle r → ⊥
-due_busy r (ended lt) i = omega (arith, i.no_lf)
-due_busy r (long lt) i = omega (arith, i.short)
-due_busy r (last h lt) i =
-    let none : length r.rest ≡ 0 = ap length (i.not_last h) in
-    omega arith
-
 -- ---- the line that is due
 
 -- a line that is too long is refused for it
@@ -189,32 +181,6 @@ is_refused_next r e h due read = record {
 }
 
 -- ---- none is due
-
-quiet : (a b c d : Bool) → (a || (b || (c && d))) ≡ false → (a ≡ false) × (b ≡ false) × ((c ≡ true) → d ≡ false)
-quiet true b c d e = absurd cc
-quiet false true c d e = absurd cc
-quiet false false c d e = (refl, refl, λ h. rw h at e)
-
-nothing : (bytes : List ℕ) → nat_lt 0 (length bytes) ≡ false → bytes ≡ []
-nothing [] e = refl
-nothing (b ∷ bs) e = let none = ltb-false 0 (length (b ∷ bs)) e in absurd (omega arith)
-
--- a reader of which no line is due is idle
-pub idle_of : (r : Pending) → r.fault ≡ None → is_due r ≡ false → IsIdle r
-idle_of r ok e =
-    let q = quiet (has_lf r.rest) (nat_lt line_limit (length r.rest)) r.closed (nat_lt 0 (length r.rest)) e in
-    let beyond : length r.rest ≤ line_end r.rest 0 = ltb-false (line_end r.rest 0) (length r.rest) q.0 in
-    let within : prefix_len goes_on r.rest ≤ length r.rest = prefix_len-le-length goes_on r.rest in
-    record {
-      no_fault = ok;
-      no_lf = omega arith;
-      not_last = λ closed. nothing r.rest (q.2 closed);
-      short = ltb-false line_limit (length r.rest) q.1;
-    }
-
--- of an idle reader no line is too long
-pub idle_short : (r : Pending) → IsIdle r → length (line_from r.rest 0) ≤ line_limit
-idle_short r i = omega (arith, first_size r.rest, prefix_len-le-length goes_on r.rest, i.short)
 
 -- ---- what reading the line that is due gives
 

@@ -207,9 +207,6 @@ timed_with_each n t p kinds.Open =
 timed_with_each n t p kinds.End = inl (map_end end_of (λ e. lines.End n t) end_ends)
 timed_with_each n t p _ = inr (λ later. refl)
 
-end_with : (n : ℕ) (t : Time) (p : Piece) → p.kind ≡ kinds.End → Ends (λ (r : List Item). timed_with n t p.span r kinds.End)
-end_with n t p e = map_end end_of (λ x. lines.End n t) end_ends
-
 timed_from_each : (n : ℕ) (p : Piece) → Ends (timed_from n (Some p)) ⊎ Refuses p (timed_from n (Some p))
 timed_from_each n p =
     ⊎_elim

@@ -35,15 +35,3 @@ numbered form n (l ∷ ls) = read_line form n l ∷ numbered form (n + 1) ls
 -- what the lines of a plan text say, numbered from 1
 abbrev pub plan_lines : PlanForm → List ℕ → List (Result Line PlanFault)
 plan_lines form text = numbered form 1 (lines_of text)
-
--- the lines before the first that is none
-abbrev pub good_lines : List (Result Line PlanFault) → List Line
-good_lines [] = []
-good_lines (Ok l ∷ rest) = l ∷ good_lines rest
-good_lines (Err e ∷ rest) = []
-
--- why the first line that is none is none; none where each is a line
-abbrev pub first_fault : List (Result Line PlanFault) → Option PlanFault
-first_fault [] = None
-first_fault (Ok l ∷ rest) = first_fault rest
-first_fault (Err e ∷ rest) = Some e

@@ -3,7 +3,7 @@
 use plus_tree::{Call, Span};
 
 /// Which lines a plan has.
-#[derive(Clone, Copy, Debug, PartialEq, Eq)]
+#[derive(Clone, Copy, PartialEq, Eq)]
 pub enum PlanForm {
     /// Actions and an end, each with its time: `1.5: (open-valve)`, `10: @end`.
     Timed,
@@ -21,7 +21,7 @@ pub struct Time {
 }
 
 /// What a line says, with its number in the text, where the first line is 1 and blank lines count.
-#[derive(Debug, Drop)]
+#[derive(Drop)]
 pub enum Line {
     /// Nothing but blanks and comments.
     Blank,

@@ -128,7 +128,3 @@ goes_on value fits acted ended tests Does Means (stops.Breach b) g t e = cc e
 goes_on value fits acted ended tests Does Means (stops.Limit l) g t e = cc e
 goes_on value fits acted ended tests Does Means stops.Ended g t e = cc (g, t)
 goes_on value fits acted ended tests Does Means stops.Memory g t e = cc e
-
-pub advance_goes : {Q : Type 0} (value : Q → Fraction) (fits : Fraction → Type 0) (P : Problem) (u : Fraction) (old new : TimelineView) (stop : Stop Q) → CanReach P u old → AdvanceTold value fits P u old new (Err stop) → stop ≢ stops.Ended
-advance_goes value fits P u old new stop c t =
-    goes_on value fits old.now.acted old.ended (advance_tests P old.most old.entries (least old.now.time u P.timed) old.now) (Advances value P u old new) (BreaksOff value P (least old.now.time u P.timed) old.now) stop c.goes.going t

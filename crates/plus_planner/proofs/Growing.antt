@@ -16,10 +16,6 @@ joined xs ys zs = search (rules, common_steps)
 longer : {X : Type 0} (ds ps qs es : List X) → ds ≡ ps ++ qs → ds ++ es ≡ ps ++ (qs ++ es)
 longer ds ps qs es e = rw e (joined ps qs es)
 
-some_more : {X : Type 0} (qs es : List X) → es ≢ [] → qs ++ es ≢ []
-some_more [] es h = h
-some_more (q ∷ qs) es h = λ e. (let f = e in cc)
-
 alive_before : (fits : Fraction → Type 0) (task : Task) (ds es : List ℕ) → IsAlive fits task (ds ++ es) → IsAlive fits task ds
 alive_before fits task ds es a = record {
   each = λ ps qs e. a.each ps (qs ++ es) (longer ds ps qs es e);

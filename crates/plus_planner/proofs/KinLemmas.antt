@@ -284,12 +284,3 @@ keep_spared {Q} count x tried mid spares left spares' e s f P i h k = (
 )
 
 -- ---- a timeline is taken, or spared
-
-pub adds_taken : {Q : Type 0} (t : TimelineView) (d : ℕ) (taken taken' : List (Taken Q)) (spares : List TimelineView) → taken' ≡ taken ++ record { decision = d; timeline = t } ∷ [] → AddsOne t taken spares taken' spares
-adds_taken {Q} t d taken taken' spares e P i h k = (
-  subst (AllByRecursion (λ (x : Taken Q). IsKin P x.timeline)) (sym e) (each_append (λ (x : Taken Q). IsKin P x.timeline) taken (record { decision = d; timeline = t } ∷ []) h (i, tt)),
-  k,
-)
-
-pub adds_spared : {Q : Type 0} (t : TimelineView) (taken : List (Taken Q)) (spares spares' : List TimelineView) → spares' ≡ spares ++ t ∷ [] → AddsOne t taken spares taken spares'
-adds_spared {Q} t taken spares spares' e P i h k = (h, subst (AllByRecursion (IsKin P)) (sym e) (each_append (IsKin P) spares (t ∷ []) k (i, tt)))

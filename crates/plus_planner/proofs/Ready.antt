@@ -49,10 +49,6 @@ asked_cut P L most instance entries v h =
     asked_is P L most instance entries v
     ∙ ap (λ (b : Bool). advance_by P most entries (until P L v) v v.running ++ (if b then line_tests P L instance v (next_line L v) else [])) h
 
-pub not_act : Part → Type 0
-not_act (Act i s) = ⊥
-not_act _ = Unit {0}
-
 pub going : (P : Problem) (L : Plan) (v : View) (o : Option (List ℕ)) (p : Part) → NextBy P L v o p → ((i : ℕ) (s : State) → p ≡ Act i s → ⊥) → is_there P (until P L v) v o ≡ false
 going P L v (Some R) p n a = refl
 going P L v None (Enter t s u) n a = absurd n

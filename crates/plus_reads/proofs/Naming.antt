@@ -17,14 +17,6 @@ pub record Adding (all : Bool) (atoms fluents old_atoms old_fluents : List ℕ) 
   pub of_atoms : atoms ++ atoms_read (joined all rest) ≡ old_atoms ++ atoms_read (joined all whole)
   pub of_fluents : fluents ++ fluents_read (joined all rest) ≡ old_fluents ++ fluents_read (joined all whole)
 
-atoms_pair : (all : Bool) (c d : Condition) → atoms_read (pair all c d) ≡ atoms_read c ++ atoms_read d
-atoms_pair true c d = refl
-atoms_pair false c d = refl
-
-fluents_pair : (all : Bool) (c d : Condition) → fluents_read (pair all c d) ≡ fluents_read c ++ fluents_read d
-fluents_pair true c d = refl
-fluents_pair false c d = refl
-
 atoms_unit : (all : Bool) → atoms_read (unit all) ≡ []
 atoms_unit true = refl
 atoms_unit false = refl
@@ -32,15 +24,6 @@ atoms_unit false = refl
 fluents_unit : (all : Bool) → fluents_read (unit all) ≡ []
 fluents_unit true = refl
 fluents_unit false = refl
-
-pub adding_next : (all : Bool) (atoms fluents new_atoms new_fluents old_atoms old_fluents : List ℕ) (c : Condition) (rest whole : List Condition)
-    → Adding all atoms fluents old_atoms old_fluents (c ∷ rest) whole → new_atoms ≡ atoms ++ atoms_read c → new_fluents ≡ fluents ++ fluents_read c → Adding all new_atoms new_fluents old_atoms old_fluents rest whole
-adding_next all atoms fluents new_atoms new_fluents old_atoms old_fluents c rest whole h e f = record {
-  of_atoms = ap (λ (z : List ℕ). z ++ atoms_read (joined all rest)) e ∙ append_assoc atoms (atoms_read c) (atoms_read (joined all rest))
-      ∙ ap (λ (z : List ℕ). atoms ++ z) (sym (atoms_pair all c (joined all rest))) ∙ h.of_atoms;
-  of_fluents = ap (λ (z : List ℕ). z ++ fluents_read (joined all rest)) f ∙ append_assoc fluents (fluents_read c) (fluents_read (joined all rest))
-      ∙ ap (λ (z : List ℕ). fluents ++ z) (sym (fluents_pair all c (joined all rest))) ∙ h.of_fluents;
-}
 
 pub atoms_end : (all : Bool) (atoms fluents old_atoms old_fluents : List ℕ) (whole : List Condition) (c : Condition) → Adding all atoms fluents old_atoms old_fluents [] whole → joined all whole ≡ c → atoms ≡ old_atoms ++ atoms_read c
 atoms_end all atoms fluents old_atoms old_fluents whole c h e =

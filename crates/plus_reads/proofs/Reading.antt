@@ -46,20 +46,6 @@ pub record Lists (n : ℕ) (cs : List Condition) (atoms fluents : List (List ℕ
   pub atoms_below : (a k : ℕ) → is_in (readers_at atoms a) k ≡ true → k < n
   pub fluents_below : (f k : ℕ) → is_in (readers_at fluents f) k ≡ true → k < n
 
-no_readers : (n a k : ℕ) → is_in (readers_at (replicate n []) a) k ≡ true → ⊥
-no_readers zero a k h = cc
-no_readers (suc n) zero k h = cc
-no_readers (suc n) (suc a) k h = no_readers n a k h
-
-pub lists_none : (cs : List Condition) (atoms fluents : List (List ℕ)) (n m : ℕ) → atoms ≡ replicate n [] → fluents ≡ replicate m [] → Lists 0 cs atoms fluents n m
-lists_none cs atoms fluents n m a f = record {
-  atoms_size = ap length a ∙ length-replicate n [];
-  fluents_size = ap length f ∙ length-replicate m [];
-  covers = λ k c h. absurd (omega arith);
-  atoms_below = λ j k h. absurd (no_readers n j k (subst (λ (t : List (List ℕ)). is_in (readers_at t j) k ≡ true) a h));
-  fluents_below = λ j k h. absurd (no_readers m j k (subst (λ (t : List (List ℕ)). is_in (readers_at t j) k ≡ true) f h));
-}
-
 same_some : (P : Condition → Type 0) (c d : Condition) → Some c ≡ Some d → P c → P d
 same_some P c d e p = let k : c ≡ d = cc in subst P k p
 

@@ -87,14 +87,6 @@ one_added n ps qs t key r v e h =
     subst (λ (u : List (List ℕ)). grouped n qs ≡ set u key (get_or u key [] ++ r ∷ [])) v
     (ap (grouped n) e ∙ grouped_more n ps key r (key_below n ps t key v h))
 
--- counts
-pub counts_none : (n : ℕ) (v : List ℕ) → v ≡ replicate (n + 1) 0 → CountsAre n [] v
-counts_none n v e = subst (CountsAre n []) (sym e) (record {
-  size = length-replicate (n + 1) 0;
-  first = get_or-replicate (n + 1) 0 0 0 (omega arith);
-  each = λ k h. get_or-replicate (n + 1) (k + 1) 0 0 (omega arith);
-})
-
 module _ (n : ℕ) (ps : List (ℕ × ℕ)) (v : List ℕ) (key r : ℕ) (h : key < n) (c : CountsAre n ps v) where
   abbrev new : List ℕ
   new = set v (key + 1) (get_or v (key + 1) 0 + 1)
@@ -147,9 +139,6 @@ summed_more n ps v key sum h s = record {
   counts = λ k l b. get_or-set_other v (key + 1) (k + 1) sum 0 (λ e. omega arith) ∙ s.counts k (omega arith) b;
 }
 
-pub summed_all : (n : ℕ) (ps : List (ℕ × ℕ)) (v : List ℕ) (key sum : ℕ) → n ≤ key → Summed n ps v key sum → StartsAre n ps v
-summed_all n ps v key sum h s = record { size = s.size; first = s.first; each = λ k b. s.starts k (omega arith) }
-
 -- the rows of so many pairs are filled from their starts on
 pub record Filled (n : ℕ) (ps done : List (ℕ × ℕ)) (v readers : List ℕ) : Type 0 where
   pub size : length v ≡ n + 1
@@ -157,15 +146,6 @@ pub record Filled (n : ℕ) (ps done : List (ℕ × ℕ)) (v readers : List ℕ)
   pub room : length readers ≡ length ps
   pub next : (k : ℕ) → k < n → get_or v (k + 1) 0 ≡ start_of ps k + length (readers_in done k)
   pub row : (k : ℕ) → k < n → take (length (readers_in done k)) (drop (start_of ps k) readers) ≡ readers_in done k
-
-pub filled_none : (n : ℕ) (ps : List (ℕ × ℕ)) (v readers : List ℕ) → StartsAre n ps v → length readers ≡ length ps → Filled n ps [] v readers
-filled_none n ps v readers s l = record {
-  size = s.size;
-  first = s.first;
-  room = l;
-  next = λ k h. (let e = s.each k h in omega arith);
-  row = λ k h. refl;
-}
 
 -- one more reader in a row, and one outside it
 row_grows : (xs : List ℕ) (b m x : ℕ) → b + m < length xs → take (m + 1) (drop b (set xs (b + m) x)) ≡ take m (drop b xs) ++ x ∷ []

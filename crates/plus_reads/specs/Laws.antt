@@ -44,8 +44,3 @@ abbrev pub QuietStays : (Fraction → Type 0) → Type 0
 QuietStays fits =
     (cs : List Condition) (t : Readers) (s : State) (ch : Changes) (before after : List ℕ)
     → Covers cs t → Wakes t ch before after → OthersQuiet fits cs s before → OthersQuiet fits cs (patched s ch) after
-
-abbrev pub PassStays : (Fraction → Type 0) → Type 0
-PassStays fits =
-    (cs : List Condition) (t : Readers) (s : State) (ch : Changes) (before after : List ℕ)
-    → Covers cs t → Wakes t ch before after → OthersPass fits cs s before → OthersPass fits cs (patched s ch) after

@@ -71,9 +71,6 @@ module _ (fits : Fraction → Type 0) (atoms fluents : ℕ) (s : State) where
   left_start whole left e h = subst (Left fits atoms fluents s whole) (sym e) (record { fit = h; first = refl; untold = λ w u. u })
 
   module _ (whole m rest : Condition) (l : Left fits atoms fluents s whole (Both m rest)) where
-    pub left_fit : Fits atoms fluents m
-    left_fit = l.fit.0
-
     pub left_next : None ≡ first_failing m s → Left fits atoms fluents s whole rest
     left_next e = record {
       fit = l.fit.1;
@@ -86,6 +83,3 @@ module _ (fits : Fraction → Type 0) (atoms fluents : ℕ) (s : State) where
 
     pub left_untold : (w : Node) → IsUntold fits m s w → IsUntold fits whole s w
     left_untold w u = l.untold w (record { member = u.member; among = Contains-append_left (members m) (members rest) u.member u.among; asks = u.asks })
-
-  pub left_none : (whole : Condition) → Left fits atoms fluents s whole Always → None ≡ first_failing whole s
-  left_none whole l = sym l.first

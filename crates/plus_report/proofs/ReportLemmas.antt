@@ -53,11 +53,6 @@ slice_get_more [] ys k x e = cc
 slice_get_more (w ∷ xs) ys zero x e = e
 slice_get_more (w ∷ xs) ys (suc k) x e = slice_get_more xs ys k x e
 
--- the label of the line that is next
-pub called_label-next : (L : Plan) (k : ℕ) (line : Line) → slice_get L.lines k ≡ Some line
-    → called_label (slice_get L.lines k) ≡ called_label (Some line)
-called_label-next L k line e = ap called_label e
-
 module _ (N : Labels) (P : Problem) (L : Plan) (more : List Line) (closed : Bool) where
   part_text-grown : (v : View) (o : Option (List ℕ)) (part : Part) → NextBy P L v o part
       → part_text N P (grown L more closed) v.state part ≡ part_text N P L v.state part

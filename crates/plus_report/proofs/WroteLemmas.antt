@@ -30,20 +30,9 @@ module _ {O T E F : Type 0} {taken : O → Option (List ℕ)} {faults : O → �
     outcome = (Rose-then _ _ _ p.no_fall q.outcome.0, TookPart-then (taken x) (taken y) (taken z) a b p.outcome q.outcome.1);
   }
 
-  -- a fault, handed on
-  pub wrote_stop : {x y : O} {a : List ℕ} {e : E} {r : Result T F}
-      → Wrote {T = T} {E = E} taken faults x y a (Err e) → IsErr r → Wrote taken faults x y a r
-  wrote_stop {r = Ok s} p h = cc
-  wrote_stop {r = Err d} p h = record { no_fall = p.no_fall; outcome = p.outcome }
-
 module _ {O T E : Type 0} {taken : O → Option (List ℕ)} {faults : O → ℕ} where
   -- a fault in the first of two texts
   pub wrote_early : {x y : O} {a : List ℕ} {r : Result T E} (b : List ℕ)
       → Wrote taken faults x y a r → IsErr r → Wrote taken faults x y (a ++ b) r
   wrote_early {r = Ok s} b p h = cc
   wrote_early {x = x} {y = y} {a = a} {r = Err d} b p h = record { no_fall = p.no_fall; outcome = (p.outcome.0, TookPart-before (taken x) (taken y) a b p.outcome.1) }
-
-  -- the same text in other words
-  pub wrote_worded : {x y : O} {a b : List ℕ} {r : Result T E} → Wrote taken faults x y a r → a ≡ b
-      → Wrote taken faults x y b r
-  wrote_worded {x = x} {y = y} {r = r} p e = subst (λ l. Wrote taken faults x y l r) e p

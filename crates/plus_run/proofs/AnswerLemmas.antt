@@ -143,24 +143,3 @@ memory_answer command bytes old a b c d = record {
   write_fault = λ v. cc v;
   no_memory = λ v. stopped_at_once command bytes old;
 }
-
--- the words are no command
-pub usage_answer : (bytes : List ℕ → Option (List ℕ)) (old new : Option (List ℕ)) (a b c d : ℕ) (r : Status) → Writes usage_line s.Usage old new c d r → IsAnswer None bytes old new a b c d r
-usage_answer bytes old new a b c d r (inl w) = record {
-  valid = λ v. apart r s.Usage s.Valid w.0 v (λ x. cc x);
-  refused = subst (λ x. OnRefusal x (RunsRefused None bytes old new x)) (sym w.0) tt;
-  usage = λ v. refl;
-  no_command = λ n. inl w;
-  read_fault = λ v. apart r s.Usage s.ReadFault w.0 v (λ x. cc x);
-  write_fault = λ v. apart r s.Usage s.WriteFault w.0 v (λ x. cc x);
-  no_memory = λ v. apart r s.Usage s.NoMemory w.0 v (λ x. cc x);
-}
-usage_answer bytes old new a b c d r (inr w) = record {
-  valid = λ v. apart r s.WriteFault s.Valid w.0 v (λ x. cc x);
-  refused = subst (λ x. OnRefusal x (RunsRefused None bytes old new x)) (sym w.0) tt;
-  usage = λ v. refl;
-  no_command = λ n. inr w;
-  read_fault = λ v. apart r s.WriteFault s.ReadFault w.0 v (λ x. cc x);
-  write_fault = λ v. (w.1, w.2);
-  no_memory = λ v. apart r s.WriteFault s.NoMemory w.0 v (λ x. cc x);
-}

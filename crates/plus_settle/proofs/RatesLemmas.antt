@@ -104,9 +104,6 @@ pub record Adding (fits : Fraction → Type 0) (rest whole : List Rate) (s : Sta
   pub pass : AllPass fits (add_rates_steps rest s now) → AllPass fits (add_rates_steps whole s old)
   pub stop : (m : SettleStep) → FirstStop fits (add_rates_steps rest s now) m → FirstStop fits (add_rates_steps whole s old) m
 
-pub adding_start : (fits : Fraction → Type 0) (whole : List Rate) (s : State) (old : List Fraction) → All (RateFits (length s.fluents)) whole → Adding fits whole whole s old old
-adding_start fits whole s old h = record { inside = h; size = refl; so_far = refl; pass = λ a. a; stop = λ m u. u }
-
 module _ (fits : Fraction → Type 0) (r : Rate) (rest whole : List Rate) (s : State) (now old : List Fraction) (h : Adding fits (r ∷ rest) whole s now old) where
   pub adding_inside : RateFits (length s.fluents) r
   adding_inside = All-head (RateFits (length s.fluents)) r rest h.inside

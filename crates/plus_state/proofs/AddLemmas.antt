@@ -41,10 +41,6 @@ chosen_fits atoms fluents false ds h = tt
 pub due_effect_fits : (atoms fluents : ℕ) (e : Effect) (s : State) → WriteFits atoms fluents e.write → DuesFit atoms fluents (due_effect e s)
 due_effect_fits atoms fluents e s h = chosen_fits atoms fluents (holds e.guard s) (due_write e.write s) (due_write_fits atoms fluents e.write s h)
 
-pub dues_fit : (atoms fluents : ℕ) (es : List Effect) (s : State) → AllEffectsFit atoms fluents es → DuesFit atoms fluents (dues es s)
-dues_fit atoms fluents [] s h = tt
-dues_fit atoms fluents (e ∷ es) s h = dues_fit_append atoms fluents _ _ (due_effect_fits atoms fluents e s h.0.1) (dues_fit atoms fluents es s h.1)
-
 pub record Adding (fits : Fraction → Type 0) (now : List Due) (rest : List Effect) (old : List Due) (whole : List Effect) (s : State) : Type 0 where
   pub effects : AllEffectsFit (length s.atoms) (length s.fluents) rest
   pub due : DuesFit (length s.atoms) (length s.fluents) now

@@ -65,9 +65,6 @@ pub record Opening {A B : Type 0} (cs : List (ℕ × A)) (o : Option (ℕ × A))
   pub near : Near o rest
   pub order : Ordered rest
 
-pub opening_start : {A B : Type 0} (rest : List (ℕ × B)) → Ordered rest → Opening {A = A} [] None rest
-opening_start rest h = record { rises = tt; under = refl; near = tt; order = h }
-
 shut_by : {A : Type 0} (cs : List (ℕ × A)) (c : ℕ × A) (k : ℕ) (b : Bool) → nat_eq c.0 k ≡ b → Rises cs → AreIn c.0 cs → c.0 ≤ k → Rises (cs ++ (if b then [] else c ∷ [])) × AreIn k (cs ++ (if b then [] else c ∷ []))
 shut_by cs c k true e r u l = subst (λ xs. Rises xs × AreIn k xs) (sym (append-nil cs)) (r, in_more c.0 k cs l u)
 shut_by cs c k false e r u l =
@@ -145,9 +142,6 @@ pub record Valuing (fits : Fraction → Type 0) (cs : List (ℕ × Option Fracti
   pub fit : AllFit fits (walk rest (patched_list (cs ++ as_list o) vs)) → AllFit fits (walk whole vs)
   pub unfit : (m : Node) → FirstUnfit fits (walk rest (patched_list (cs ++ as_list o) vs)) m → FirstUnfit fits (walk whole vs) m
 
-pub valuing_start : (fits : Fraction → Type 0) (whole : List (ℕ × Update)) (vs : List (Option Fraction)) → Ordered whole → AreIn (length vs) whole → Valuing fits [] None whole whole vs
-valuing_start fits whole vs o h = record { opening = opening_start whole o; left = h; done = tt; so_far = refl; fit = λ a. a; unfit = λ m u. u }
-
 module _ (fits : Fraction → Type 0) (cs : List (ℕ × Option Fraction)) (o : Option (ℕ × Option Fraction)) (p : ℕ × Update) (rest whole : List (ℕ × Update)) (s : State) (x : Option Fraction) where
   abbrev now : List (Option Fraction)
   now = patched_list (cs ++ as_list o) s.fluents
@@ -182,9 +176,6 @@ pub record Lasting (cs : List (ℕ × Bool)) (o : Option (ℕ × Bool)) (rest wh
   pub inside : (n : ℕ) → AreIn n whole → AreIn n rest × AreIn n (cs ++ as_list o)
   pub so_far : (bs : List Bool) → patched_list rest (patched_list (cs ++ as_list o) bs) ≡ patched_list whole bs
 
-pub lasting_start : (whole : List (ℕ × Bool)) → Ordered whole → Lasting [] None whole whole
-lasting_start whole h = record { opening = opening_start whole h; inside = λ n i. (i, tt); so_far = λ bs. refl }
-
 pub lasting_next : (cs new : List (ℕ × Bool)) (o o' : Option (ℕ × Bool)) (p : ℕ × Bool) (rest whole : List (ℕ × Bool)) → Lasting cs o (p ∷ rest) whole → new ≡ cs ++ shut o p.0 → o' ≡ Some p → Lasting new o' rest whole
 lasting_next cs new o o' p rest whole h n g = record {
   opening = opening_next cs new o o' p p.1 rest h.opening n g;
@@ -209,9 +200,6 @@ pub record Rising {A : Type 0} (o : Option (ℕ × A)) (rest whole : List (ℕ �
   pub order : Ordered rest
   pub near : Near o rest
   pub so_far : OverOpen o rest × Rises rest → Rises whole
-
-pub rising_start : {A : Type 0} (whole : List (ℕ × A)) → Ordered whole → Rising None whole whole
-rising_start whole h = record { order = h; near = tt; so_far = λ r. r.1 }
 
 behind_open : {A : Type 0} (o : Option (ℕ × A)) (p : ℕ × A) (rest : List (ℕ × A)) → Near o (p ∷ rest) → is_open o p.0 ≡ false → Over p.0 rest → OverOpen o (p ∷ rest)
 behind_open None p rest n e h = tt

@@ -112,12 +112,3 @@ none_first passes (t ∷ ts) m a h = elim h [ inl n ↦ n.0 a.0 | inr r ↦ none
 
 pub one_test : {T : Type 0} (passes : T → Type 0) → OneTest passes
 one_test passes = record { one = one_first passes; none = none_first passes }
-
--- where it is known of each test whether it passes, all pass or one is the first that fails
-pub all_or_first : {T : Type 0} (passes : T → Type 0) (ts : List T) → ((t : T) → passes t ⊎ (passes t → ⊥)) → AllPass passes ts ⊎ ((m : T) × FirstFailing passes ts m)
-unfolding AllPass FirstFailing
-all_or_first passes [] d = inl tt
-all_or_first passes (t ∷ ts) d = elim (d t) [
-  | inr n ↦ inr (t, inl (n, refl))
-  | inl p ↦ elim (all_or_first passes ts d) [ inl a ↦ inl (p, a) | inr r ↦ inr (r.0, inr (p, r.1)) ]
-]

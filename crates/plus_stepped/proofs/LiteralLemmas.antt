@@ -263,9 +263,6 @@ module _ {X : Type 0} (f : X → Timed) where
   all_here P (y ∷ items) zero x a h e = subst (λ (z : X). P (f z)) (sym e) (All-head P (f y) (map f items) a)
   all_here P (y ∷ items) (suc i) x a h e = all_here P items i x (All-tail P (f y) (map f items) a) (omega arith) e
 
-pub run_none : (t : Fraction) → run_of t [] ≡ 0
-run_none t = refl
-
 pub run_more : (t : Fraction) (l : Timed) (ls : List Timed) → true ≡ is_same l.time t → run_of t (l ∷ ls) ≡ suc (run_of t ls)
 run_more t l ls e = ap (λ (b : Bool). if b then suc (run_of t ls) else 0) (sym e)
 

@@ -18,9 +18,6 @@ pub record Putting (positive : Bool) (rest whole : List Timed) (now old : State)
   pub so_far : put_signed positive rest now.atoms ≡ put_signed positive whole old.atoms
   pub fluents : now.fluents ≡ old.fluents
 
-pub putting_start : (positive : Bool) (whole : List Timed) (s : State) → All (λ (l : Timed). l.atom < length s.atoms) whole → Putting positive whole whole s s
-putting_start positive whole s h = record { inside = h; so_far = refl; fluents = refl }
-
 module _ (positive : Bool) (l : Timed) (rest whole : List Timed) (now old : State) (h : Putting positive (l ∷ rest) whole now old) where
   pub putting_inside : l.atom < length now.atoms
   putting_inside = All-head (λ (l : Timed). l.atom < length now.atoms) l rest h.inside
@@ -38,10 +35,6 @@ module _ (positive : Bool) (l : Timed) (rest whole : List Timed) (now old : Stat
     so_far = ap (λ (b : Bool). put_signed positive rest (if b then set now.atoms l.atom positive else now.atoms)) (sym e) ∙ h.so_far;
     fluents = h.fluents;
   }
-
-pub putting_end : (positive : Bool) (whole : List Timed) (now old : State) → Putting positive [] whole now old → now ≡ record old { atoms = put_signed positive whole old.atoms }
-putting_end positive whole now old h =
-    ap (λ (bs : List Bool). record now { atoms = bs }) h.so_far ∙ ap (λ fs. record { atoms = put_signed positive whole old.atoms; fluents = fs }) h.fluents
 
 pub length-put_signed : (positive : Bool) (ls : List Timed) (bs : List Bool) → length (put_signed positive ls bs) ≡ length bs
 length-put_signed positive [] bs = refl

@@ -228,9 +228,6 @@ pub put_fits : (P : Problem) (t : Fraction) (s now : State) → StateFits P.atom
 put_fits P t s now h e = subst (StateFits P.atoms P.fluents) (sym e) (sized_literals P.atoms P.fluents P t s h)
 
 module _ {Q : Type 0} (v : Q → Fraction) (fits : Fraction → Type 0) (P : Problem) (now : State) where
-  abbrev start : State
-  start = literals P (whole (pos 0)) P.initial
-
   pub begin_refused : {A : Type 0} (Done : A → Type 0) (stop : StepStop Q) → now ≡ literals P (whole (pos 0)) P.initial → Told v fits (cascade_tests P now) (λ last. Rests P [] now last) (CannotRest P now) (let r : Result State (StepStop Q) = Err stop in r)
       → Told v fits (begin_tests P) Done (CannotRest P (literals P (whole (pos 0)) P.initial)) (let r : Result A (StepStop Q) = Err stop in r)
   unfolding begin_tests

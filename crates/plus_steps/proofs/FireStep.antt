@@ -48,11 +48,6 @@ pub effects_are : (P : Problem) (s : State) → effects_of P (firing P s) ≡ fi
 unfolding firing
 effects_are P s = effects_from P s 0 [] P.events refl refl
 
--- ---- the effects of one event, each with the event's condition before its guard
-when_and : {A : Type 0} (b c : Bool) (x d : A) → when (b && c) x d ≡ when b (when c x d) d
-when_and true c x d = refl
-when_and false c x d = refl
-
 module _ (t : State) (e : Event) where
   event_gains : (a : ℕ) (es : List Effect) → gained a (map (fires_with e) es) t ≡ when (holds e.condition t) (gained a es t) false
   unfolding gained
@@ -98,10 +93,6 @@ when_same : {A : Type 0} (b : Bool) (d : A) → when b d d ≡ d
 when_same true d = refl
 when_same false d = refl
 
-when_if : {A B : Type 0} (f : A → B) (b : Bool) (x y : A) (v w : B) → v ≡ f x → w ≡ f y → when b v w ≡ f (if b then x else y)
-when_if f true x y v w h k = h
-when_if f false x y v w h k = k
-
 -- ---- all of them, on the old atoms and fluents
 module _ (n m : ℕ) (s : State) (bs : List Bool) (vs : List (Option Fraction)) (z : StateFits n m s) where
   abbrev t : State
@@ -109,10 +100,6 @@ module _ (n m : ℕ) (s : State) (bs : List Bool) (vs : List (Option Fraction)) 
 
   mark_unseen : (a c : ℕ) → a < n → n ≤ c → (b : Bool) → when b (nat_eq a c) false ≡ false
   mark_unseen a c h k b = ap (λ x. when b x false) (grind (arith, nat_tests)) ∙ when_same b false
-
-  first_or : (b : Bool) (x y w : Bool) → when b x false || y ≡ (if b then x || y else y)
-  first_or true x y w = refl
-  first_or false x y w = refl
 
   fires_gain : (a c : ℕ) (es : List Event) → a < n → n ≤ c → All (EventInside n m) es → gained a (fires_from c es) t ≡ gained a (fired_effects es s) s
   unfolding gained

@@ -73,10 +73,6 @@ same_middle a b c d =
     (same_equal _ _ (sym (append_assoc a c (b ++ d)))))
 
 module _ {X : Type 0} where
-  pub same_flat : (f g : X → List Effect) → ((x : X) → Same (f x) (g x)) → (xs : List X) → Same (flat_map f xs) (flat_map g xs)
-  same_flat f g h [] = same_refl []
-  same_flat f g h (x ∷ xs) = same_append (f x) (g x) (flat_map f xs) (flat_map g xs) (h x) (same_flat f g h xs)
-
   pub flat_both : (f g : X → List Effect) (xs : List X) → Same (flat_map (λ x. f x ++ g x) xs) (flat_map f xs ++ flat_map g xs)
   flat_both f g [] = same_refl []
   flat_both f g (x ∷ xs) =

@@ -216,12 +216,6 @@ written_comm Clash (Becoming y) = refl
 written_comm Clash (Moving y) = refl
 written_comm Clash Clash = refl
 
-clash_right : (v : Written) → both_written v Clash ≡ Clash
-clash_right Stays = refl
-clash_right (Becoming x) = refl
-clash_right (Moving x) = refl
-clash_right Clash = refl
-
 pub written_assoc : (u v w : Written) → both_written u (both_written v w) ≡ both_written (both_written u v) w
 written_assoc Stays v w = refl
 written_assoc Clash v w = refl

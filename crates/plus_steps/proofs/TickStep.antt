@@ -121,9 +121,6 @@ module _ (q : Fraction) (positive : whole (pos 0) <ℚ q) (m n : ℕ) (t : State
   unfolding guard due
   guard_is l g = ap (λ o. stand Same o (Some (l.time /ℚ q -ℚ whole (pos 1)))) clock_is ∙ clock_tells q positive n l.time g
 
-  literal_change : Timed → Change
-  literal_change l = if l.positive then Gains l.atom else Loses l.atom
-
   write_is : (l : Timed) → change_of (literal_write l) t ≡ Ok (if l.positive then Gains l.atom else Loses l.atom)
   write_is l = by l.positive
     where
@@ -182,9 +179,6 @@ when_same true d = refl
 when_same false d = refl
 
 module _ (q : Fraction) (m : ℕ) (t : State) where
-  guard_of : Timed → Condition
-  guard_of l = Compare Same (Fluent m) (Number (l.time /ℚ q -ℚ whole (pos 1))) true
-
   pub literals_fine : (ls : List Timed) → fine (literals_at_steps q m ls) t ≡ true
   unfolding fine
   literals_fine [] = refl

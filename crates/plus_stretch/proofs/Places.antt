@@ -44,9 +44,6 @@ module _ {Q : Type 0} {E : Ghosts Q} (v : Q → Fraction) (g : Ground Q E) where
   pub condition_members : (es : List ℕ) → AreMembers (length g.events.items) es → AreMembers (length (event_conditions (problem_of v g))) es
   condition_members es h = members_as _ _ es (sym (length-map (problem_of v g).events (λ (e : Event). e.condition))) (event_members es h)
 
-  pub process_condition_members : (ps : List ℕ) → AreMembers (length g.processes.items) ps → AreMembers (length (process_conditions (problem_of v g))) ps
-  process_condition_members ps h = members_as _ _ ps (sym (length-map (problem_of v g).processes (λ (p : Process). p.condition))) (members_as _ _ ps (sym (length-map g.processes.items (process_of v))) h)
-
   -- a listed number is a place in the code's list
   pub event_inside : (Here : ℕ → Type 0) (k : ℕ) (rest listed : List ℕ) → Walked Here (length (problem_of v g).events) (k ∷ rest) listed → k < length g.events.items
   event_inside Here k rest listed w =

@@ -19,8 +19,3 @@ abbrev pub of_roots : {Q : Type 0} → Owner → RootsStop Q → Halt Q
 of_roots owner (roots.Condition (cond.Number o)) = Limit (Number o)
 of_roots owner (roots.Condition (cond.Nonlinear k)) = Limit (Nonlinear owner k)
 of_roots owner roots.Memory = Memory
-
--- the roots of a list of conditions stand behind those that were there before
-abbrev pub Collects : {Q A B : Type 0} → (Q → Fraction) → (Fraction → Type 0) → (ℕ → Whose) → (A → Condition) → List A → State → List Fraction → List Q → List Q → Result B (Halt Q) → Type 0
-Collects value fits whose condition xs s rs old new answer =
-    Told value fits (root_tests_in whose condition 0 xs s rs) (λ _. map value new ≡ map value old ++ roots_in condition xs s rs) Never answer

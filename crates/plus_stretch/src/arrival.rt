@@ -8,7 +8,7 @@ use plus_state::states::State;
 use std::alloc::Global;
 
 /// Why time passes no further along a running set.
-#[derive(Clone, Copy, PartialEq, Eq, Debug)]
+#[derive(Clone, Copy, PartialEq, Eq)]
 pub enum End {
     /// An event holds.
     EventHolds,

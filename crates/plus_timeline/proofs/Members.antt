@@ -65,9 +65,6 @@ inside_list [] k Q h = elim h [ ]
 inside_list (x ∷ xs) zero Q h = omega arith
 inside_list (x ∷ xs) (suc k) Q h = let i = inside_list xs k Q h in omega arith
 
-or_here : (b : Bool) → true || b ≡ true
-or_here b = refl
-
 or_there : (x b : Bool) → b ≡ true → x || b ≡ true
 or_there true b e = refl
 or_there false b e = e

@@ -105,9 +105,6 @@ module _ {Q : Type 0} (value : Q → Fraction) (fits : Fraction → Type 0) (P :
   pub round_is : (r : DueRound Q) → length set ≡ length P.events → RoundChanges value fits P set v.state (Ok (Some r)) → IsRound P v.fired v.state (event_numbers r.events.items) (patched v.state r.changes)
   round_is r n h = (rounds_go_on P set v.fired v.state _ _ n is h.1).0
 
-  pub set_grows : (r : DueRound Q) → length set ≡ length P.events → RoundChanges value fits P set v.state (Ok (Some r)) → IsSetOf (with_fired set (event_numbers r.events.items)) (v.fired ++ event_numbers r.events.items)
-  set_grows r n h = (rounds_go_on P set v.fired v.state _ _ n is h.1).1
-
   module _ (most entries : ℕ) (u : Fraction) (moment : v.running ≡ None) where
     pub round_passes : (r : DueRound Q) → RoundChanges value fits P set v.state (Ok (Some r)) → AllPass fits (advance_tests P most entries u v)
     round_passes r h =

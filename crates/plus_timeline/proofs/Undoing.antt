@@ -23,10 +23,6 @@ off_right : {A : Type 0} (k : ℕ) (xs ys : List (ℕ × A)) → Off k (xs ++ ys
 off_right k [] ys h = h
 off_right k (x ∷ xs) ys h = off_right k xs ys h.1
 
-off_recalled : {A : Type 0} (k : ℕ) (at : ℕ → A) (cs : List (ℕ × A)) → Off k (recalled_list at cs) → Off k cs
-off_recalled k at [] h = tt
-off_recalled k at (c ∷ cs) h = (h.0, off_recalled k at cs h.1)
-
 pub length-undone : {A : Type 0} (cs : List (ℕ × A)) (xs : List A) → length (undone_list cs xs) ≡ length xs
 length-undone [] xs = refl
 length-undone (c ∷ cs) xs = length-set (undone_list cs xs) c.0 c.1 ∙ length-undone cs xs
@@ -100,12 +96,3 @@ module _ {A : Type 0} (to : List A) (d : A) (at : ℕ → A) (is : (k : ℕ) →
 pub record Recalling {A : Type 0} (n : ℕ) (at : ℕ → A) (rest whole now start : List (ℕ × A)) : Type 0 where
   pub inside : AreIn n rest
   pub so_far : now ++ recalled_list at rest ≡ start ++ recalled_list at whole
-
-pub recalling_next : {A : Type 0} (n : ℕ) (at : ℕ → A) (c : ℕ × A) (rest whole now new start : List (ℕ × A)) → Recalling n at (c ∷ rest) whole now start → new ≡ now ++ (c.0, at c.0) ∷ [] → Recalling n at rest whole new start
-recalling_next n at c rest whole now new start h e = record {
-  inside = h.inside.1;
-  so_far = ap (λ xs. xs ++ recalled_list at rest) e ∙ append_assoc now ((c.0, at c.0) ∷ []) (recalled_list at rest) ∙ h.so_far;
-}
-
-pub recalling_end : {A : Type 0} (n : ℕ) (at : ℕ → A) (whole now start : List (ℕ × A)) → Recalling n at [] whole now start → now ≡ start ++ recalled_list at whole
-recalling_end n at whole now start h = sym (append-nil now) ∙ h.so_far

@@ -63,29 +63,7 @@ point_none negative whole b fraction fails = at (((b == 46) && nat_lt 0 (length 
       (λ s f few. fails s f (record { point = eqb-true b 46 first.0; some = ltb-true 0 (length fraction) first.1; digits = both.1; few = few }))
   at false h = refl
 
-behind_none : (negative : Bool) (whole rest : List ℕ) → (0 < length whole → length whole ≤ 19 → ⊥) → numeral_behind negative whole rest ≡ None
-behind_none negative whole [] fails = with_none negative whole [] (λ s f few. fails s f)
-behind_none negative whole (b ∷ fraction) fails = point_none negative whole b fraction (λ s f is. fails s f)
-
--- no digits, or too many
-pub whole_none : (negative : Bool) (w : List ℕ) (first last : ℕ) → last ≡ end_of is_digit w first → (0 < last - first → last - first ≤ 19 → ⊥) → unsigned negative (drop first w) ≡ None
-whole_none negative w first last e fails =
-    let long : length (take (prefix_len is_digit (drop first w)) (drop first w)) ≡ prefix_len is_digit (drop first w) = length-prefix_len is_digit (drop first w) in
-    behind_none negative (take (prefix_len is_digit (drop first w)) (drop first w)) (drop (prefix_len is_digit (drop first w)) (drop first w))
-    (λ some few. fails (omega (arith, e, long, some)) (omega (arith, e, long, few)))
-
 -- ---- a number with no point
-
-pub whole_only : (negative : Bool) (w : List ℕ) (first last : ℕ) → last ≡ end_of is_digit w first → last ≡ length w → 0 < last - first → last - first ≤ 19
-    → unsigned negative (drop first w) ≡ Some (numeral negative (decimal 0 (take (last - first) (drop first w))) 0)
-whole_only negative w first last e all some few =
-    let n : prefix_len is_digit (drop first w) ≡ last - first = omega (arith, e) in
-    let none : drop (last - first) (drop first w) ≡ [] = drop_of_length-le (drop first w) (omega (arith, all, length-drop first w)) in
-    let whole : List ℕ = take (last - first) (drop first w) in
-    let long : length (take (last - first) (drop first w)) ≡ last - first = ap (λ k. length (take k (drop first w))) (sym n) ∙ length-prefix_len is_digit (drop first w) ∙ n in
-    rw (n, none)
-    (with_few negative (take (last - first) (drop first w)) [] (omega (arith, long, some)) (omega (arith, long, few)) (omega arith)
-    ∙ ap (λ l. Some (numeral negative (decimal 0 l) 0)) (append-nil (take (last - first) (drop first w))))
 
 -- ---- a number with a point
 

@@ -8,7 +8,7 @@ ghost use Rattle.plus_tokens.specs.Numeral.{numeral_of, unsigned};
 use crate::lexer::{MOST_PLACES, WHOLE_DIGITS, byte_at, digits_end};
 
 /// The number `digits / 10^places`, with a minus sign where it is negative.
-#[derive(Clone, Copy, Debug, PartialEq, Eq)]
+#[derive(Clone, Copy, PartialEq, Eq)]
 pub struct Numeral {
     pub negative: bool,
     pub digits: u128,

@@ -17,7 +17,7 @@ use crate::token::{Kind, LexFault, Token};
 use std::marker::Model;
 
 /// A token with its bytes.
-#[derive(Clone, Copy, Debug)]
+#[derive(Clone, Copy)]
 pub struct Seen<'a> {
     pub kind: Kind,
     pub word: &'a [u8],

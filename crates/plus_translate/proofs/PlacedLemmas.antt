@@ -43,9 +43,6 @@ forall_done ls r pushed names e e' old new push is same put =
     ∙ ap (λ x. old ++ map (under (lists_of ls ++ names ∷ [])) (leaves_of x)) same
     ∙ ap (λ ps. old ++ ps) (sym (one_inside (lists_of ls) names (leaves_of e)))
 
-pub outermost : (vs : List TypedName) (ps : List Placed) → map (under (vs ∷ [])) ps ≡ map (inside vs) ps
-outermost vs ps = refl
-
 -- ---- member by member
 
 pub record PutSoFar (lists : List (List TypedName)) (items : List Effect) (i : ℕ) (old now : List Placed) : Type 0 where

@@ -105,9 +105,6 @@ module _ (d : Context) (c c' : Context) (w : Contexts d c c') (pre post : List S
   abbrev i : ℕ
   i = 1 + length pre
 
-  abbrev a' : Schema
-  a' = renamed_event (1 + length pre) a
-
   abbrev start : ℕ
   start = length (ground_names c' c.predicates) + instances_before c' pre
 

@@ -223,10 +223,6 @@ module _ (d : Domain) (p : tree.Problem) (q : Fraction) (g : Given d p q) where
   lookup : (name : List ℕ) → find name d1.actions ≡ or_else (find name d.actions) old_schema (find name both_new)
   lookup name = found old_schema (λ a. refl) name d.actions both_new
 
-  not_instance : (o : Option Environment) (name : List ℕ) (s : Schema) (a : Action) → o ≡ None → called_in c' name s o ≡ Instance a → ⊥
-  not_instance None name s a e h = cc
-  not_instance (Some x) name s a e h = cc
-
   -- of an old action
   old_instead : (name : List ℕ) (args : List (List ℕ)) (s : Schema) → SchemaTyped (domain_context d) false s → (o : Option Environment) → bound_by c s.params args [] ≡ o → (a : Action) → called_in c' name (old_schema s) o ≡ Instance a
       → Instead (old_called P (called_in c name s o)) a
@@ -276,9 +272,6 @@ module _ (d : Domain) (p : tree.Problem) (q : Fraction) (g : Given d p q) where
   pub to_part : (call : CallName) (a : Action) → called' call ≡ Instance a → Instead (part_meant P q called (part_of call)) a
   to_part call a h = by (bytes_eq call.0 step_name) refl (bytes_eq call.0 fire_name) refl
     where
-      chosen : Bool → Bool → Part CallName
-      chosen s f = if s then Step else (if f then Fire else Old call)
-
       by : (s : Bool) → bytes_eq call.0 step_name ≡ s → (f : Bool) → bytes_eq call.0 fire_name ≡ f → Instead (part_meant P q called (part_of call)) a
       by true s f g =
           subst (λ b. Instead (part_meant P q called (if b then Step else (if bytes_eq call.0 fire_name then Fire else Old call))) a) (sym s)
@@ -291,10 +284,6 @@ module _ (d : Domain) (p : tree.Problem) (q : Fraction) (g : Given d p q) where
           subst (λ b. Instead (part_meant P q called (if b then Step else (if bytes_eq call.0 fire_name then Fire else Old call))) a) (sym s)
           (subst (λ b. Instead (part_meant P q called (if b then Fire else Old call)) a) (sym f)
           (old_called_is call.0 call.1 (find call.0 d.actions) refl (none_joins call.0 s f) a h))
-
-  -- and a part as a call
-  abbrev same_of : Action → Action → Type 0
-  same_of a b = SameAction a b
 
   old_back : (name : List ℕ) (args : List (List ℕ)) (o : Option Schema) → find name d.actions ≡ o → (a0 : Action) → called_by c name args o ≡ Instance a0 → Instead (called' (name, args)) (old_action P a0)
   old_back name args None e a0 h = cc

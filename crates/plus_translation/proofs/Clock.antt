@@ -53,9 +53,6 @@ abbrev pub AllOnGrid : Fraction → List Init → Type 0
 AllOnGrid q [] = Unit {0}
 AllOnGrid q (i ∷ more) = OnGrid q i × AllOnGrid q more
 
-clock_head : Head
-clock_head = record { name = spelled (codes "pp-clock"); params = []; span = nowhere }
-
 nowhere_named : (name : List ℕ) (xs : List (List ℕ)) → list_any (bytes_eq name) xs ≡ false → position_or_len (bytes_eq name) xs ≡ length xs
 nowhere_named name [] e = refl
 nowhere_named name (x ∷ xs) e = by (bytes_eq name x) e (nowhere_named name xs)

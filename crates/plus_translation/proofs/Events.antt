@@ -55,9 +55,6 @@ module _ (d c c' : Context) (w : Contexts d c c') (all : List Schema)
   marks_at pre a more e = marks ∙ ap (λ x. c.predicates ++ mark_heads 1 x) e
 
   module _ (pre : List Schema) (a : Schema) (more : List Schema) (e : Rest pre (a ∷ more)) (typed : SchemaTyped d false a) where
-    abbrev a' : Schema
-    a' = renamed_event (1 + length pre) a
-
     abbrev here : ℕ
     here = base + instances_before c' pre
 

@@ -154,13 +154,6 @@ pub map_self : (ts : List (List ℕ)) → map (λ t. [] ++ t) ts ≡ ts
 map_self [] = refl
 map_self (t ∷ ts) = ap (λ xs. t ∷ xs) (map_self ts)
 
--- the environment of each choice of objects has the next place
-pub environments_indexed : (c : Context) (vs : List TypedName) → Indexed (λ env. position_or_len (bytes_eq (objects env)) (tuples (extents_of c vs))) 0 (environments c vs [])
-environments_indexed c vs =
-    indexed_map objects (λ t. position_or_len (bytes_eq t) (tuples (extents_of c vs))) 0 (environments c vs []) (tuples (extents_of c vs))
-    (environments_objects c vs [] ∙ map_self (tuples (extents_of c vs)))
-    (placed_indexed [] (tuples (extents_of c vs)) (tuples (extents_of c vs)) (tuples_placed (extents_of c vs) (extents_apart c vs)) refl)
-
 -- ---- the objects of the variables of a mark
 pub all_both : {X : Type 0} (P Q : X → Type 0) (xs : List X) → All P xs → All Q xs → All (λ x. P x × Q x) xs
 all_both P Q xs a b = λ k d h. (a k d h, b k d h)

@@ -102,10 +102,6 @@ pub flat_flat : {X Y Z : Type 0} (g : Y → List Z) (h : X → List Y) (xs : Lis
 flat_flat g h [] = refl
 flat_flat g h (x ∷ xs) = flat_map-append g (h x) (flat_map h xs) ∙ ap (λ ys. flat_map g (h x) ++ ys) (flat_flat g h xs)
 
-flat_same : {X Y : Type 0} (f g : X → List Y) (xs : List X) → ((x : X) → f x ≡ g x) → flat_map f xs ≡ flat_map g xs
-flat_same f g [] h = refl
-flat_same f g (x ∷ xs) h = ap₂ (λ a b. a ++ b) (h x) (flat_same f g xs h)
-
 pub all-members : (os : List ℕ) → All (λ o. list_any (nat_eq o) os ≡ true) os
 all-members os = λ k d h. list_any_at (nat_eq _) os k d h (eq-eqb _ _ refl)
 

@@ -109,10 +109,6 @@ opposite_map : {X : Type 0} (all : Bool) (t : State) (f g : X → Condition) (xs
 opposite_map all t f g [] h = opposite_none all t
 opposite_map all t f g (x ∷ xs) h = opposite_more all t (f x) (g x) (map f xs) (map g xs) (h x) (opposite_map all t f g xs h)
 
-not_not : (b : Bool) → b ≡ not (not b)
-not_not true = refl
-not_not false = refl
-
 mutual
   pub negation : (c : Context) (t : State) (f : Cond) (env : Environment) (positive : Bool) → holds (condition_meant c env (not positive) f) t ≡ not (holds (condition_meant c env positive f) t)
   negation c t (c_all fs s) env positive = opposite_joined positive t _ _ (negations c t fs env positive positive)

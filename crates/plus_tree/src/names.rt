@@ -11,7 +11,7 @@ use std::marker::Model;
 
 /// A name in small letters, of which up to 16 bytes need no memory of their own. Contracts see it as the
 /// list of its bytes.
-#[derive(Debug, Drop)]
+#[derive(Drop)]
 pub struct Name {
     bytes: SmallVec<u8, 16>,
 }
@@ -77,7 +77,7 @@ fn short_name(alloc: Global, word: &[u8]) -> Name
 }
 
 /// A name where it stands in a text.
-#[derive(Debug, Drop)]
+#[derive(Drop)]
 pub struct Spelled {
     pub name: Name,
     pub span: Span,

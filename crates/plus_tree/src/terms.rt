@@ -7,7 +7,7 @@ use std::alloc::Global;
 use std::default::MadeWith;
 
 /// An argument: an object, or a variable without its question mark.
-#[derive(Debug, Drop)]
+#[derive(Drop)]
 pub enum Term {
     Object(Spelled),
     Variable(Spelled),
@@ -22,14 +22,14 @@ impl MadeWith<Global> for Term {
 
 /// A name with its type: a variable without its question mark, an object or a type. A type that is
 /// not written is `object`, and stands from 0 to 0.
-#[derive(Debug, Drop)]
+#[derive(Drop)]
 pub struct TypedName {
     pub name: Spelled,
     pub kind: Spelled,
 }
 
 /// A predicate or a function that is used, as `(at ?x home)`.
-#[derive(Debug, Drop)]
+#[derive(Drop)]
 pub struct Use {
     pub head: Spelled,
     pub args: Args,
@@ -38,7 +38,7 @@ pub struct Use {
 
 /// The number `digits / 10^places`, with a minus sign where it is negative. No 0 stands at the end
 /// of the places, and 0 is not negative.
-#[derive(Clone, Copy, Debug, PartialEq, Eq)]
+#[derive(Clone, Copy, PartialEq, Eq)]
 pub struct Literal {
     pub digits: u128,
     pub span: Span,
@@ -47,7 +47,7 @@ pub struct Literal {
 }
 
 /// The sign of a comparison.
-#[derive(Clone, Copy, Debug, PartialEq, Eq)]
+#[derive(Clone, Copy, PartialEq, Eq)]
 pub enum Comparison {
     /// `<`
     Less,

@@ -9,7 +9,7 @@ use std::marker::Model;
 
 /// An expression. Contracts see it as an `Expr`.
 #[cycle(expr)]
-#[derive(Debug, Drop)]
+#[derive(Drop)]
 pub struct ExprTree {
     pub node: ExprNode,
     pub span: Span,
@@ -17,7 +17,7 @@ pub struct ExprTree {
 
 /// What an expression is worth.
 #[cycle(expr)]
-#[derive(Debug, Drop)]
+#[derive(Drop)]
 pub enum ExprNode {
     /// This number. Its place is that of the expression.
     Number(Literal),
@@ -58,7 +58,7 @@ impl Model for ExprTree {
 
 /// A condition. Contracts see it as a `Cond`.
 #[cycle(cond)]
-#[derive(Debug, Drop)]
+#[derive(Drop)]
 pub struct CondTree {
     pub node: CondNode,
     pub span: Span,
@@ -66,7 +66,7 @@ pub struct CondTree {
 
 /// What a condition asks.
 #[cycle(cond)]
-#[derive(Debug, Drop)]
+#[derive(Drop)]
 pub enum CondNode {
     /// Each of these holds: `(and ..)`. With no member it always holds.
     All(Vec<CondTree>),
@@ -108,14 +108,14 @@ impl Model for CondTree {
 }
 
 /// One write of an effect.
-#[derive(Debug, Drop)]
+#[derive(Drop)]
 pub struct Leaf {
     pub node: LeafNode,
     pub span: Span,
 }
 
 /// What is written.
-#[derive(Debug, Drop)]
+#[derive(Drop)]
 pub enum LeafNode {
     /// The atom becomes true. Its place is that of the leaf.
     Add(Use),
@@ -135,7 +135,7 @@ pub enum LeafNode {
 
 /// An effect. Contracts see it as an `Effect`.
 #[cycle(effect)]
-#[derive(Debug, Drop)]
+#[derive(Drop)]
 pub struct EffectTree {
     pub node: EffectNode,
     pub span: Span,
@@ -143,7 +143,7 @@ pub struct EffectTree {
 
 /// What an effect does.
 #[cycle(effect)]
-#[derive(Debug, Drop)]
+#[derive(Drop)]
 pub enum EffectNode {
     /// Each of these: `(and ..)`. With no member it does nothing.
     All(Vec<EffectTree>),
@@ -175,7 +175,7 @@ impl Model for EffectTree {
 }
 
 /// A predicate or a function that is declared.
-#[derive(Debug, Drop)]
+#[derive(Drop)]
 pub struct Head {
     pub name: Spelled,
     pub params: Members<TypedName>,
@@ -184,7 +184,7 @@ pub struct Head {
 
 /// An action, a process or an event. A condition or an effect that is not written has no members,
 /// and the place 0 to 0.
-#[derive(Debug, Drop)]
+#[derive(Drop)]
 pub struct Schema {
     pub name: Spelled,
     pub params: Members<TypedName>,
@@ -194,7 +194,7 @@ pub struct Schema {
 }
 
 /// A domain. A requirement is kept without its colon.
-#[derive(Debug, Drop)]
+#[derive(Drop)]
 pub struct Domain {
     pub name: Spelled,
     pub requirements: Members<Spelled>,
@@ -210,7 +210,7 @@ pub struct Domain {
 }
 
 /// A member of `:init`.
-#[derive(Debug, Drop)]
+#[derive(Drop)]
 pub enum Init {
     /// An atom that is true at first.
     Holds(Use),
@@ -227,7 +227,7 @@ pub enum Init {
 }
 
 /// A problem.
-#[derive(Debug, Drop)]
+#[derive(Drop)]
 pub struct Problem {
     pub name: Spelled,
     /// The name of the domain that the problem is for.
@@ -240,7 +240,7 @@ pub struct Problem {
 }
 
 /// An action with its arguments, as a plan names it.
-#[derive(Debug, Drop)]
+#[derive(Drop)]
 pub struct Call {
     pub name: Name,
     pub args: NameArgs,

@@ -28,19 +28,6 @@ none-after t (suc n) [] e = refl
 none-after t zero (x ∷ xs) e = e
 none-after t (suc n) (x ∷ xs) e = none-after t n xs (or-rest (t x) (list_any t xs) e)
 
--- one more at the end leaves the first n, and is after them
-pub take-more : {X : Type 0} (n : ℕ) (xs ys : List X) → n ≤ length xs → take n (xs ++ ys) ≡ take n xs
-take-more zero [] ys h = refl
-take-more (suc n) [] ys h = absurd (omega arith)
-take-more zero (x ∷ xs) ys h = refl
-take-more (suc n) (x ∷ xs) ys h = ap (λ zs. x ∷ zs) (take-more n xs ys (omega arith))
-
-pub drop-more : {X : Type 0} (n : ℕ) (xs ys : List X) → n ≤ length xs → drop n (xs ++ ys) ≡ drop n xs ++ ys
-drop-more zero [] ys h = refl
-drop-more (suc n) [] ys h = absurd (omega arith)
-drop-more zero (x ∷ xs) ys h = refl
-drop-more (suc n) (x ∷ xs) ys h = drop-more n xs ys (omega arith)
-
 -- what a list still has to be walked for, once the first n names of the table are bound around it
 abbrev pub list_left : List Binding → File → ℕ → List Binding → List TypedName → List TypeFault
 list_left types file n table xs = list_faults types file (take n (bound_names table)) (drop n (bound_names table)) xs
@@ -65,7 +52,3 @@ pub drop-names : (bs : List Binding) → drop (length bs) (bound_names bs) ≡ [
 drop-names bs = ap (λ n. drop n (bound_names bs)) (sym (length-names bs)) ∙ drop-all (bound_names bs)
 
 pub ruleset all_around = (take-names, drop-names)
-
--- the first of a longer list, and one more of a list that is walked
-pub take-here : {X : Type 0} (xs ys : List X) → take (length xs) (xs ++ ys) ≡ xs
-take-here xs ys = take-more (length xs) xs ys (omega arith) ∙ take-all xs

@@ -28,16 +28,6 @@ first_later (x ∷ xs) ys e n h = cc
 
 pub ruleset walking = (none_more, first_here, first_later)
 
--- a member of a list has a fault, and those before it have none
-pub member_err :
-    {X : Type 0} (all : List X → List TypeFault) (one : X → List TypeFault)
-    → ((x : X) (xs : List X) → all (x ∷ xs) ≡ one x ++ all xs)
-    → (xs : List X) (i : ℕ) (x : X) (e : TypeFault) → i < length xs → x ≡ get_or xs i x → all xs ≡ all (drop i xs)
-    → IsFirstFault (one x) e → IsFirstFault (all xs) e
-member_err all one step xs i x e h m w f =
-    let d : drop i xs ≡ x ∷ drop (suc i) xs = drop-cons xs i x h ∙ ap (λ y. y ∷ drop (suc i) xs) (sym m) in
-    rw w (rw d (rw (step x (drop (suc i) xs)) (first_here _ _ e f)))
-
 -- the same, where a walk carries more than the list
 pub walk_err :
     {X : Type 0} (whole : List TypeFault) (all : List X → List TypeFault) (one : X → List TypeFault) (rest : X → List X → List TypeFault)

@@ -62,7 +62,3 @@ is_under types low high = bytes_eq high low || is_above types high low
 -- the objects of a pair: the constants, then the objects
 abbrev pub objects_of : Domain → Problem → List TypedName
 objects_of d p = d.constants ++ p.objects
-
--- those of these objects that are of a type, in order: their type is it, or is under it
-abbrev pub objects_under : List Binding → List TypedName → List ℕ → List TypedName
-objects_under types objects k = filter (λ o. is_under types o.kind.name k) objects

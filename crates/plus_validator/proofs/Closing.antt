@@ -31,18 +31,6 @@ use Rattle.plus_validator.specs.Asking.{IsClear, NoneFails}
 use Rattle.plus_validator.proofs.Asking.{goal_passes}
 use Rattle.plus_timeline.specs.Asked.{goal_tests}
 
--- at a moment a time that is not below the present one may be reached
-pub can_reach : (P : Problem) (u : Fraction) (t : IndexedView) → CanGoOn P t → t.line.now.running ≡ None → IsAhead None t.line.now.time u → CanReach P u t
-can_reach P u t c m a = record {
-  goes = c;
-  ahead = subst (λ (o : Option (List ℕ)). IsAhead o t.line.now.time u) (sym m) a;
-  room = subst (λ (o : Option (List ℕ)). HasRoom o t.line.entries t.line.most) (sym m) tt;
-}
-
--- the present time may be reached
-pub can_reach_now : (P : Problem) (now : Fraction) (t : IndexedView) → CanGoOn P t → t.line.now.running ≡ None → now ≡ t.line.now.time → CanReach P now t
-can_reach_now P now t c m e = can_reach P now t c m (subst (λ x. t.line.now.time ≤ℚ x) (sym e) (≤ℚ_refl t.line.now.time))
-
 -- before the first entry nothing is told
 abbrev pub nothing : Account
 nothing = record { report = []; entries = 0; firings = 0 }

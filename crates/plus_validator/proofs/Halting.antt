@@ -143,11 +143,6 @@ finish_halts P v (stops.Limit l) halt e f = by_stop P (stops.Limit l) halt e (li
 finish_halts P v stops.Ended halt e f = by_stop P stops.Ended halt e tt
 finish_halts P v stops.Memory halt e f = by_stop P stops.Memory halt e tt
 
-pub line_halts : (P : Problem) (fault : PlanFault) (halt : Halt) → halt ≡ line_halt fault → HaltFits P halt
-line_halts P (faults.NotLine n start last) halt e = record { names = subst (NamesOf P) (sym e) tt }
-line_halts P (faults.LineTooLong n) halt e = record { names = subst (NamesOf P) (sym e) tt }
-line_halts P faults.Memory halt e = record { names = subst (NamesOf P) (sym e) tt }
-
 -- the error that `?` hands on
 pub from_err : {T E : Type 0} (r : Result T E) (G Q : E → Type 0) → IsErrAnd r G → ((e : E) → G e → Q e) → IfErr r Q
 from_err (Ok x) G Q h f = tt

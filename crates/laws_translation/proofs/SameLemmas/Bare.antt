@@ -10,10 +10,6 @@ use Rattle.plus_types.specs.Types.{bindings_of}
 use Rattle.plus_types.specs.Faults.{Context, params_of, term_name, ground_name}
 use Rattle.plus_canonical.specs.Same.{bare_typed, bare_term, bare_use, bare_head}
 
--- the context of bare trees
-pub bare_context : Context → Context
-bare_context c = record { types = c.types; objects = c.objects; predicates = map bare_head c.predicates; functions = map bare_head c.functions; file = c.file }
-
 pub map_map : {X Y Z : Type 0} (f : Y → Z) (g : X → Y) (h : X → Z) → ((x : X) → f (g x) ≡ h x) → (xs : List X) → map f (map g xs) ≡ map h xs
 map_map f g h e [] = refl
 map_map f g h e (x ∷ xs) = ap₂ (λ y ys. y ∷ ys) (e x) (map_map f g h e xs)

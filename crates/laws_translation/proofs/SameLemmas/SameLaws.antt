@@ -55,9 +55,6 @@ ground_bare d p =
 
 -- ---- calls
 
-later : {X : Type 0} (y : X) (ys : List X) (k : ℕ) → slice_get (y ∷ ys) (1 + k) ≡ slice_get ys k
-later y ys k = let e : 1 + k ≡ suc k = omega arith in ap (slice_get (y ∷ ys)) e
-
 abbrev bare_found : Option Schema → Option Schema
 bare_found None = None
 bare_found (Some a) = Some (bare_schema a)

@@ -155,10 +155,6 @@ among_both (y ∷ xs) ys x e f = by (bytes_eq x y) e (among_both xs ys x)
     by true e more = absurd cc
     by false e more = more e f
 
-names_bound : (vs : List TypedName) → bound_names (bindings_of vs) ≡ names_of vs
-names_bound [] = refl
-names_bound (v ∷ vs) = ap (λ xs. v.name.name ∷ xs) (names_bound vs)
-
 bound_append : (vs ws : List Binding) → bound_names (vs ++ ws) ≡ bound_names vs ++ bound_names ws
 bound_append [] ws = refl
 bound_append (v ∷ vs) ws = ap (λ xs. v.0 ∷ xs) (bound_append vs ws)

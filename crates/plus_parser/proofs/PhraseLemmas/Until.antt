@@ -28,9 +28,6 @@ module _ {S : Type 0} (step : Step S) (room : ℕ) where
   nothing_left [] le = refl
   nothing_left (i ∷ is) le = absurd (omega arith)
 
-  pub starts : (s : S) (items : List Item) → Stays s items (until_close step room (length items) s items) (length items)
-  starts s items = record { turns = length items; enough = omega arith; no_longer = omega arith; same = refl }
-
   pub stops : (s : S) (rest : List Item) (total : Read (S × Span)) (most : ℕ) (f : TextFault) → Stays s rest total most → next_of room rest ≡ Err f → total ≡ Err f
   unfolding until_close
   stops s rest total most f g e = at_turns g.turns g.enough g.same

@@ -11,7 +11,7 @@ use plus_tokens::{Kind, Op, Seen};
 use plus_tree::Comparison;
 
 /// What stands behind an opening parenthesis of a condition or an effect.
-#[derive(Clone, Copy, Debug, PartialEq, Eq)]
+#[derive(Clone, Copy, PartialEq, Eq)]
 pub enum HeadWord {
     /// The closing parenthesis.
     Nothing,
@@ -33,7 +33,7 @@ pub enum HeadWord {
 }
 
 /// What a change does to a number.
-#[derive(Clone, Copy, Debug, PartialEq, Eq)]
+#[derive(Clone, Copy, PartialEq, Eq)]
 pub enum Change {
     Assign,
     Increase,
@@ -43,7 +43,7 @@ pub enum Change {
 }
 
 /// What stands behind an opening parenthesis of an expression.
-#[derive(Clone, Copy, Debug, PartialEq, Eq)]
+#[derive(Clone, Copy, PartialEq, Eq)]
 pub enum ExprWord {
     Sum,
     Product,
@@ -56,7 +56,7 @@ pub enum ExprWord {
 }
 
 /// Which terms may stand at a place.
-#[derive(Clone, Copy, Debug, PartialEq, Eq)]
+#[derive(Clone, Copy, PartialEq, Eq)]
 pub enum Allowed {
     /// Names and variables.
     Terms,

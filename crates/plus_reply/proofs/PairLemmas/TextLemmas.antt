@@ -35,12 +35,6 @@ pair_at_hand domain problem (Early e) h = h
 pair_at_hand domain problem ReadFault h = never_rose h
 pair_at_hand domain problem NoMemory h = tt
 
-pub domain_long : (text : List ℕ) → 1048576 < length text → NotDomain text (Early (TooLong texts.Domain))
-domain_long text l = long_domain l refl
-
-pub problem_long : (text : List ℕ) → 1048576 < length text → NotProblem text (Early (TooLong texts.Problem))
-problem_long text l = long_problem l refl
-
 pub domain_not :
     (text : List ℕ) (fault : TextFault) (r : Refusal) → length text ≤ 1048576 → Refuses DomainTokens 64 text fault
     → r ≡ text_refusal texts.Domain (length text) fault → NotDomain text r

@@ -18,17 +18,9 @@ have_pair : (all : Bool) (n : ℕ) (c d : Condition) → HaveRates n (pair all c
 have_pair true n c d h = h
 have_pair false n c d h = h
 
-simple_pair : (all : Bool) (c d : Condition) (rs : List Fraction) → is_simple (pair all c d) rs ≡ is_simple c rs && is_simple d rs
-simple_pair true c d rs = refl
-simple_pair false c d rs = refl
-
 simple_unit : (all : Bool) (rs : List Fraction) → is_simple (unit all) rs ≡ true
 simple_unit true rs = refl
 simple_unit false rs = refl
-
-and_assoc : (x y z : Bool) → (x && y) && z ≡ x && (y && z)
-and_assoc true y z = refl
-and_assoc false y z = refl
 
 and_true : (x : Bool) → x && true ≡ x
 and_true true = refl
@@ -45,13 +37,6 @@ asking_start all rs n whole c e h = record { inside = subst (HaveRates n) (sym e
 module _ (all simple : Bool) (rs : List Fraction) (n : ℕ) (c : Condition) (rest whole : List Condition) (h : Asking all simple rs n (c ∷ rest) whole) where
   pub asking_inside : HaveRates n c
   asking_inside = (have_pair all n c (joined all rest) h.inside).0
-
-  pub asking_next : (b new : Bool) → b ≡ is_simple c rs → new ≡ simple && b → Asking all new rs n rest whole
-  asking_next b new e d = record {
-    inside = (have_pair all n c (joined all rest) h.inside).1;
-    so_far = ap (λ (x : Bool). x && is_simple (joined all rest) rs) (d ∙ ap (λ (x : Bool). simple && x) e)
-        ∙ and_assoc simple (is_simple c rs) (is_simple (joined all rest) rs) ∙ ap (λ (x : Bool). simple && x) (sym (simple_pair all c (joined all rest) rs)) ∙ h.so_far;
-  }
 
 pub asking_end : (all simple : Bool) (rs : List Fraction) (n : ℕ) (whole : List Condition) (c : Condition) → joined all whole ≡ c → Asking all simple rs n [] whole → simple ≡ is_simple c rs
 asking_end all simple rs n whole c e h =

@@ -45,7 +45,7 @@ fn to_effect(text: &mut Vec<u8>, action: &Schema) -> Result<(), AllocError>
 }
 
 /// The text of an old action, without what all old actions share.
-#[derive(Debug, Drop)]
+#[derive(Drop)]
 pub struct OldText {
     /// To where it is said that no event holds.
     pub condition: Vec<u8>,

@@ -85,7 +85,7 @@ fn last_text(alloc: Global, count: usize, effect: &EffectTree) -> Result<Vec<u8>
 }
 
 /// The texts that all old actions share.
-#[derive(Debug, Drop)]
+#[derive(Drop)]
 pub struct Shared {
     /// That no event holds.
     pub none: Vec<u8>,

@@ -43,7 +43,7 @@ fn put_olds<O: Sink>(
 }
 
 /// The text of one half of a translation: what all old actions share is held once.
-#[derive(Debug, Drop)]
+#[derive(Drop)]
 pub struct HalfText {
     opening: Vec<u8>,
     shared: Shared,

@@ -18,9 +18,6 @@ four = Fluent 1
 abbrev pub unknown : Expression
 unknown = Fluent 2
 
-abbrev pub number_of : Fraction → Expression
-number_of x = Number x
-
 pub record ValueRows : Type 0 where
   pub number : value (Number (over (pos 1) 3)) some_values ≡ Some (over (pos 1) 3)
   pub fluent : value six some_values ≡ Some (whole (pos 6))

@@ -12,24 +12,24 @@ returns-in-Ok-clause-answers g c =
     let same = ap (λ f. f c.args.files.plan.now) c.in-Ok.ensures.keeps.same_bytes in
     record {
       valid = λ v. valid_run _ _ _ _ _ c.in-Ok.typed.domain c.in-Ok.typed.problem _ _ _ _ same c.in-Ok.ensures.read c.in-Ok.typed.well_typed
-          c.validate-outcome.ensures.valid c.of.ensures v;
+          c.validate-outcome.ensures.valid c.status.ensures v;
       refused = plan_refused _ _ _ _ _ c.in-Ok.typed.domain c.in-Ok.typed.problem _ _ _ _ same c.in-Ok.ensures.read c.in-Ok.typed.well_typed
-          c.validate-outcome.ensures.refused c.of.ensures;
-      usage = λ v. absurd (no_usage c.validate-outcome.result c.of.result c.of.ensures v);
+          c.validate-outcome.ensures.refused c.status.ensures;
+      usage = λ v. absurd (no_usage c.validate-outcome.result c.status.result c.status.ensures v);
       no_command = λ n. some_none _ n;
       read_fault = λ v.
-          let h = c.validate-outcome.ensures.read_fault (only_read c.validate-outcome.result (sym c.of.ensures ∙ v)) in (
+          let h = c.validate-outcome.ensures.read_fault (only_read c.validate-outcome.result (sym c.status.ensures ∙ v)) in (
             rose_before _ _ _ c.in-Ok.ensures.keeps.no_fall h.0,
             plan_unread _ _ _ _ _ _ _ c.in-Ok.typed.domain c.in-Ok.typed.problem _ _ same c.in-Ok.ensures.read c.in-Ok.typed.well_typed h.1,
           );
       write_fault = λ v. (
-        (c.validate-outcome.ensures.write_fault (only_broken c.validate-outcome.result (sym c.of.ensures ∙ v))).0,
+        (c.validate-outcome.ensures.write_fault (only_broken c.validate-outcome.result (sym c.status.ensures ∙ v))).0,
         plan_broken _ _ _ _ _ c.in-Ok.typed.domain c.in-Ok.typed.problem _ _ _ _ _ _ same c.in-Ok.ensures.read c.in-Ok.typed.well_typed
-            c.validate-outcome.ensures.write_fault c.of.ensures v,
+            c.validate-outcome.ensures.write_fault c.status.ensures v,
       );
       no_memory = λ v.
           plan_stopped _ _ _ _ _ c.in-Ok.typed.domain c.in-Ok.typed.problem _ _ same c.in-Ok.ensures.read c.in-Ok.typed.well_typed
-          (c.validate-outcome.ensures.no_memory (only_memory c.validate-outcome.result (sym c.of.ensures ∙ v)));
+          (c.validate-outcome.ensures.no_memory (only_memory c.validate-outcome.result (sym c.status.ensures ∙ v)));
     }
 
 pub returns-in-Err-Early-clause-answers : goal.returns-in-Err-Early-clause-answers
@@ -62,7 +62,7 @@ pub returns-in-Ok-clause-stops : goal.returns-in-Ok-clause-stops
 returns-in-Ok-clause-stops g c = λ v.
     plan_stops _ _ _ _ _ _ _ _ _ _ _ _ _ c.in-Ok.typed.domain c.in-Ok.typed.problem c.in-Ok.ensures.both c.in-Ok.ensures.read c.in-Ok.typed.well_typed
     c.validate-outcome.ensures.reads (ap (λ f. f c.args.files.plan.now) c.in-Ok.ensures.keeps.same_bytes)
-    (c.validate-outcome.ensures.read_fault (only_read c.validate-outcome.result (sym c.of.ensures ∙ v))).1
+    (c.validate-outcome.ensures.read_fault (only_read c.validate-outcome.result (sym c.status.ensures ∙ v))).1
 
 pub returns-in-Err-Early-clause-stops : goal.returns-in-Err-Early-clause-stops
 returns-in-Err-Early-clause-stops g c =

@@ -9,7 +9,7 @@ returns c =
     plan_judged c.args.typed.now.domain c.args.typed.now.problem
     (plan_text (acts_of fraction_of c.args.plan.now.acts.items) (fraction_of c.args.plan.now.«end»))
     c.bytes.result.now c.in_ok-text.text.items c.extend_from_slice.new.self.items c.deref.result.now c.in_ok-judged.judged c.outcome.result
-    (record { status = c.of.result; text = c.extend_from_slice-2.new.self })
+    (record { status = c.status.result; text = c.extend_from_slice-2.new.self })
     (c.bytes.ensures ∙ c.in_ok-lines.ensures) c.in_ok-judged.ensures.judged
     (c.in_ok-text.ensures.items ∙ c.bytes-2.ensures ∙ c.in_ok-lines.ensures) c.in_ok-extend_from_slice.ensures.items
-    c.deref.ensures.value c.in_ok-extend_from_slice-2.ensures.items c.outcome.ensures c.of.ensures
+    c.deref.ensures.value c.in_ok-extend_from_slice-2.ensures.items c.outcome.ensures c.status.ensures
