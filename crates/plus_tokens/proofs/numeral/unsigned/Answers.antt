@@ -24,7 +24,7 @@ returns-clause-is c =
     (omega (arith, c.if-whole_end-word.false, c.digits_end-whole_end.ensures.inside)) c.digits_end-end.ensures.end
     (omega (arith, c.if-whole_end-first.false, c.digits_end-whole_end.ensures.end)) (omega (arith, c.if-whole_end-first-gt-WHOLE_DIGITS.false))
     (omega (arith, c.if-word-whole_end-ne46.false)) (omega (arith, c.if-end-word.false, c.digits_end-end.ensures.inside))
-    (omega (arith, c.if-places-eq0.false)) (omega (arith, c.if-places-gt-PLACES.false))
+    (omega (arith, c.if-places-eq0.false)) (omega (arith, c.if-places.false))
     ∙ ap (λ d. Some (numeral c.args.negative d (c.digits_end-end.result - (c.digits_end-whole_end.result + 1))))
     (ap (λ l. decimal (decimal 0 (take (c.digits_end-whole_end.result - c.args.first) (drop c.args.first c.args.word.now))) l) (sym (left_all c.args.word.now (c.digits_end-whole_end.result + 1)))
     ∙ ap (λ n. decimal n (take (length c.args.word.now - (c.digits_end-whole_end.result + 1)) (drop (c.digits_end-whole_end.result + 1) c.args.word.now))) (sym c.decimal-whole.ensures.value)
