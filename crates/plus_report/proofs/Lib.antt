@@ -3,6 +3,5 @@ pub mod RowsHold
 pub mod PutsLemmas
 pub mod TextLemmas
 pub mod LineLemmas
-pub mod WroteLemmas
 pub mod ListedLemmas
 pub mod ChangedLemmas

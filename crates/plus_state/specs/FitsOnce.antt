@@ -14,7 +14,7 @@ IsIn-prop n (Difference a b) = ×_prop (IsIn-prop n a) (IsIn-prop n b)
 IsIn-prop n (Product a b) = ×_prop (IsIn-prop n a) (IsIn-prop n b)
 IsIn-prop n (Quotient a b) = ×_prop (IsIn-prop n a) (IsIn-prop n b)
 
-Fits-prop : (atoms fluents : ℕ) (c : Condition) → IsProp (Fits atoms fluents c)
+pub Fits-prop : (atoms fluents : ℕ) (c : Condition) → IsProp (Fits atoms fluents c)
 Fits-prop atoms fluents Always = Unit-prop
 Fits-prop atoms fluents Never = Unit-prop
 Fits-prop atoms fluents (Both c d) = ×_prop (Fits-prop atoms fluents c) (Fits-prop atoms fluents d)
@@ -31,7 +31,7 @@ WriteFits-prop atoms fluents (Decrease f e) = hlevel (props, IsIn-prop)
 WriteFits-prop atoms fluents (ScaleUp f e) = hlevel (props, IsIn-prop)
 WriteFits-prop atoms fluents (ScaleDown f e) = hlevel (props, IsIn-prop)
 
-AllEffectsFit-prop : (atoms fluents : ℕ) (es : List Effect) → IsProp (AllEffectsFit atoms fluents es)
+pub AllEffectsFit-prop : (atoms fluents : ℕ) (es : List Effect) → IsProp (AllEffectsFit atoms fluents es)
 AllEffectsFit-prop atoms fluents [] = Unit-prop
 AllEffectsFit-prop atoms fluents (e ∷ es) =
     ×_prop (×_prop (Fits-prop atoms fluents e.guard) (WriteFits-prop atoms fluents e.write)) (AllEffectsFit-prop atoms fluents es)

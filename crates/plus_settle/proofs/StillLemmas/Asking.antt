@@ -34,10 +34,6 @@ pub record Asking (all simple : Bool) (rs : List Fraction) (n : ℕ) (rest whole
 pub asking_start : (all : Bool) (rs : List Fraction) (n : ℕ) (whole : List Condition) (c : Condition) → joined all whole ≡ c → HaveRates n c → Asking all true rs n whole whole
 asking_start all rs n whole c e h = record { inside = subst (HaveRates n) (sym e) h; so_far = refl }
 
-module _ (all simple : Bool) (rs : List Fraction) (n : ℕ) (c : Condition) (rest whole : List Condition) (h : Asking all simple rs n (c ∷ rest) whole) where
-  pub asking_inside : HaveRates n c
-  asking_inside = (have_pair all n c (joined all rest) h.inside).0
-
 pub asking_end : (all simple : Bool) (rs : List Fraction) (n : ℕ) (whole : List Condition) (c : Condition) → joined all whole ≡ c → Asking all simple rs n [] whole → simple ≡ is_simple c rs
 asking_end all simple rs n whole c e h =
     sym (and_true simple) ∙ ap (λ (x : Bool). simple && x) (sym (simple_unit all rs)) ∙ h.so_far ∙ ap (λ (d : Condition). is_simple d rs) e
