@@ -1,3 +1,4 @@
+-- What the claim of `run` stands on.
 pub mod Objects
 pub mod Numbers
 pub mod Counts
@@ -7,5 +8,6 @@ pub mod Calls
 pub mod Nodes
 pub mod Literals
 pub mod Counting
-pub mod Laws
 pub mod Unfit
+-- Inner words.
+pub mod Laws

@@ -1,2 +1,3 @@
+-- What the claim of `run` stands on.
 pub mod Lifts
 pub mod Command

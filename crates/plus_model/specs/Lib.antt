@@ -1,3 +1,4 @@
+-- What the claim of `run` stands on.
 pub mod Terms
 pub mod Value
 pub mod Joint
@@ -10,4 +11,5 @@ pub mod Breach
 pub mod Laws
 pub mod Piece
 pub mod Live
+-- Inner words.
 pub mod Codes

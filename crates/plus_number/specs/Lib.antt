@@ -1,6 +1,8 @@
+-- What the claim of `run` stands on.
+pub mod Frac
+-- Inner words.
 pub mod Exact
 pub mod Size
-pub mod Frac
 pub mod Parts
 pub mod FracLaws
 pub mod Ticks

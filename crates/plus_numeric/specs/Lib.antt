@@ -1,3 +1,4 @@
+-- What the claim of `run` stands on.
 pub mod Level
 pub mod Cut
 pub mod Calls
@@ -5,9 +6,10 @@ pub mod Tests
 pub mod Asked
 pub mod Verdicts
 pub mod Answers
+pub mod Statuses
+-- Inner words.
 pub mod Playing
 pub mod Telling
 pub mod Streaming
 pub mod Refusing
 pub mod Laws
-pub mod Statuses

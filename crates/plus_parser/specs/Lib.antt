@@ -1,4 +1,5 @@
 pub use Rattle.plus_tokens.specs.Items
+-- What the claim of `run` stands on.
 pub mod Keywords
 pub mod Balanced
 pub mod ReadingDomain

@@ -1,2 +1,4 @@
-pub mod Table
+-- What the claim of `run` stands on.
 pub mod Place
+-- Inner words.
+pub mod Table

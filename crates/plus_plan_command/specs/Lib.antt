@@ -1,3 +1,5 @@
+-- What the claim of `run` stands on.
 pub mod Plan
-pub mod Laws
 pub mod Planning
+-- Inner words.
+pub mod Laws

@@ -1,10 +1,12 @@
+-- What the claim of `run` stands on.
 pub mod Grid
-pub mod Laws
 pub mod Standing
-pub mod Kin
 pub mod Places
+pub mod Listing
+pub mod Searches
+-- Inner words.
+pub mod Laws
+pub mod Kin
 pub mod Tried
 pub mod Once
 pub mod Worlds
-pub mod Listing
-pub mod Searches

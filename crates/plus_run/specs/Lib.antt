@@ -1,7 +1,9 @@
+-- What the claim of `run` stands on.
 pub mod Command
-pub mod Meant
 pub mod Shown
 pub mod Numeric
 pub mod Headline
 pub mod Stopping
 pub mod Laws
+-- Inner words.
+pub mod Meant

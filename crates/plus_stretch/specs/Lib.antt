@@ -1,6 +1,8 @@
+-- What the claim of `run` stands on.
 pub mod Tests
 pub mod Crossings
 pub mod StretchTests
+-- Inner words.
 pub mod Laws
 pub mod Told
 pub mod After

@@ -1,3 +1,4 @@
+-- What the claim of `run` stands on.
 pub mod Farm
 pub mod Summary
 pub mod Trial

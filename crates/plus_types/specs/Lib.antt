@@ -1,5 +1,7 @@
+-- What the claim of `run` stands on.
 pub mod Types
-pub mod Listed
 pub mod Faults
+-- Inner words.
+pub mod Listed
 pub mod Known
 pub mod Ranks

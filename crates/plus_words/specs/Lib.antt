@@ -1,3 +1,4 @@
+-- What the claim of `run` stands on.
 pub mod Numbers
 pub mod Happenings
 pub mod Tanks

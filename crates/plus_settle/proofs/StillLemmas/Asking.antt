@@ -14,10 +14,6 @@ fits_have atoms n (Either c d) h = (fits_have atoms n c h.0, fits_have atoms n d
 fits_have atoms n (Atom a positive) h = tt
 fits_have atoms n (Compare test left right positive) h = h
 
-have_pair : (all : Bool) (n : ℕ) (c d : Condition) → HaveRates n (pair all c d) → HaveRates n c × HaveRates n d
-have_pair true n c d h = h
-have_pair false n c d h = h
-
 simple_unit : (all : Bool) (rs : List Fraction) → is_simple (unit all) rs ≡ true
 simple_unit true rs = refl
 simple_unit false rs = refl
