@@ -55,9 +55,9 @@ def model_of(crate, parts):
 
 
 def contract_of(file, function):
-    """The text from a function's name to its body."""
+    """The text of a file, and its part from a function's name to its body, which may be empty."""
     text = text_of(file)
-    found = re.search(rf"(?ms)^[ \t]*(?:pub )?fn {function}\b.*?^[ \t]*{{$", text)
+    found = re.search(rf"(?ms)^[ \t]*(?:pub )?fn {function}\b.*?^[ \t]*{{}}?$", text)
     if not found:
         sys.exit(f"{file} has no function {function} with a body that begins on a line of its own")
     return text, found[0]
