@@ -6,7 +6,6 @@ pub mod Tests
 pub mod Asked
 pub mod Verdicts
 pub mod Answers
-pub mod Statuses
 -- Inner words.
 pub mod Playing
 pub mod Telling

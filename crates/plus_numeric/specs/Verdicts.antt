@@ -32,6 +32,8 @@ use Rattle.plus_numeric.specs.declared.source.Source.TheVariants.{Given, Transla
 use Rattle.plus_numeric.specs.declared.answer.Kind as answers
 use Rattle.plus_numeric.specs.declared.answer.Kind.TheVariants as kind
 use Rattle.plus_numeric.specs.Tests.{Test, beyond, count, literal, no_line, too_long, unknown_action, wrong_arguments, in_line, at_end}
+use Rattle.plus_report.specs.declared.status.Status.{Status}
+use Rattle.plus_report.specs.declared.status.Status.TheVariants as s
 
 -- how a line names one of the two texts
 abbrev pub text_in : Source → File → Text
@@ -100,3 +102,9 @@ kind_of Valid = kind.Beyond
 kind_of (Invalid breach) = kind.Invalid
 kind_of (Beyond limit) = kind.Beyond
 kind_of (Other early) = early_kind early
+
+-- the status of a plan without time that is refused
+abbrev pub kind_status : answers.Kind → Status
+kind_status kind.Invalid = s.Invalid
+kind_status kind.Beyond = s.Beyond
+kind_status kind.BadText = s.BadText

@@ -1,7 +1,7 @@
 //! What is answered on a plan that is none.
 
 ghost use Rattle.std.specs.Prelude.{◌≡◌};
-ghost use Rattle.plus_numeric.specs.Statuses.{kind_status};
+ghost use Rattle.plus_numeric.specs.Verdicts.{kind_status};
 
 use plus_report::Status;
 

@@ -20,7 +20,7 @@ use Rattle.plus_reply.specs.Pair.Reads.{ReadsPair}
 use Rattle.plus_reply.proofs.PairLemmas.SpelledLemmas.{well_spelled}
 use Rattle.plus_run.specs.Headline.{OnRefusal, RunsRefused, RunsBroken, IsAnswer}
 use Rattle.plus_reply.specs.Statuses.{early_status, Writes}
-use Rattle.plus_numeric.specs.Statuses.{kind_status}
+use Rattle.plus_numeric.specs.Verdicts.{kind_status}
 use Rattle.plus_run.specs.Numeric.{valid_line, IsNumeric, IsNotNumeric, no_pair, no_plan, RunsNumeric, RefusesNumeric, BreaksNumeric, in_valid, in_refusal}
 use Rattle.plus_run.proofs.RunLemmas.{on_refusal, early_plain}
 use Rattle.plus_run.proofs.AnswerLemmas.{by_fault}

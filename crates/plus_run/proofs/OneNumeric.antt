@@ -15,7 +15,7 @@ use Rattle.plus_reply.specs.Pair.Pair.{PairRefused, SpellsWellTyped}
 use Rattle.plus_run.specs.Numeric.{valid_line, IsNumeric, IsNotNumeric, no_pair, no_plan, RunsNumeric, RefusesNumeric}
 use Rattle.plus_run.specs.Headline.{OnRefusal}
 use Rattle.plus_reply.specs.Statuses.{early_status}
-use Rattle.plus_numeric.specs.Statuses.{kind_status}
+use Rattle.plus_numeric.specs.Verdicts.{kind_status}
 use Rattle.plus_run.specs.Laws.{IsSettled}
 use Rattle.plus_reply.proofs.PairLemmas.OnePair.{pair_once, pair_refused_once, pair_or_not}
 use Rattle.plus_reply.specs.Reply.{Same}

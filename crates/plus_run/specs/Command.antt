@@ -5,9 +5,7 @@ use Rattle.plus_fraction.specs.Fraction.{Fraction}
 use Rattle.plus_types.specs.declared.faults.File.{File}
 use Rattle.plus_types.specs.declared.faults.File.TheVariants as files
 use Rattle.plus_words.specs.Interval.{interval_of}
-use Rattle.plus_words.specs.Decisions.{decisions_of}
-use Rattle.plus_words.specs.Happenings.{default_happenings, happenings_of}
-use Rattle.plus_words.specs.Tanks.{tanks_of}
+use Rattle.plus_words.specs.Numbers.{decisions_of, default_happenings, happenings_of, tanks_of}
 
 -- `check D P L`: the files of the domain, the problem and the plan, and how many moments the plan may enter;
 -- `show domain D` and `show problem P`: the file; `numeric D P L`: the files of the domain, the problem and the plan;

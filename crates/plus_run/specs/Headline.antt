@@ -18,7 +18,7 @@ use Rattle.plus_reply.specs.Pair.Pair.{depth_limit, PairRefused, DomainRefused, 
 pub use Rattle.plus_reply.specs.Pair.Pair.{SpellsWellTyped}
 use Rattle.plus_reply.specs.Statuses.{early_status, Writes}
 pub use Rattle.plus_report.specs.Statuses.{exit_number}
-pub use Rattle.plus_validator.specs.Statuses.{status_of}
+pub use Rattle.plus_validator.specs.Outcomes.{status_of}
 use Rattle.plus_reply.specs.Reply.{Replied, RepliedInPart}
 use Rattle.plus_trial.specs.Trial.{IsTrial}
 use Rattle.plus_translate_command.specs.Translate.{Translates}

@@ -11,7 +11,7 @@ use Rattle.plus_numeric.specs.Answers.{IsAccepted, IsRefused}
 use Rattle.plus_report.specs.declared.status.Status.{Status}
 use Rattle.plus_reply.specs.Pair.Pair.{PairRefused, SpellsWellTyped}
 use Rattle.plus_reply.specs.Statuses.{early_status}
-use Rattle.plus_numeric.specs.Statuses.{kind_status}
+use Rattle.plus_numeric.specs.Verdicts.{kind_status}
 
 abbrev pub valid_line : List ℕ
 valid_line = codes "valid\n"

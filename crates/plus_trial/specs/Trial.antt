@@ -7,18 +7,17 @@ use Rattle.plus_report.specs.Refusals.{early_text}
 use Rattle.plus_validator.specs.declared.judge.Judged.{Judged}
 use Rattle.plus_validator.specs.declared.judge.Outcome.{Outcome}
 use Rattle.plus_validator.specs.declared.judge.Outcome.TheVariants as outcomes
-use Rattle.plus_validator.specs.Outcomes.{outcome_of}
+use Rattle.plus_validator.specs.Outcomes.{outcome_of, status_of}
 use Rattle.plus_validator.specs.Verdicts.{JudgesText}
 use Rattle.plus_trial.specs.declared.summary.Word.{Word}
 use Rattle.plus_trial.specs.declared.summary.Word.TheVariants as words
 use Rattle.plus_trial.specs.declared.summary.Summary.{Summary}
 use Rattle.plus_trial.specs.Farm.{domain_text, problem_text, plan_text}
 use Rattle.plus_trial.specs.Summary.{summary_text}
-use Rattle.plus_words.specs.Happenings.{default_happenings}
+use Rattle.plus_words.specs.Numbers.{default_happenings}
 use Rattle.plus_reply.specs.Pair.Pair.{PairRefused, SpellsWellTyped}
 use Rattle.plus_report.specs.declared.status.Status.{Status}
 use Rattle.plus_reply.specs.Statuses.{early_status}
-use Rattle.plus_validator.specs.Statuses.{status_of}
 
 -- the three texts of a farm of n tanks, whose bytes are of no matter to what is said of them here
 unfoldable pub farm_domain : List ℕ

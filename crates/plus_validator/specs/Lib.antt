@@ -9,7 +9,6 @@ pub mod Validates
 pub mod Verdicts
 pub mod Leaving
 pub mod Tame
-pub mod Statuses
 -- Inner words.
 pub mod Account
 pub mod Handing

@@ -6,9 +6,8 @@ ghost use Rattle.plus_number.specs.Frac.{IsFrac64};
 ghost use Rattle.plus_tree.specs.declared.trees.Domain.{Domain};
 ghost use Rattle.plus_tree.specs.declared.trees.Problem.{Problem};
 ghost use Rattle.plus_io.specs.Limits.{most_happenings};
-ghost use Rattle.plus_validator.specs.Outcomes.{outcome_of};
+ghost use Rattle.plus_validator.specs.Outcomes.{outcome_of, status_of};
 ghost use Rattle.plus_validator.specs.Playing.{IsGroundOf};
-ghost use Rattle.plus_validator.specs.Statuses.{status_of};
 ghost use Rattle.plus_validator.specs.Verdicts.{RefusesPairWith, JudgesText};
 
 use crate::feed::Feed;

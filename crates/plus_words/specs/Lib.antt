@@ -1,6 +1,3 @@
 -- What the claim of `run` stands on.
 pub mod Numbers
-pub mod Happenings
-pub mod Tanks
-pub mod Decisions
 pub mod Interval

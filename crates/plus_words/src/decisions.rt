@@ -1,7 +1,7 @@
 //! How many decisions a plan of a search may have.
 
 ghost use Rattle.std.specs.Prelude.{◌≡◌, ◌≤◌, option_map};
-ghost use Rattle.plus_words.specs.Decisions.{decisions_of};
+ghost use Rattle.plus_words.specs.Numbers.{decisions_of};
 
 use crate::numbers::number_of;
 

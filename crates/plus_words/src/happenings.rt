@@ -2,7 +2,7 @@
 
 ghost use Rattle.std.specs.Prelude.{◌≡◌, ◌≤◌, option_map};
 ghost use Rattle.plus_io.specs.Limits.{most_happenings};
-ghost use Rattle.plus_words.specs.Happenings.{happenings_of};
+ghost use Rattle.plus_words.specs.Numbers.{happenings_of};
 
 use crate::numbers::number_of;
 use plus_io::MOST_HAPPENINGS;

@@ -1,7 +1,7 @@
 //! How many tanks a trial has.
 
 ghost use Rattle.std.specs.Prelude.{◌≡◌, ◌≤◌, option_map};
-ghost use Rattle.plus_words.specs.Tanks.{tanks_of};
+ghost use Rattle.plus_words.specs.Numbers.{tanks_of};
 
 use crate::numbers::number_of;
 

@@ -24,15 +24,14 @@ use Rattle.plus_lift.specs.Lifts.{names_of, labelled, counts, IsLifted, IsFirstO
 use Rattle.plus_lift.proofs.OneLift.{late_of}
 use Rattle.plus_validator.specs.declared.judge.Judged.{Judged}
 use Rattle.plus_validator.specs.declared.judge.Outcome.{Outcome}
-use Rattle.plus_validator.specs.Outcomes.{outcome_of}
+use Rattle.plus_validator.specs.Outcomes.{outcome_of, status_of}
 use Rattle.plus_validator.specs.Verdicts.{JudgesText}
-use Rattle.plus_words.specs.Happenings.{default_happenings}
+use Rattle.plus_words.specs.Numbers.{default_happenings}
 use Rattle.plus_report.specs.declared.status.Status.{Status}
 use Rattle.plus_report.specs.declared.status.Status.TheVariants as s
 use Rattle.plus_reply.specs.declared.reply.Reply.{Reply}
 use Rattle.plus_reply.specs.declared.reply.Fault.{Fault}
 use Rattle.plus_reply.specs.declared.reply.Fault.TheVariants as faults
-use Rattle.plus_validator.specs.Statuses.{status_of}
 use Rattle.plus_reply.specs.Reply.{IsPlain}
 use Rattle.plus_lift.specs.Command.Lift.{late_line, lifted_text, LiftsCalls, late, judged, JudgesPlan}
 

@@ -25,7 +25,7 @@ use Rattle.plus_reply.specs.declared.reply.Fault.TheVariants as faults
 use Rattle.plus_reply.specs.Reply.{IsPlain, HasCause, TellsRefusal}
 use Rattle.plus_reply.proofs.ReplyLemmas.{no_pair_told}
 use Rattle.plus_lift.specs.Command.Again.{SpellsAgain, NotReadAgain}
-use Rattle.plus_numeric.specs.Statuses.{kind_status}
+use Rattle.plus_numeric.specs.Verdicts.{kind_status}
 use Rattle.plus_lift.specs.Command.Lift.{TellsStop, LiftsCalls, LiftsPlan, no_plan, lifts, LiftsPair, no_texts, of_texts, Lifts, no_pair, of_pair}
 
 -- ---- a plan

@@ -19,12 +19,12 @@ use Rattle.plus_numeric.proofs.Excluding.{one_refusal, not_both}
 use Rattle.plus_lift.specs.Lifts.{names_of, counts}
 use Rattle.plus_lift.proofs.OneLift.{late_once, lifted_or_late}
 use Rattle.plus_validator.proofs.OneJudgement.{one_judgement}
-use Rattle.plus_words.specs.Happenings.{default_happenings}
+use Rattle.plus_words.specs.Numbers.{default_happenings}
 use Rattle.plus_reply.specs.Pair.Pair.{PairRefused, SpellsWellTyped}
 use Rattle.plus_reply.proofs.PairLemmas.OnePair.{pair_once, pair_or_not, pair_refused_once}
 use Rattle.plus_reply.specs.Statuses.{early_status}
-use Rattle.plus_numeric.specs.Statuses.{kind_status}
-use Rattle.plus_validator.specs.Statuses.{status_of}
+use Rattle.plus_numeric.specs.Verdicts.{kind_status}
+use Rattle.plus_validator.specs.Outcomes.{status_of}
 use Rattle.plus_reply.specs.Reply.{HasOneReply}
 use Rattle.plus_translate_command.proofs.OneReply.{untranslated_once, translated_once, translation_or_not, same_pair}
 use Rattle.plus_lift.specs.Command.Again.{line_printed, SpellsAgain, NotAgain, untranslated, unread}

@@ -20,9 +20,9 @@ use Rattle.plus_numeric.specs.declared.source.Source.TheVariants.{Translated}
 use Rattle.plus_numeric.specs.Answers.{IsAccepted, IsRefused}
 use Rattle.plus_lift.specs.Lifts.{names_of, labelled, counts, IsLifted, IsFirstLate}
 use Rattle.plus_validator.specs.declared.judge.Judged.{Judged}
-use Rattle.plus_validator.specs.Outcomes.{outcome_of}
+use Rattle.plus_validator.specs.Outcomes.{outcome_of, status_of}
 use Rattle.plus_validator.specs.Verdicts.{JudgesText}
-use Rattle.plus_words.specs.Happenings.{default_happenings}
+use Rattle.plus_words.specs.Numbers.{default_happenings}
 use Rattle.plus_reply.specs.Pair.Pair.{PairRefused, SpellsWellTyped}
 use Rattle.plus_report.specs.declared.status.Status.{Status}
 use Rattle.plus_report.specs.declared.status.Status.TheVariants as s
@@ -30,8 +30,7 @@ use Rattle.plus_reply.specs.declared.reply.Reply.{Reply}
 use Rattle.plus_reply.specs.declared.reply.Fault.{Fault}
 use Rattle.plus_reply.specs.declared.reply.Fault.TheVariants as faults
 use Rattle.plus_reply.specs.Statuses.{early_status}
-use Rattle.plus_numeric.specs.Statuses.{kind_status}
-use Rattle.plus_validator.specs.Statuses.{status_of}
+use Rattle.plus_numeric.specs.Verdicts.{kind_status}
 use Rattle.plus_lift.specs.Command.Again.{SpellsAgain, NotAgain}
 
 -- ---- times

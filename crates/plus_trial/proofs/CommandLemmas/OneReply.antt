@@ -5,15 +5,14 @@ use Rattle.plus_tree.specs.declared.trees.Problem.{Problem}
 use Rattle.plus_report.specs.Refusals.{early_text}
 use Rattle.plus_validator.specs.declared.judge.Judged.{Judged}
 use Rattle.plus_validator.specs.declared.judge.Outcome.{Outcome}
-use Rattle.plus_validator.specs.Outcomes.{outcome_of}
+use Rattle.plus_validator.specs.Outcomes.{outcome_of, status_of}
 use Rattle.plus_validator.specs.Verdicts.{JudgesText, SameJudgement}
 use Rattle.plus_validator.proofs.OneJudgement.{one_judgement}
 use Rattle.plus_trial.specs.Summary.{summary_text}
-use Rattle.plus_words.specs.Happenings.{default_happenings}
+use Rattle.plus_words.specs.Numbers.{default_happenings}
 use Rattle.plus_reply.proofs.PairLemmas.OnePair.{pair_once, pair_refused_once, pair_or_not}
 use Rattle.plus_reply.specs.Reply.{HasOneReply}
 use Rattle.plus_reply.specs.Statuses.{early_status}
-use Rattle.plus_validator.specs.Statuses.{status_of}
 use Rattle.plus_trial.specs.Trial.{farm_domain, farm_problem, farm_plan, word_of, summary_of, IsTrial, is_judged, no_pair}
 
 abbrev line : ℕ → Outcome → ℕ → ℕ → List ℕ

@@ -11,11 +11,11 @@ use Rattle.plus_report.specs.declared.verdicts.Verdict.TheVariants as verdicts
 use Rattle.plus_report.specs.declared.refusals.Early.{Early}
 use Rattle.plus_report.specs.declared.refusals.Early.TheVariants as es
 use Rattle.plus_validator.specs.declared.judge.Judged.{Judged}
-use Rattle.plus_validator.specs.Outcomes.{early_outcome, outcome_of}
+use Rattle.plus_validator.specs.Outcomes.{early_outcome, outcome_of, status_of}
 use Rattle.plus_validator.specs.Verdicts.{JudgesText}
 use Rattle.plus_trial.specs.Farm.{domain_text, problem_text, plan_text}
 use Rattle.plus_trial.specs.Summary.{summary_text}
-use Rattle.plus_words.specs.Happenings.{default_happenings}
+use Rattle.plus_words.specs.Numbers.{default_happenings}
 use Rattle.plus_reply.specs.declared.pair.pair.Refusal.{Refusal}
 use Rattle.plus_reply.specs.declared.pair.pair.Refusal.TheVariants as refusals
 use Rattle.plus_reply.specs.Pair.Pair.{SpellsPair}
@@ -26,7 +26,6 @@ use Rattle.plus_reply.specs.declared.reply.Reply.{Reply}
 use Rattle.plus_reply.specs.declared.reply.Fault.{Fault}
 use Rattle.plus_reply.specs.declared.reply.Fault.TheVariants as faults
 use Rattle.plus_reply.specs.Reply.{IsPlain, TellsRefusal}
-use Rattle.plus_validator.specs.Statuses.{status_of}
 use Rattle.plus_trial.specs.Trial.{farm_domain, farm_problem, farm_plan, summary_of, IsTrial, is_judged, no_pair}
 
 -- ---- the texts that are made are those of the farm

@@ -4,7 +4,7 @@ ghost use Rattle.std.specs.Prelude.{◌≡◌, IfOk, IfErr};
 ghost use Rattle.plus_validator.specs.Outcomes.{outcome_of};
 ghost use Rattle.plus_validator.specs.Verdicts.{JudgesText};
 ghost use Rattle.plus_trial.specs.Summary.{summary_text};
-ghost use Rattle.plus_words.specs.Happenings.{default_happenings};
+ghost use Rattle.plus_words.specs.Numbers.{default_happenings};
 ghost use Rattle.plus_reply.specs.Pair.Pair.{SpellsPair};
 ghost use Rattle.plus_reply.specs.Pair.Reads.{NotPair};
 ghost use Rattle.plus_reply.specs.Reply.{IsPlain};

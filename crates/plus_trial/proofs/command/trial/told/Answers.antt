@@ -1,5 +1,5 @@
 use Rattle.std.proofs.Common.{ap, ◌∙◌}
-use Rattle.plus_validator.specs.Statuses.{status_of}
+use Rattle.plus_validator.specs.Outcomes.{status_of}
 use Rattle.plus_trial.proofs.CommandLemmas.TrialLemmas.{told_trial, told_plain}
 use Rattle.plus_trial.proofs.command.trial.told.Goals as goal
 
