@@ -133,7 +133,7 @@ module _ (d : Pair) (P : terms.Problem) (most : ℕ) (lines : List Line) (k : Is
   by_time line more e s (after_end b f) = sym (ap (λ (x : Verdict Frac64). outcome_of x) f)
   by_time line more e s (goes_back b x f) = sym (ap (λ (x : Verdict Frac64). outcome_of x) f)
   by_time line more e s (no_value n x f) =
-      absurd (x ((k.times before line more e (open_behind d P most before h s.meant (prefix_in _ s.reads) n s.waits)).fits s.time s.time_is))
+      absurd (x ((k.times before line more h e (open_behind d P most before h s.meant (prefix_in _ s.reads) n s.waits) (prefix_in _ s.reads) s.waits).fits s.time s.time_is))
 
   in_line : (line : Line) (more : List Line) → lines ≡ before ++ line ∷ more → IsTimeRefused d P most before line r h v ⊎ IsStopped d P most before line r h v → Invalid ≡ outcome_of v
   in_line line more e (inl s) = by_time line more e s s.why

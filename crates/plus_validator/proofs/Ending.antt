@@ -159,7 +159,7 @@ module _ (d : Pair) (P : terms.Problem) (most : ℕ) (text piece : List ℕ) (b 
         | inside m i ↦ ahead front m i
         | beyond m i ↦ subst (λ (ls : List Line). StaysInside P (plan_of d ls false) most (instances_of d ls)) (sym (i ∙ sym (append_assoc x.before (line ∷ []) m))) (behind m false)
       ];
-      times = λ front y back f o. one_of HasValue front back y (subst (All HasValue) f times);
+      times = λ front y back h f o p w. one_of HasValue front back y (subst (All HasValue) f times);
     }
 
     -- a breach stands on the way to the line, or in it

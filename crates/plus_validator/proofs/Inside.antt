@@ -39,5 +39,5 @@ in_order_is_tame d P most lines o a k = record {
   on_way = λ front back e. inside_front d P most front back true
       (subst (λ (ls : List Line). IsInOrder (lines_meant d ls)) e o)
       (subst (λ (ls : List Line). StaysInside P (plan_of d ls true) most (instances_of d ls)) e k);
-  times = λ front line back e b. one_of HasValue front back line (subst (All HasValue) e a);
+  times = λ front line back h e b p w. one_of HasValue front back line (subst (All HasValue) e a);
 }

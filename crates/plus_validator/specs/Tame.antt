@@ -16,6 +16,7 @@ use Rattle.plus_expansion.specs.Expansion.{expanded}
 use Rattle.plus_expansion.specs.Counting.{IsGroundable}
 use Rattle.plus_validator.specs.Plans.{Pair, pair, lines_meant, plan_of, HasValue}
 use Rattle.plus_validator.specs.Asking.{instances_of, Fails}
+use Rattle.plus_validator.specs.Refused.{IsWaiting}
 use Rattle.plus_io.specs.Limits.{text_limit}
 
 -- at no prefix of the plan is the first test that fails a limit
@@ -29,12 +30,14 @@ pub record IsOpenBehind (d : Pair) (lines : List Line) : Type 0 where
   pub ordered : IsInOrder (lines_meant d lines ++ line ∷ [])
 
 -- The plan of these lines stays inside the limits at the end of its text, and so does that of each beginning while the text is
--- read; and where a line may stand behind a beginning, the time of the next is a value.
+-- read; and where a beginning is worked in a history and a line may stand behind it, the time of the next is a value.
 pub record IsTame (d : Pair) (P : Problem) (most : ℕ) (lines : List Line) : Type 0 where
   pub at_end : StaysInside P (plan_of d lines true) most (instances_of d lines)
   pub on_way :
       (front back : List Line) → lines ≡ front ++ back → StaysInside P (plan_of d front false) most (instances_of d front)
-  pub times : (front : List Line) (line : Line) (back : List Line) → lines ≡ front ++ line ∷ back → IsOpenBehind d front → HasValue line
+  pub times :
+      (front : List Line) (line : Line) (back : List Line) (h : List Part) → lines ≡ front ++ line ∷ back → IsOpenBehind d front
+      → Prefix P (plan_of d front false) h → IsWaiting P (plan_of d front false) most (instances_of d front) h → HasValue line
 
 -- the text is within its length and its lines are lines, and the pair and the plan stay inside the limits
 pub record IsTameText (d : Domain) (p : tree.Problem) (most : ℕ) (text : List ℕ) : Type 0 where
