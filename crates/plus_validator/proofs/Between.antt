@@ -11,9 +11,14 @@ use Rattle.plus_model.proofs.Moments.{not_below}
 use Rattle.plus_model.proofs.Later.{prefix_goes_on}
 use Rattle.plus_model.proofs.Longest.{worked_is_longest}
 use Rattle.plus_number.specs.declared.frac.Frac64.{Frac64}
+use Rattle.plus_number.specs.Frac.{IsFrac64}
 use Rattle.plus_plan.specs.declared.forms.Line.{Line}
 use Rattle.plus_plan.specs.declared.forms.Time.{Time}
+use Rattle.plus_plan.specs.TimeValue.{value_of}
 use Rattle.plus_report.specs.declared.verdicts.Verdict.{Verdict}
+use Rattle.plus_report.specs.declared.verdicts.Verdict.TheVariants.{Other}
+use Rattle.plus_report.specs.declared.refusals.Early.TheVariants.{Literal}
+use Rattle.plus_report.specs.declared.refusals.Text.TheVariants as texts
 use Rattle.plus_stretch.specs.Tests.{Test}
 use Rattle.plus_validator.specs.Plans.{Pair, line_meant, lines_meant, plan_of, HasTime, HasValue}
 use Rattle.plus_validator.specs.Asking.{asked_at, instances_of, NoneFails, Fails, IsClear}
@@ -33,16 +38,16 @@ no_back (EndLine t ∷ y ∷ ys) last line more h o = o
 no_back (ActLine t c ∷ []) last line more h o = no_back [] last line more h o.1
 no_back (ActLine t c ∷ y ∷ ys) last line more h o = no_back (y ∷ ys) last line more h o.1
 
-no_after : (before : List model.Line) (t : Fraction) (line : model.Line) (more : List model.Line) → IsInOrder ((before ++ EndLine t ∷ []) ++ line ∷ more) → ⊥
+pub no_after : (before : List model.Line) (t : Fraction) (line : model.Line) (more : List model.Line) → IsInOrder ((before ++ EndLine t ∷ []) ++ line ∷ more) → ⊥
 no_after [] t line more o = o
 no_after (EndLine u ∷ []) t line more o = o
 no_after (EndLine u ∷ y ∷ ys) t line more o = o
 no_after (ActLine u c ∷ []) t line more o = no_after [] t line more o.1
 no_after (ActLine u c ∷ y ∷ ys) t line more o = no_after (y ∷ ys) t line more o.1
 
--- no plan whose lines are in order and have values has such a line there
-pub time_excluded : (d : Pair) (P : Problem) (before more : List Line) (line : Line) (h : List Part) (meant : model.Line) (time : Time) (v : Verdict Frac64) → line_meant d line ≡ meant ∷ [] → HasTime line time → TimeFault P (plan_of d before false) h (number_in line) meant time v → HasValue line → IsInOrder (lines_meant d ((before ++ line ∷ []) ++ more)) → ⊥
-time_excluded d P before more line h meant time v e k f w o =
+-- no plan whose lines are in order has such a line there, but for a time that is no value
+pub place_excluded : (d : Pair) (P : Problem) (before more : List Line) (line : Line) (h : List Part) (meant : model.Line) (time : Time) (v : Verdict Frac64) → line_meant d line ≡ meant ∷ [] → ((IsFrac64 (value_of time) → ⊥) → v ≡ Other (Literal texts.Plan time.span.start time.span.«end») → ⊥) → TimeFault P (plan_of d before false) h (number_in line) meant time v → IsInOrder (lines_meant d ((before ++ line ∷ []) ++ more)) → ⊥
+place_excluded d P before more line h meant time v e a f o =
     let is : lines_meant d ((before ++ line ∷ []) ++ more) ≡ lines_meant d before ++ meant ∷ lines_meant d more =
     lines_meant-more d (before ++ line ∷ []) more
     ∙ ap (λ ls. ls ++ lines_meant d more) (lines_meant-more d before (line ∷ []) ∙ ap (λ ls. lines_meant d before ++ ls) (append-nil (line_meant d line) ∙ e))
@@ -50,9 +55,13 @@ time_excluded d P before more line h meant time v e k f w o =
     let order : IsInOrder (lines_meant d before ++ meant ∷ lines_meant d more) = subst IsInOrder is o in
     elim f [
       | after_end b x ↦ (let k = b.breach in no_after k.0 k.1 meant (lines_meant d more) (subst (λ (ls : List model.Line). IsInOrder (ls ++ meant ∷ lines_meant d more)) k.2.lines order))
-      | no_value b n x ↦ n (w.fits time k)
+      | no_value b n x ↦ a n x
       | goes_back b n x ↦ (let k = b.breach in no_back k.0 (ActLine k.1 k.2) meant (lines_meant d more) k.4 (subst (λ (ls : List model.Line). IsInOrder (ls ++ meant ∷ lines_meant d more)) k.3.lines order))
     ]
+
+-- no plan whose lines are in order and have values has such a line there
+pub time_excluded : (d : Pair) (P : Problem) (before more : List Line) (line : Line) (h : List Part) (meant : model.Line) (time : Time) (v : Verdict Frac64) → line_meant d line ≡ meant ∷ [] → HasTime line time → TimeFault P (plan_of d before false) h (number_in line) meant time v → HasValue line → IsInOrder (lines_meant d ((before ++ line ∷ []) ++ more)) → ⊥
+time_excluded d P before more line h meant time v e k f w o = place_excluded d P before more line h meant time v e (λ n x. n (w.fits time k)) f o
 
 -- ---- a test that fails on the way
 

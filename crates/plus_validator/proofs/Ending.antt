@@ -1,4 +1,4 @@
--- A plan that is refused as invalid stays inside the limits, where its times are values.
+-- A plan that is refused as invalid stays inside the limits.
 use Rattle.std.proofs.Common.{◌≡◌, ℕ, Bool, true, false, List, [], ◌∷◌, ◌++◌, refl, ap, sym, subst, ◌∙◌, inl, inr, append-nil, append_assoc}
 use Rattle.std.specs.Prelude.{◌≢◌, ◌⊎◌, All, Ok}
 use Rattle.std.proofs.lemmas.List.Elements.{All-head, All-tail}
@@ -6,7 +6,7 @@ use Rattle.plus_model.specs.Terms as terms
 use Rattle.plus_model.specs.Plan as model
 use Rattle.plus_model.specs.Plan.{Plan, IsInOrder}
 use Rattle.plus_model.specs.History.{Part}
-use Rattle.plus_model.specs.Trajectory.{HasBegun, Next, Prefix, first_part, first_view, view_of}
+use Rattle.plus_model.specs.Trajectory.{HasBegun, Next, IsWorked, Prefix, first_part, first_view, view_of}
 use Rattle.plus_model.specs.Breach as breach
 use Rattle.plus_model.specs.Breach.{Goal, Breaks}
 use Rattle.plus_model.specs.Laws.{Begins}
@@ -14,6 +14,7 @@ use Rattle.plus_model.proofs.Paths as paths
 use Rattle.plus_model.proofs.Paths.{meet, view_is}
 use Rattle.plus_model.proofs.Final.{breach_stuck}
 use Rattle.plus_model.proofs.Later.{prefix_goes_on}
+use Rattle.plus_model.proofs.Longest.{worked_is_longest, one_longest}
 use Rattle.plus_number.specs.declared.frac.Frac64.{Frac64}
 use Rattle.plus_number.specs.Frac.{IsFrac64}
 use Rattle.plus_state.proofs.Testing.{one_test}
@@ -24,20 +25,22 @@ use Rattle.plus_plan.specs.declared.forms.Time.{Time}
 use Rattle.plus_plan.specs.declared.forms.Line.{Line}
 use Rattle.plus_plan.specs.declared.forms.PlanForm.TheVariants.{Timed}
 use Rattle.plus_plan.specs.Lines.{plan_lines}
+use Rattle.plus_plan.specs.TimeValue.{value_of}
 use Rattle.plus_expansion.specs.Expansion.{expanded}
 use Rattle.plus_report.specs.declared.verdicts.Verdict.TheVariants as verdicts
-use Rattle.plus_validator.specs.Plans.{Pair, pair, lines_meant, plan_of, Reading, plan_in, HasValue}
+use Rattle.plus_validator.specs.Plans.{Pair, pair, lines_meant, plan_of, Reading, plan_in, HasTime, HasValue}
 use Rattle.plus_validator.specs.Asking.{asked_at, instances_of, NoneFails, Fails, IsClear}
 use Rattle.plus_validator.specs.Refused.{IsBroken, Stands, IsWaiting, TimeFault, after_end, no_value, goes_back, number_in, IsTimeRefused, IsStopped, IsStoppedAtEnd, Refusal}
-use Rattle.plus_validator.specs.Tame.{StaysInside, IsTame}
+use Rattle.plus_validator.specs.Tame.{StaysInside, IsOpenBehind, IsTame}
 use Rattle.plus_validator.specs.Laws.{InvalidIsTame}
 use Rattle.plus_validator.proofs.Asking.{none_fails}
-use Rattle.plus_validator.proofs.Between.{time_excluded}
+use Rattle.plus_validator.proofs.Between.{place_excluded, no_after}
 use Rattle.plus_validator.proofs.CalledTests.{instances_agree}
 use Rattle.plus_validator.proofs.Clear.{clear_grows}
 use Rattle.plus_validator.proofs.Deciding.{Places, all_read, next_read, places, cause_in, refusal_of, breach_in, not_none}
 use Rattle.plus_validator.proofs.Inside.{inside_front, in_order_is_tame}
 use Rattle.plus_validator.proofs.Longer.{fails_longer}
+use Rattle.plus_validator.proofs.OneAnswer.{time_once}
 use Rattle.plus_validator.proofs.TextStops.{goes_on, begun_more}
 
 one_of : {A : Type 0} (Q : A → Type 0) (front back : List A) (x : A) → All Q (front ++ x ∷ back) → Q x
@@ -103,6 +106,17 @@ module _ (d : Pair) (P : terms.Problem) (most : ℕ) (ls : List Line) (g : List 
       (fails_longer P (plan_of d ls false) (plan_of d (ls ++ more) closed) most (instances_of d ls) (instances_of d (ls ++ more)) g (broken_by k.by) on (instances_agree d ls more) refl p k.broken.first))
       h t q f l
 
+  -- and no line is waited for there
+  unwaited_behind : (more : List Line) (h : List Part) → Prefix P (plan_of d (ls ++ more) false) h → IsWaiting P (plan_of d (ls ++ more) false) most (instances_of d (ls ++ more)) h → ⊥
+  unwaited_behind more h q (inl none) = elim (begun_more d ls more false begun) [ inl s ↦ s none | inr t ↦ (let f : false ≡ true = t in cc f) ]
+  unwaited_behind more h q (inr done) =
+      let L = plan_of d (ls ++ more) false in
+      let on = goes_on d ls more false false in
+      let there : Prefix P L g = prefix_goes_on P (plan_of d ls false) L g p on q.ordered (begun_more d ls more false begun) in
+      let stuck = breach_stuck P (plan_of d ls false) L (view_of P g) k.by on k.broken.breaks.breach.stands no_goal_open in
+      let same : h ≡ g = one_longest P L h g (worked_is_longest P L h q done.worked) (record { prefix = there; longest = longest_by P L g there stuck.nothing }) in
+      stuck.no_end (subst (λ (x : List Part). IsWorked P L (view_of P x)) same done.worked)
+
 -- ---- beginnings of the lines
 
 -- a beginning ends before the line, or goes on behind it
@@ -125,9 +139,38 @@ split (x ∷ front) back (y ∷ before) line more e =
       | beyond m i ↦ beyond m (ap (λ zs. x ∷ zs) i ∙ ap (λ z. z ∷ (before ++ line ∷ m)) head)
     ]
 
+-- a line stands before the line that is read next, or is that, or stands behind it
+data At (front before : List Line) (y line : Line) : Type 0 where
+  in_front : (m : List Line) → before ≡ front ++ y ∷ m → At front before y line
+  at_it : before ≡ front → y ≡ line → At front before y line
+  behind_it : (m : List Line) → front ≡ before ++ line ∷ m → At front before y line
+
+at : (front back before : List Line) (y line : Line) (more : List Line) → front ++ y ∷ back ≡ before ++ line ∷ more → At front before y line
+at [] back [] y line more e =
+    let f : y ∷ back ≡ line ∷ more = e in
+    let head : y ≡ line = cc f in
+    at_it refl head
+at [] back (z ∷ before) y line more e =
+    let f : y ∷ back ≡ z ∷ (before ++ line ∷ more) = e in
+    let head : z ≡ y = cc f in
+    in_front before (ap (λ x. x ∷ before) head)
+at (x ∷ front) back [] y line more e =
+    let f : x ∷ (front ++ y ∷ back) ≡ line ∷ more = e in
+    let head : x ≡ line = cc f in
+    behind_it front (ap (λ z. z ∷ front) head)
+at (x ∷ front) back (z ∷ before) y line more e =
+    let f : x ∷ (front ++ y ∷ back) ≡ z ∷ (before ++ line ∷ more) = e in
+    let head : x ≡ z = cc f in
+    let tail : front ++ y ∷ back ≡ before ++ line ∷ more = cc f in
+    elim (at front back before y line more tail) [
+      | in_front m i ↦ in_front m (ap (λ zs. z ∷ zs) i ∙ ap (λ u. u ∷ (front ++ y ∷ m)) (sym head))
+      | at_it i j ↦ at_it (ap (λ zs. z ∷ zs) i ∙ ap (λ u. u ∷ front) (sym head)) j
+      | behind_it m i ↦ behind_it m (ap (λ zs. x ∷ zs) i ∙ ap (λ u. u ∷ (before ++ line ∷ m)) head)
+    ]
+
 -- ---- a refusal by a breach, or by a line out of its place
 
-module _ (d : Pair) (P : terms.Problem) (most : ℕ) (text piece : List ℕ) (b : Breach Frac64) (x : Refusal d P most false text piece (verdicts.Invalid b)) (lines : List Line) (times : All HasValue lines) where
+module _ (d : Pair) (P : terms.Problem) (most : ℕ) (text piece : List ℕ) (b : Breach Frac64) (x : Refusal d P most false text piece (verdicts.Invalid b)) (lines : List Line) where
   prefix_of : (s : Reading) → x.reading ≡ s → Prefix P (plan_in d s) x.history
   prefix_of s e = subst (λ (r : Reading). Prefix P (plan_in d r) x.history) e x.prefix
 
@@ -142,7 +185,7 @@ module _ (d : Pair) (P : terms.Problem) (most : ℕ) (text piece : List ℕ) (b 
       let k = broken_in P (plan_of d x.before true) most (instances_of d x.before) x.history b s.stands in
       in_order_is_tame d P most lines
       (subst (λ (ls : List Line). IsInOrder (lines_meant d ls)) (sym e) (prefix_of _ s.reads).ordered)
-      times
+      (subst (All HasValue) (sym e) x.times)
       (subst (λ (ls : List Line). StaysInside P (plan_of d ls true) most (instances_of d ls)) (sym e)
       (inside_by P (plan_of d x.before true) most (instances_of d x.before) x.history (longest_of _ s.reads) (clear_of _ s.reads)
       (breach_here P (plan_of d x.before true) most (instances_of d x.before) x.history k.by k.broken.first)))
@@ -152,14 +195,23 @@ module _ (d : Pair) (P : terms.Problem) (most : ℕ) (text piece : List ℕ) (b 
     with_line = x.before ++ line ∷ []
 
     tame_by : ((m : List Line) (closed : Bool) → StaysInside P (plan_of d (with_line ++ m) closed) most (instances_of d (with_line ++ m)))
-        → ((front m : List Line) → x.before ≡ front ++ m → StaysInside P (plan_of d front false) most (instances_of d front)) → IsTame d P most lines
-    tame_by behind ahead = record {
+        → ((front m : List Line) → x.before ≡ front ++ m → StaysInside P (plan_of d front false) most (instances_of d front))
+        → (IsOpenBehind d x.before → HasValue line)
+        → ((m : List Line) (h : List Part) → Prefix P (plan_of d (with_line ++ m) false) h → IsWaiting P (plan_of d (with_line ++ m) false) most (instances_of d (with_line ++ m)) h → ⊥)
+        → IsTame d P most lines
+    tame_by behind ahead here none_waits = record {
       at_end = subst (λ (ls : List Line). StaysInside P (plan_of d ls true) most (instances_of d ls)) (sym (e ∙ sym (append_assoc x.before (line ∷ []) more))) (behind more true);
       on_way = λ front back f. elim (split front back x.before line more (sym f ∙ e)) [
         | inside m i ↦ ahead front m i
         | beyond m i ↦ subst (λ (ls : List Line). StaysInside P (plan_of d ls false) most (instances_of d ls)) (sym (i ∙ sym (append_assoc x.before (line ∷ []) m))) (behind m false)
       ];
-      times = λ front y back h f o p w. one_of HasValue front back y (subst (All HasValue) f times);
+      times = λ front y back h f o p w. elim (at front back x.before y line more (sym f ∙ e)) [
+        | in_front m i ↦ one_of HasValue front m y (subst (All HasValue) i x.times)
+        | at_it i j ↦ subst HasValue (sym j) (here (subst (IsOpenBehind d) (sym i) o))
+        | behind_it m i ↦ (let s : front ≡ with_line ++ m = i ∙ sym (append_assoc x.before (line ∷ []) m) in
+            absurd (none_waits m h (subst (λ (ls : List Line). Prefix P (plan_of d ls false) h) s p)
+            (subst (λ (ls : List Line). IsWaiting P (plan_of d ls false) most (instances_of d ls) h) s w)))
+      ];
     }
 
     -- a breach stands on the way to the line, or in it
@@ -175,6 +227,8 @@ module _ (d : Pair) (P : terms.Problem) (most : ℕ) (text piece : List ℕ) (b 
         inside_front d P most front (m ++ line ∷ []) false
         (subst (λ (ls : List Line). IsInOrder (lines_meant d ls)) (sym (append-nil with_line) ∙ is) p.ordered)
         (subst (λ (ls : List Line). StaysInside P (plan_of d ls false) most (instances_of d ls)) is (behind [] false)))
+        (λ o. s.value)
+        (unwaited_behind d P most with_line x.history p s.begun (clear_of _ s.reads) k)
 
     -- the line is out of its place
     waits_here : (meant : model.Line) (time : Time) → TimeFault P (plan_of d x.before false) x.history (number_in line) meant time (verdicts.Invalid b) → IsWaiting P (plan_of d x.before false) most (instances_of d x.before) x.history → NoneFails P (plan_of d x.before false) most (instances_of d x.before) x.history
@@ -183,6 +237,14 @@ module _ (d : Pair) (P : terms.Problem) (most : ℕ) (text piece : List ℕ) (b 
     waits_here meant time (no_value n c f) (inl none) = absurd (cc f)
     waits_here meant time (goes_back c w f) (inl none) = (let a = c.breach in absurd (not_none a.0 (model.ActLine a.1 a.2) (sym a.3.lines ∙ none)))
 
+    -- and where one may stand behind those before, its time is a value
+    value_here : (meant : model.Line) (time : Time) → HasTime line time → TimeFault P (plan_of d x.before false) x.history (number_in line) meant time (verdicts.Invalid b) → IsOpenBehind d x.before → HasValue line
+    value_here meant time t (after_end c f) o = (let a = c.breach in absurd (no_after a.0 a.1 o.line [] (subst (λ (ls : List model.Line). IsInOrder (ls ++ o.line ∷ [])) a.2.lines o.ordered)))
+    value_here meant time t (no_value n c f) o = absurd (cc f)
+    value_here meant time t (goes_back c w f) o = record {
+      fits = λ u is. subst (λ (y : Time). IsFrac64 (value_of y)) (time_once line time u t is) w;
+    }
+
     tame_time : IsTimeRefused d P most x.before line x.reading x.history (verdicts.Invalid b) → IsTame d P most lines
     tame_time s =
         let p : Prefix P (plan_of d x.before false) x.history = prefix_of _ s.reads in
@@ -190,12 +252,15 @@ module _ (d : Pair) (P : terms.Problem) (most : ℕ) (text piece : List ℕ) (b 
         let before_inside : StaysInside P (plan_of d x.before false) most (instances_of d x.before) =
         inside_by P (plan_of d x.before false) most (instances_of d x.before) x.history (longest_of _ s.reads) (clear_of _ s.reads)
         (λ t f l. none_fails (asked_at P (plan_of d x.before false) most (instances_of d x.before) x.history) t passed f) in
-        let value : HasValue line = one_of HasValue x.before more line (subst (All HasValue) e times) in
+        let out : (m : List Line) → IsInOrder (lines_meant d (with_line ++ m)) → ⊥ =
+        (λ m o. place_excluded d P x.before m line x.history s.meant s.time (verdicts.Invalid b) s.meant_is (λ n f. cc f) s.why o) in
         tame_by
-        (λ m closed h t q f l. time_excluded d P x.before m line x.history s.meant s.time (verdicts.Invalid b) s.meant_is s.time_is s.why value q.ordered)
+        (λ m closed h t q f l. out m q.ordered)
         (λ front m i. inside_front d P most front m false
         (subst (λ (ls : List Line). IsInOrder (lines_meant d ls)) i p.ordered)
         (subst (λ (ls : List Line). StaysInside P (plan_of d ls false) most (instances_of d ls)) i before_inside))
+        (value_here s.meant s.time s.time_is s.why)
+        (λ m h q w. out m q.ordered)
 
     tame_in_line : IsTimeRefused d P most x.before line x.reading x.history (verdicts.Invalid b) ⊎ IsStopped d P most x.before line x.reading x.history (verdicts.Invalid b) → IsTame d P most lines
     tame_in_line (inl s) = tame_time s
@@ -206,7 +271,7 @@ module _ (d : Pair) (P : terms.Problem) (most : ℕ) (text piece : List ℕ) (b 
   tame_refused (next_read line more rest e f) = tame_in_line line more e (cause_in d P most text piece (verdicts.Invalid b) x (Ok line ∷ rest) f)
 
 pub invalid_is_tame : InvalidIsTame
-invalid_is_tame d p most text bytes lines w e a r =
+invalid_is_tame d p most text bytes lines w e r =
     let k = breach_in r.verdict r.outcome_is in
     let x : Refusal (pair d p) (expanded d p) most false text r.piece (verdicts.Invalid k.0) =
     subst (Refusal (pair d p) (expanded d p) most false text r.piece) k.1 (refusal_of d p most text _ bytes r) in
@@ -215,5 +280,5 @@ invalid_is_tame d p most text bytes lines w e a r =
       within = w;
       lines = lines;
       read = e;
-      tame = tame_refused (pair d p) (expanded d p) most text r.piece k.0 x lines a (places lines x.before x.rest (plan_lines Timed text) e x.read);
+      tame = tame_refused (pair d p) (expanded d p) most text r.piece k.0 x lines (places lines x.before x.rest (plan_lines Timed text) e x.read);
     }

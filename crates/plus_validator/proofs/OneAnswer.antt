@@ -81,7 +81,7 @@ fault_once (faults.NotLine n start last) v w a b = a ∙ sym b
 fault_once (faults.LineTooLong n) v w a b = a ∙ sym b
 fault_once faults.Memory v w a b = absurd a
 
-time_once : (line : Line) (t u : Time) → HasTime line t → HasTime line u → t ≡ u
+pub time_once : (line : Line) (t u : Time) → HasTime line t → HasTime line u → t ≡ u
 time_once (lines.Act n time call) t u a b = sym a ∙ b
 time_once (lines.End n time) t u a b = sym a ∙ b
 time_once lines.Blank t u a b = absurd a

@@ -104,9 +104,9 @@ InOrderIsTame =
     → IsInOrder (lines_meant d lines) → All HasValue lines → StaysInside P (plan_of d lines true) most (instances_of d lines)
     → IsTame d P most lines
 
--- Where the times are values, a plan that is refused as invalid is tame: so the tame are those whose answer is no limit.
+-- A plan that is refused as invalid is tame: so the tame are those whose answer is no limit.
 abbrev pub InvalidIsTame : Type 0
 InvalidIsTame =
     (d : Domain) (p : Problem) (most : ℕ) (text bytes : List ℕ) (lines : List Line)
-    → length text ≤ text_limit → plan_lines Timed text ≡ map Ok lines → All HasValue lines
+    → length text ≤ text_limit → plan_lines Timed text ≡ map Ok lines
     → IsRefused d p most text false Invalid bytes → IsTameText d p most text

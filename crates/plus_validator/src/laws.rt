@@ -61,7 +61,7 @@ pub fn in_order_is_tame()
     ensures { InOrderIsTame }
 {}
 
-/// A plan that is refused as invalid, with times that are values, stays inside the limits.
+/// A plan that is refused as invalid stays inside the limits.
 pub fn invalid_is_tame()
     ensures { InvalidIsTame }
 {}
