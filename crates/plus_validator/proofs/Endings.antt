@@ -24,7 +24,7 @@ use Rattle.plus_io.specs.Limits.{text_limit}
 use Rattle.plus_validator.specs.Plans.{Pair, pair}
 use Rattle.plus_validator.specs.Playing.{Begins}
 use Rattle.plus_validator.specs.Feeding.{Course, course, EndsFeeding, HaltsEnding}
-use Rattle.plus_validator.specs.Streaming.{HasCome, IsPlayedFrom, ended, OnPlayed, OnReadFault, OnWriteFault}
+use Rattle.plus_validator.specs.Streaming.{HasCome, IsPlayedFrom, ended, OnPlayed, OnReadFault, OnWriteFault, UnlessReadFault}
 use Rattle.plus_validator.specs.Leaving.{BreaksOffSoFar}
 use Rattle.plus_validator.proofs.Handing.{took_both}
 use Rattle.plus_validator.proofs.Leaving.{leaves_broken}
@@ -58,6 +58,15 @@ reads_by e r Q same = subst (λ (x : Ending). OnReadFault x Q) (sym same) (on_re
 
 pub fits_by : (e : Ending) (r : Result (Unit {0}) Halt) (P : Problem) (before now : ℕ) → e ≡ ended r → IfErr r (HasCause P before now) → OnPlayed e (λ played. IfErr played (HaltFits P))
 fits_by e r P before now same c = subst (λ (x : Ending). OnPlayed x (λ played. IfErr played (HaltFits P))) (sym same) (on_fits r P before now c)
+
+on_unless : (r : Result (Unit {0}) Halt) (Q : Type 0) → Q → UnlessReadFault (ended r) Q
+on_unless (Ok u) Q q = q
+on_unless (Err (Refused v)) Q q = q
+on_unless (Err Memory) Q q = q
+on_unless (Err WriteFault) Q q = q
+
+pub unless_by : (e : Ending) (r : Result (Unit {0}) Halt) (Q : Type 0) → e ≡ ended r → Q → UnlessReadFault e Q
+unless_by e r Q same q = subst (λ (x : Ending). UnlessReadFault x Q) (sym same) (on_unless r Q q)
 
 -- ---- at the end of the text
 

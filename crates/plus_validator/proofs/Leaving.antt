@@ -1,9 +1,10 @@
 -- What of a report is out, and what is told by it.
-use Rattle.std.proofs.Common.{◌≡◌, ℕ, ◌<◌, Bool, true, false, List, [], ◌∷◌, ◌++◌, map, length, take, Option, Some, None, refl, subst, sym, ap, ◌∙◌, arith, append-nil, length-append, inl, inr}
+use Rattle.std.proofs.Common.{◌≡◌, ℕ, ◌<◌, ◌≤◌, Bool, true, false, List, [], ◌∷◌, ◌++◌, map, length, take, Option, Some, None, refl, subst, sym, ap, ◌∙◌, arith, append-nil, append_assoc, length-append, inl, inr}
 use Rattle.std.specs.Prelude.{All, IfSome, IfErr, Result, Ok, Err}
 use Rattle.std.proofs.lemmas.List.{take_at}
 use Rattle.plus_io.specs.Files.{Takes}
 use Rattle.plus_io.specs.Taken.{Took}
+use Rattle.plus_io.proofs.Pieces.{Takes-append}
 use Rattle.plus_model.specs.Terms.{Problem}
 use Rattle.plus_model.specs.History.{Part}
 use Rattle.plus_model.specs.Trajectory.{Prefix}
@@ -35,7 +36,7 @@ use Rattle.plus_validator.specs.Stopped.{IsCutShortInText, IsStoppedInText}
 use Rattle.plus_validator.specs.Validates.{IsRead}
 use Rattle.plus_validator.specs.Feeding.{Course, course, IsFed, HaltsWith, PlaysText, IsPlayedOut}
 use Rattle.plus_validator.specs.Streaming.{HasCome, IsOut}
-use Rattle.plus_validator.specs.Leaving.{IsToldSoFar, TellsSoFar, TellsOnWay, TookSoFar, LeavesReport, BreaksOffSoFar, StopsReading, reading}
+use Rattle.plus_validator.specs.Leaving.{IsToldSoFar, TellsSoFar, TellsOnWay, TookSoFar, LeavesReport, BreaksOffSoFar, StopsReading, reading, KeepsUp, unread, ahead, piece_limit}
 use Rattle.plus_validator.proofs.Cutting.{cut_here, no_lf_from}
 use Rattle.plus_validator.proofs.Handing.{took_both, kept_behind}
 use Rattle.plus_validator.proofs.Played.{all_more}
@@ -106,6 +107,19 @@ module _ (d : Domain) (p : tree.Problem) (N : Labels) (P : Problem) (most : ℕ)
   out_reading picked left same =
       reading out.come.text (course out.sent feed).run.account.report (subst (λ (r : Option (List ℕ)). Takes bytes r out.come.text) (sym same) out.come.front)
       (told_come d p N P most first z e n b bytes rest total (course out.sent feed) i o out.come) report_out
+
+  -- and so a piece that is read then is the one that it is ahead
+  pub keeps_up : (left new : Option (List ℕ)) (piece more : List ℕ) → Takes rest left piece → length piece ≤ piece_limit → Took now new more → KeepsUp d p most bytes left old new
+  keeps_up left new piece more t l k =
+      ahead out.come.text piece (course out.sent feed).run.account.report more (Takes-append bytes rest left out.come.text piece out.come.front t) l
+      (told_come d p N P most first z e n b bytes rest total (course out.sent feed) i o out.come)
+      (took_both old now new (course out.sent feed).run.account.report more report_out k)
+
+-- what is written later changes nothing of that
+pub keeps_more : (d : Domain) (p : tree.Problem) (most : ℕ) (bytes rest old mid new : Option (List ℕ)) (later : List ℕ) → KeepsUp d p most bytes rest old mid → Took mid new later → KeepsUp d p most bytes rest old new
+keeps_more d p most bytes rest old mid new later (unread t) k = unread t
+keeps_more d p most bytes rest old mid new later (ahead front piece report more t l r w) k =
+    ahead front piece report (more ++ later) t l r (subst (Took old new) (append_assoc report more later) (took_both old mid new (report ++ more) later w k))
 
 -- ---- on the way that a line tells
 

@@ -5,6 +5,7 @@ use Rattle.std.proofs.lemmas.List.{length-take-le, take-append-drop, take-take}
 use Rattle.std.specs.Prelude.{IfSome, IfErr, OnOk, Result, Ok, Err}
 use Rattle.std.specs.Io.KnownBytes.{IsAtEnd}
 use Rattle.plus_io.specs.Files.{Takes, TakesAtMost}
+use Rattle.plus_io.specs.Taken.{Took}
 use Rattle.plus_io.proofs.Pieces.{Takes-nil, Takes-append, Takes-whole, at_most_one_over}
 use Rattle.plus_model.specs.Terms.{Problem}
 use Rattle.plus_numbering.specs.declared.numbering.Numbering.{Numbering}
@@ -29,7 +30,7 @@ use Rattle.plus_validator.specs.Playing.{IsResting}
 use Rattle.plus_validator.specs.Feeding.{Course, course, IsFresh, IsFed, IsOpen, HaltsWith, HaltsOn, Feeds, HaltsFeeding, PlaysText, EndsFeeding, HaltsEnding, IsPlayedOut}
 use Rattle.plus_validator.specs.declared.run.Run.{Run}
 use Rattle.plus_validator.specs.Streaming.{HasCome, IsPlayedFrom, IsPlayedThrough}
-use Rattle.plus_validator.specs.Leaving.{StopsReading, BreaksOffSoFar}
+use Rattle.plus_validator.specs.Leaving.{StopsReading, BreaksOffSoFar, KeepsUp}
 use Rattle.plus_validator.proofs.FeedLemmas.{idle_breaks, long_text_halts}
 use Rattle.plus_validator.proofs.Played.{played_none}
 
@@ -262,3 +263,15 @@ module _ (n m : Numbering) (N : Labels) (P : Problem) (same : n ≡ m) (bytes : 
 
   pub broken_same : (most : ℕ) → IfSome bytes (λ text. BreaksOffSoFar n.typed.now.domain n.typed.now.problem most text old new) → IfSome bytes (λ text. BreaksOffSoFar m.typed.now.domain m.typed.now.problem most text old new)
   broken_same most h = subst (λ (k : Numbering). IfSome bytes (λ text. BreaksOffSoFar k.typed.now.domain k.typed.now.problem most text old new)) same h
+
+  pub keeps_same : (most : ℕ) (rest : Option (List ℕ)) → KeepsUp n.typed.now.domain n.typed.now.problem most bytes rest old new → KeepsUp m.typed.now.domain m.typed.now.problem most bytes rest old new
+  keeps_same most rest h = subst (λ (k : Numbering). KeepsUp k.typed.now.domain k.typed.now.problem most bytes rest old new) same h
+
+-- no piece is longer than what it was read into
+pub piece_few : (count : ℕ) (piece : List ℕ) → count ≤ length piece → length piece ≤ 4096 → length (take count piece) ≤ 4096
+piece_few count piece f l = (let e = length-take-le count piece f in omega arith)
+
+-- what a run hands on at the end of a text, however it ends
+pub gone_by : (d : Pair) (N : Labels) (P : Problem) (feed : Feed) (new : Run) (mid now : Option (List ℕ)) (r : Result (Unit {0}) Halt) → OnOk r (HandsOn course progress (EndsFeeding d N P) feed new mid now) → IfErr r (λ halt. HandsOn course left (λ c l. HaltsEnding d N P c l halt) feed new mid now) → (gone : List ℕ) × Took mid now gone
+gone_by d N P feed new mid now (Ok u) e s = (e.gone, e.took)
+gone_by d N P feed new mid now (Err halt) e s = (s.gone, s.took)

@@ -1,5 +1,5 @@
 -- What the check of a plan writes, by its outcome.
-use Rattle.std.proofs.Common.{◌≡◌, ℕ, ◌≤◌, List, ◌++◌, refl, sym, subst, ◌∙◌, arith}
+use Rattle.std.proofs.Common.{◌≡◌, ℕ, List, ◌++◌, take, refl, sym, subst, ◌∙◌}
 use Rattle.std.specs.Prelude.{◌≢◌, Option, Some, None, IfSome, IfErr, Result}
 use Rattle.plus_io.specs.Faults.{Rose}
 use Rattle.plus_io.specs.Taken.{Took, TookPart}
@@ -18,13 +18,13 @@ use Rattle.plus_validator.specs.declared.judge.Outcome.TheVariants.{Valid, Inval
 use Rattle.plus_validator.specs.declared.run.Run.{Run}
 use Rattle.plus_validator.specs.Halts.{HaltFits}
 use Rattle.plus_validator.specs.Playing.{Begins}
-use Rattle.plus_validator.specs.Leaving.{LeavesReport, StopsWriting, at_end}
+use Rattle.plus_validator.specs.Leaving.{LeavesReport, StopsWriting, at_end, KeepsUp}
 use Rattle.plus_validator.specs.Streaming.{IsPlayedFrom}
 use Rattle.plus_validator.specs.Judged.{IsPlain, IsJudged, SumsUp, Concludes, told, broken, no_memory}
 use Rattle.plus_validator.specs.Validates.{Accepts, Refuses, BreaksOff, IsWhole, RefusesPair, RefusesPairInPart, IsRefusal, IsRefusedIn, EndsUngrounded}
 use Rattle.plus_validator.proofs.Judging.{judged_told, sums_plain}
 use Rattle.plus_validator.proofs.Handing.{took_both, took_part_behind}
-use Rattle.plus_validator.proofs.Leaving.{leaves_played}
+use Rattle.plus_validator.proofs.Leaving.{leaves_played, keeps_more}
 
 -- a fact for the bytes under a name
 some_fact : {A : Type 0} (o : Option A) (P Q : A → Type 0) → ((x : A) → P x → Q x) → IfSome o P → IfSome o Q
@@ -140,3 +140,9 @@ module _ (d : Domain) (p : Problem) (N : Labels) (P : terms.Problem) (most : ℕ
     ends_wanting (told j u o t) h = absurd (judged_memory j.outcome (sums_plain N P run played j u) (sym o ∙ h))
     ends_wanting (broken j u o r t) h = absurd (let k : WriteFault ≡ NoMemory = sym o ∙ h in cc k)
     ends_wanting (no_memory o same) h = subst (LeavesReport d p most bytes old) (sym same) (leaves_played d p N P most first z e n b bytes f.sent run played old mid fits f.took f.out)
+
+-- what is written behind it changes nothing of how far the reading was ahead
+pub ends_keeping : (d : Domain) (p : Problem) (N : Labels) (P : terms.Problem) (most : ℕ) (bytes rest : Option (List ℕ)) (run : Run) (played : Result (Unit {0}) Halt) (old mid new : Option (List ℕ)) (before now : ℕ) (outcome : Outcome) → KeepsUp d p most bytes rest old mid → Concludes N P run played before now mid new outcome → KeepsUp d p most bytes rest old new
+ends_keeping d p N P most bytes rest run played old mid new before now outcome k (told j u o t) = keeps_more d p most bytes rest old mid new j.bytes.items k t
+ends_keeping d p N P most bytes rest run played old mid new before now outcome k (broken j u o r t) = keeps_more d p most bytes rest old mid new (take t.0 j.bytes.items) k t.2
+ends_keeping d p N P most bytes rest run played old mid new before now outcome k (no_memory o same) = subst (KeepsUp d p most bytes rest old) (sym same) k

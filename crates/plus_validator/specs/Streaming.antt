@@ -71,3 +71,9 @@ abbrev pub OnWriteFault : Ending → Type 0 → Type 0
 OnWriteFault WriteFault Q = Q
 OnWriteFault (Played played) Q = Unit {0}
 OnWriteFault ReadFault Q = Unit {0}
+
+-- it ends otherwise than by a fault of the shelf, and so this is
+abbrev pub UnlessReadFault : Ending → Type 0 → Type 0
+UnlessReadFault ReadFault Q = Unit {0}
+UnlessReadFault (Played played) Q = Q
+UnlessReadFault WriteFault Q = Q

@@ -5,7 +5,7 @@ ghost use Rattle.plus_io.specs.Files.{KeepsFiles};
 ghost use Rattle.plus_io.specs.Picks.{ReadsInOrder};
 ghost use Rattle.plus_io.specs.Limits.{text_limit, most_happenings};
 ghost use Rattle.plus_validator.specs.Validates.{Accepts, Refuses, RefusesPair, RefusesPairInPart, IsRefusal, EndsUngrounded};
-ghost use Rattle.plus_validator.specs.Leaving.{StopsReading, StopsWriting, LeavesReport};
+ghost use Rattle.plus_validator.specs.Leaving.{StopsReading, StopsWriting, LeavesReport, KeepsUp};
 ghost use Rattle.plus_validator.specs.Halts.{HaltFits};
 ghost use Rattle.plus_validator.specs.Judged.{Concludes};
 ghost use Rattle.plus_validator.specs.Playing.{IsGroundOf};
@@ -100,6 +100,10 @@ fn validate_ground<S: Shelf, O: Sink>(
     ensures no_memory { result ≡ Outcome.NoMemory → LeavesReport numbering.now.typed.now.domain numbering.now.typed.now.problem happenings
         (S.bytes shelf.old plan.now) (O.taken out.old) (O.taken out.new) }
 
+    // Where the sink failed, the reading was ahead of the report by one piece at most.
+    ensures keeps_up { result ≡ Outcome.WriteFault →
+        KeepsUp numbering.now.typed.now.domain numbering.now.typed.now.problem happenings (S.bytes shelf.old plan.now) (S.rest shelf.new) (O.taken out.old) (O.taken out.new) }
+
     // Of the plan's file at most one byte past its limit is read, and of no other file any.
     ensures reads { ReadsInOrder S.bytes S.picked S.rest S.picks (text_limit + 1) (plan.now ∷ []) shelf.old shelf.new }
     ensures keeps { KeepsFiles S.names S.bytes S.faults shelf.old shelf.new }
@@ -159,6 +163,11 @@ fn validate_numbered<S: Shelf, O: Sink>(
     ensures no_memory { result ≡ Outcome.NoMemory → LeavesReport numbering.now.typed.now.domain numbering.now.typed.now.problem happenings
         (S.bytes shelf.old plan.now) (O.taken out.old) (O.taken out.new) }
 
+    // Where the sink failed, the reading was ahead of the report by one piece at most.
+    ensures keeps_up { result ≡ Outcome.WriteFault →
+        RefusesPairInPart numbering.now.typed.now.domain numbering.now.typed.now.problem (O.taken out.old) (O.taken out.new)
+        ⊎ KeepsUp numbering.now.typed.now.domain numbering.now.typed.now.problem happenings (S.bytes shelf.old plan.now) (S.rest shelf.new) (O.taken out.old) (O.taken out.new) }
+
     // Of the plan's file at most one byte past its limit is read, and of no other file any.
     ensures reads { ReadsInOrder S.bytes S.picked S.rest S.picks (text_limit + 1) (plan.now ∷ []) shelf.old shelf.new }
     ensures keeps { KeepsFiles S.names S.bytes S.faults shelf.old shelf.new }
@@ -208,6 +217,11 @@ pub fn validate<S: Shelf, O: Sink>(
         ⊎ StopsWriting typed.now.domain typed.now.problem happenings (S.bytes shelf.old plan.now) (O.taken out.old) (O.taken out.new)) }
     ensures no_memory { result ≡ Outcome.NoMemory → LeavesReport typed.now.domain typed.now.problem happenings
         (S.bytes shelf.old plan.now) (O.taken out.old) (O.taken out.new) }
+
+    // Where the sink failed, the reading was ahead of the report by one piece at most.
+    ensures keeps_up { result ≡ Outcome.WriteFault →
+        RefusesPairInPart typed.now.domain typed.now.problem (O.taken out.old) (O.taken out.new)
+        ⊎ KeepsUp typed.now.domain typed.now.problem happenings (S.bytes shelf.old plan.now) (S.rest shelf.new) (O.taken out.old) (O.taken out.new) }
 
     // Of the plan's file at most one byte past its limit is read, and of no other file any.
     ensures reads { ReadsInOrder S.bytes S.picked S.rest S.picks (text_limit + 1) (plan.now ∷ []) shelf.old shelf.new }

@@ -14,8 +14,8 @@ ghost use Rattle.plus_validator.specs.Plans.{pair_in};
 ghost use Rattle.plus_validator.specs.Halts.{HaltFits};
 ghost use Rattle.plus_validator.specs.Playing.{IsGroundOf};
 ghost use Rattle.plus_validator.specs.Feeding.{IsFresh};
-ghost use Rattle.plus_validator.specs.Leaving.{StopsReading, BreaksOffSoFar};
-ghost use Rattle.plus_validator.specs.Streaming.{IsPlayedFrom, IsPlayedThrough, ended, OnPlayed, OnReadFault, OnWriteFault};
+ghost use Rattle.plus_validator.specs.Leaving.{StopsReading, BreaksOffSoFar, KeepsUp};
+ghost use Rattle.plus_validator.specs.Streaming.{IsPlayedFrom, IsPlayedThrough, ended, OnPlayed, OnReadFault, OnWriteFault, UnlessReadFault};
 
 use crate::feed::Feed;
 use crate::halt::Halt;
@@ -96,6 +96,9 @@ pub fn play_file<S: Shelf, O: Sink>(
     ensures write_fault { OnWriteFault result (Rose (O.faults out.old) (O.faults out.new) × IfSome (S.bytes shelf.old plan.now) (λ text.
         BreaksOffSoFar feed.old.instances.numbering.now.typed.now.domain feed.old.instances.numbering.now.typed.now.problem happenings
         text (O.taken out.old) (O.taken out.new))) }
+    // What a piece tells is out before the next is read.
+    ensures keeps_up { UnlessReadFault result (KeepsUp feed.old.instances.numbering.now.typed.now.domain feed.old.instances.numbering.now.typed.now.problem
+        happenings (S.bytes shelf.old plan.now) (S.rest shelf.new) (O.taken out.old) (O.taken out.new)) }
     ensures reads { ReadsOnce S.bytes S.picked S.rest S.picks (text_limit + 1) plan.now shelf.old shelf.new }
     ensures keeps { KeepsFiles S.names S.bytes S.faults shelf.old shelf.new }
     ensures no_fall { O.faults out.old ≤ O.faults out.new }

@@ -3,9 +3,9 @@ use Rattle.plus_number.specs.Frac.{fraction_of}
 use Rattle.plus_state.specs.View.{problem_of, labels_of}
 use Rattle.plus_validator.specs.Account.{progress}
 use Rattle.plus_validator.specs.Leaving.{on_way}
-use Rattle.plus_validator.proofs.StreamLemmas.{fresh_now, from_same, reading_same, broken_same}
+use Rattle.plus_validator.proofs.StreamLemmas.{fresh_now, from_same, reading_same, broken_same, keeps_same}
 use Rattle.plus_validator.proofs.Handing.{rose_since}
-use Rattle.plus_validator.proofs.Validating.{ends_valid, ends_refused, ends_reading, ends_broken, ends_wanting}
+use Rattle.plus_validator.proofs.Validating.{ends_valid, ends_refused, ends_reading, ends_broken, ends_wanting, ends_keeping}
 use Rattle.plus_validator.proofs.checking.validate_ground.Goals as goal
 
 pub play_file-requires-clause-expands : goal.play_file-requires-clause-expands
@@ -60,3 +60,14 @@ returns-in-ReadFault-clause-read_fault g c = λ h.
 pub returns-in-WriteFault-clause-write_fault : goal.returns-in-WriteFault-clause-write_fault
 returns-in-WriteFault-clause-write_fault g c = λ h.
     (c.in-WriteFault.ensures.write_fault.0, on_way (broken_same _ _ (labels_of c.args.ground.now) (problem_of fraction_of c.args.ground.now) c.in-Ok.ensures.begins.same _ _ _ _ c.in-WriteFault.ensures.write_fault.1))
+
+pub returns-in-Played-clause-keeps_up : goal.returns-in-Played-clause-keeps_up
+returns-in-Played-clause-keeps_up g c = λ h.
+    ends_keeping c.args.numbering.now.typed.now.domain c.args.numbering.now.typed.now.problem (labels_of c.args.ground.now) (problem_of fraction_of c.args.ground.now)
+    c.args.happenings (g.S.Shelf.bytes c.args.shelf.now c.args.plan.now) (g.S.Shelf.rest c.play_file.new.shelf) c.play_file.new.feed.run c.in-Played.played
+    (g.O.Sink.taken c.args.out.now) (g.O.Sink.taken c.play_file.new.out) _ _ _ c.conclude-outcome.result
+    (keeps_same _ _ (labels_of c.args.ground.now) (problem_of fraction_of c.args.ground.now) c.in-Ok.ensures.begins.same _ _ _ _ _ c.in-Played.ensures.keeps_up) c.conclude-outcome.ensures.concludes
+
+pub returns-in-WriteFault-clause-keeps_up : goal.returns-in-WriteFault-clause-keeps_up
+returns-in-WriteFault-clause-keeps_up g c = λ h.
+    keeps_same _ _ (labels_of c.args.ground.now) (problem_of fraction_of c.args.ground.now) c.in-Ok.ensures.begins.same _ _ _ _ _ c.in-WriteFault.ensures.keeps_up

@@ -28,3 +28,11 @@ returns-clause-refused g c = λ h. inr (c.validate_ground-outcome.ensures.refuse
 
 pub returns-clause-write_fault : goal.returns-clause-write_fault
 returns-clause-write_fault g c = λ h. (let k = c.validate_ground-outcome.ensures.write_fault h in (k.0, inr k.1))
+
+pub returns-in-Err-clause-keeps_up : goal.returns-in-Err-clause-keeps_up
+returns-in-Err-clause-keeps_up g c = λ h.
+    let k = ungrounded_fault c.args.numbering.now.typed.now.domain c.args.numbering.now.typed.now.problem _ _ _ _ c.refuse.result (c.refuse.ensures.refused c.args.numbering.now.typed.now.domain c.args.numbering.now.typed.now.problem c.in-Err.ensures.limits) h in
+    inl k.1
+
+pub returns-clause-keeps_up : goal.returns-clause-keeps_up
+returns-clause-keeps_up g c = λ h. inr (c.validate_ground-outcome.ensures.keeps_up h)

@@ -8,12 +8,13 @@ use Rattle.plus_validator.specs.Account.{Progress, progress}
 use Rattle.plus_validator.specs.Halts.{HasCause}
 use Rattle.plus_validator.specs.Handing.{left}
 use Rattle.plus_validator.specs.Plans.{pair_in}
+use Rattle.plus_validator.specs.Leaving.{unread}
 use Rattle.plus_validator.specs.Feeding.{course, IsPlayedOut}
 use Rattle.plus_validator.proofs.Handing.{took_both, took_none, rose_since, cause_since}
-use Rattle.plus_validator.proofs.Leaving.{out_more, out_reading}
-use Rattle.plus_validator.proofs.Endings.{plays_by, reads_by, fits_by, end_plays, writes_by, flush_breaks}
+use Rattle.plus_validator.proofs.Leaving.{out_more, out_reading, keeps_up}
+use Rattle.plus_validator.proofs.Endings.{plays_by, reads_by, fits_by, end_plays, writes_by, flush_breaks, unless_by}
 use Rattle.plus_validator.proofs.FeedLemmas.{err_map}
-use Rattle.plus_validator.proofs.StreamLemmas.{open_on, fresh_open, fresh_come, open_now, open_then, most_read, halts_more, halts_long, has_more, feeds_same, halts_same, ends_same, ending_same}
+use Rattle.plus_validator.proofs.StreamLemmas.{open_on, fresh_open, fresh_come, open_now, open_then, most_read, halts_more, halts_long, has_more, feeds_same, halts_same, ends_same, ending_same, piece_few, gone_by}
 use Rattle.plus_validator.proofs.stream.play_file.Goals as goal
 
 pub pieces-init : goal.pieces-init
@@ -187,3 +188,35 @@ pub returns-in_default-flush-2-clause-reads : goal.returns-in_default-flush-2-cl
 returns-in_default-flush-2-clause-reads g c =
     taken (once_over _ _ _ _ _ _ 1048576 c.pieces.invariant.told c.in-Ok-read_piece.ensures.told c.in-Ok-read_piece.ensures.most)
     (most_read _ _ _ _ _ _ _ _ _ _ _ c.pieces.invariant.out.come c.in-Ok-read_piece.ensures.piece c.in-Ok-read_piece.ensures.fits c.in-Ok-read_piece.ensures.most)
+
+-- ---- the report is not held back
+
+pub returns-in_default-flush-clause-keeps_up : goal.returns-in_default-flush-clause-keeps_up
+returns-in_default-flush-clause-keeps_up g c = unread (sym c.in-Ok.ensures.rest ∙ Takes-nil _)
+
+pub returns-then-count-eq0-clause-keeps_up : goal.returns-then-count-eq0-clause-keeps_up
+returns-then-count-eq0-clause-keeps_up g c =
+    let waits = c.pieces.invariant.waits in
+    let gone = gone_by _ _ _ _ _ _ _ c.end.result c.end.ensures.ends c.end.ensures.halts in
+    unless_by _ c.end.result _ c.ended.ensures
+    (keeps_up _ _ _ _ _ (progress [] c.args.feed.now.run) c.requires.groundable c.requires.expands.expands c.requires.expands.labels c.requires.fresh.begins _ _ _ c.pieces.feed _ _ waits.idle waits.going c.pieces.invariant.out _ _ _ _
+    c.in-Ok-read_piece.ensures.piece (piece_few _ _ c.in-Ok-read_piece.ensures.fits (omega (arith, c.read_piece.auto.buffer, c.pieces.invariant.room))) gone.1)
+
+pub returns-in-Err-clause-keeps_up : goal.returns-in-Err-clause-keeps_up
+returns-in-Err-clause-keeps_up g c =
+    let waits = c.pieces.invariant.waits in
+    unless_by _ (Err c.in-Err.halt) _ c.ended-in-Err.ensures
+    (keeps_up _ _ _ _ _ (progress [] c.args.feed.now.run) c.requires.groundable c.requires.expands.expands c.requires.expands.labels c.requires.fresh.begins _ _ _ c.pieces.feed _ _ waits.idle waits.going c.pieces.invariant.out _ _ _ _
+    c.in-Ok-read_piece.ensures.piece (piece_few _ _ c.in-Ok-read_piece.ensures.fits (omega (arith, c.read_piece.auto.buffer, c.pieces.invariant.room))) c.in-Err.ensures.halts.took)
+
+pub returns-then-within-count-clause-keeps_up : goal.returns-then-within-count-clause-keeps_up
+returns-then-within-count-clause-keeps_up g c =
+    let waits = c.pieces.invariant.waits in
+    keeps_up _ _ _ _ _ (progress [] c.args.feed.now.run) c.requires.groundable c.requires.expands.expands c.requires.expands.labels c.requires.fresh.begins _ _ _ c.pieces.feed _ _ waits.idle waits.going c.pieces.invariant.out _ _ _ _
+    c.in-Ok-read_piece.ensures.piece (piece_few _ _ c.in-Ok-read_piece.ensures.fits (omega (arith, c.read_piece.auto.buffer, c.pieces.invariant.room))) c.in_default-take.ensures.feeds.took
+
+pub returns-in_default-flush-2-clause-keeps_up : goal.returns-in_default-flush-2-clause-keeps_up
+returns-in_default-flush-2-clause-keeps_up g c =
+    let waits = c.pieces.invariant.waits in
+    keeps_up _ _ _ _ _ (progress [] c.args.feed.now.run) c.requires.groundable c.requires.expands.expands c.requires.expands.labels c.requires.fresh.begins _ _ _ c.pieces.feed _ _ waits.idle waits.going c.pieces.invariant.out _ _ _ _
+    c.in-Ok-read_piece.ensures.piece (piece_few _ _ c.in-Ok-read_piece.ensures.fits (omega (arith, c.read_piece.auto.buffer, c.pieces.invariant.room))) (took_both _ _ _ _ _ c.in_default-take.ensures.feeds.took c.in_default-flush-2.ensures.breaks.took)
