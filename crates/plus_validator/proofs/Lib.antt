@@ -22,6 +22,7 @@ pub mod TextStops
 pub mod Cutting
 pub mod FeedLemmas
 pub mod StreamLemmas
+pub mod KeepingUp
 pub mod Leaving
 pub mod Endings
 pub mod Longer

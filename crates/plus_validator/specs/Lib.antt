@@ -18,6 +18,7 @@ pub mod Playing
 pub mod Halts
 pub mod Stopped
 pub mod Judged
+pub mod KeepingUp
 pub mod Feeding
 pub mod Streaming
 pub mod Laws

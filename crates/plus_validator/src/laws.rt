@@ -1,5 +1,6 @@
 //! What a reader of an answer may rely on, over the definitions alone.
 ghost use Rattle.plus_validator.specs.Laws.{PairOrPlan, OneLine, OneAnswer, OneJudgement, JudgedAsChecked, CheckedAsJudged, CountsFit, TameDecides, InvalidIsNone, Decides, ValidIsTame, InOrderIsTame, InvalidIsTame};
+ghost use Rattle.plus_validator.specs.KeepingUp.{MoreTellsMore, ReadsOnePieceAhead};
 
 /// Where the pair is refused, no plan for it is accepted or refused.
 pub fn pair_or_plan()
@@ -64,4 +65,14 @@ pub fn in_order_is_tame()
 /// A plan that is refused as invalid stays inside the limits.
 pub fn invalid_is_tame()
     ensures { InvalidIsTame }
+{}
+
+/// What the whole lines of a text tell is a beginning of what they tell with more.
+pub fn more_tells_more()
+    ensures { MoreTellsMore }
+{}
+
+/// Where the reading keeps up, it is one piece at most behind any first lines whose report is not out.
+pub fn reads_one_piece_ahead()
+    ensures { ReadsOnePieceAhead }
 {}
