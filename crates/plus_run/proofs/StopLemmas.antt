@@ -1,5 +1,5 @@
 -- What is out where a file failed, put together from what the calls answer.
-use Rattle.std.proofs.Common.{◌≡◌, ℕ, ◌+◌, List, [], ◌∷◌, Option, Some, None, subst, sym, ◌∙◌, IsTrue, inl, inr}
+use Rattle.std.proofs.Common.{◌≡◌, ◌⊎◌, ℕ, ◌+◌, List, [], ◌∷◌, Option, Some, None, subst, sym, ◌∙◌, IsTrue, inl, inr}
 use Rattle.std.specs.Prelude.{IfSome}
 use Rattle.plus_io.specs.Picks.{Pick, ReadsEach, ReadsInOrder}
 use Rattle.plus_tree.specs.declared.trees.Domain.{Domain}
@@ -8,17 +8,18 @@ use Rattle.plus_types.specs.Faults.{is_well_typed}
 use Rattle.plus_report.specs.declared.refusals.Early.{Early}
 use Rattle.plus_report.specs.declared.refusals.Early.TheVariants as es
 use Rattle.plus_report.specs.Refusals.{early_text}
-use Rattle.plus_validator.specs.Leaving.{StopsReading}
+use Rattle.plus_validator.specs.Leaving.{StopsReading, KeepsUp}
+use Rattle.plus_validator.specs.Validates.{RefusesPairInPart}
 use Rattle.plus_report.specs.declared.status.Status.{Status}
 use Rattle.plus_report.specs.declared.status.Status.TheVariants as s
 use Rattle.plus_reply.specs.Statuses.{early_status, Writes}
-use Rattle.plus_reply.specs.Pair.Pair.{SpellsWellTyped}
+use Rattle.plus_reply.specs.Pair.Pair.{SpellsWellTyped, PairRefused}
 use Rattle.plus_io.specs.Limits.{text_limit}
 use Rattle.plus_reply.specs.Pair.Reads.{ReadsPair}
 use Rattle.plus_reply.proofs.PairLemmas.SpelledLemmas.{on_pair}
 use Rattle.plus_run.specs.Command.{Command, Check, ShowDomain, ShowProblem, Numeric, Trial, Translate, Lift, Plan}
 use Rattle.plus_run.specs.Headline.{IsAnswer}
-use Rattle.plus_run.specs.Stopping.{StopsCheck, in_plan, StopsRun}
+use Rattle.plus_run.specs.Stopping.{StopsCheck, in_plan, StopsRun, BreaksCheck, in_line, in_ground, in_report, BreaksRun}
 
 early_no_read : (e : Early) → early_status e ≡ s.ReadFault → ⊥
 early_no_read (es.BadText text start finish word) q = cc
@@ -29,6 +30,16 @@ early_no_read es.DepthOut q = cc
 early_no_read (es.LineTooLong line) q = cc
 early_no_read (es.Literal text start finish) q = cc
 early_no_read (es.TooMany kind most) q = cc
+
+early_no_write : (e : Early) → early_status e ≡ s.WriteFault → ⊥
+early_no_write (es.BadText text start finish word) q = cc
+early_no_write (es.BadLine line start finish) q = cc
+early_no_write (es.TooLong text) q = cc
+early_no_write (es.Depth text at) q = cc
+early_no_write es.DepthOut q = cc
+early_no_write (es.LineTooLong line) q = cc
+early_no_write (es.Literal text start finish) q = cc
+early_no_write (es.TooMany kind most) q = cc
 
 -- where a line is written no file failed
 written_no_read :
@@ -89,3 +100,50 @@ module _ {S : Type 0} (bytes : S → List ℕ → Option (List ℕ)) (picked res
       (m o : Option Command) (files : List ℕ → Option (List ℕ)) (a b c d : ℕ) (r : Status) → IsAnswer m files old new a b c d r
       → m ≡ o → IsNoCheck m → r ≡ s.ReadFault → StopsRun bytes picked rest picks o before after old new
   other_stops m o files a b c d r h e k = stops_as m o r e (nothing_out m files a b c d r k h)
+
+  -- ---- the sink fails
+
+  -- behind the pair
+  pub plan_keeps_up :
+      (n : ℕ) (domain problem plan : List ℕ) (between : S) (d : Domain) (p : Problem)
+      → ReadsEach bytes picked rest picks (text_limit + 1) (domain ∷ problem ∷ []) before between
+      → ReadsPair (bytes before domain) (bytes before problem) d p → IsTrue (is_well_typed d p)
+      → ReadsInOrder bytes picked rest picks (text_limit + 1) (plan ∷ []) between after
+      → bytes between plan ≡ bytes before plan
+      → RefusesPairInPart d p old new ⊎ KeepsUp d p n (bytes between plan) (rest after) old new
+      → BreaksCheck bytes picked rest picks n domain problem plan before after old new
+  plan_keeps_up n domain problem plan between d p both reads typed one same (inl r) =
+      in_ground d p (on_pair (bytes before domain) (bytes before problem) d p (λ ds ps. SpellsWellTyped ds ps d p) reads typed (λ ds ps t. t)) r
+  plan_keeps_up n domain problem plan between d p both reads typed one same (inr k) =
+      in_report between d p both (on_pair (bytes before domain) (bytes before problem) d p (λ ds ps. SpellsWellTyped ds ps d p) reads typed (λ ds ps t. t)) one
+      (subst (λ b. KeepsUp d p n b (rest after) old new) same k)
+
+  -- in the one line that refuses the pair
+  pub line_keeps_up :
+      (n : ℕ) (domain problem plan : List ℕ) (e : Early) (a b : ℕ) (r : Status)
+      → IfSome (bytes before domain) (λ ds. IfSome (bytes before problem) (λ ps. PairRefused ds ps e))
+      → Writes (early_text e) (early_status e) old new a b r → r ≡ s.WriteFault
+      → BreaksCheck bytes picked rest picks n domain problem plan before after old new
+  line_keeps_up n domain problem plan e a b r h (inl w) v = absurd (early_no_write e (sym w.0 ∙ v))
+  line_keeps_up n domain problem plan e a b r h (inr w) v = in_line e h w.2
+
+  -- the same command, under another name
+  pub keeps_up_as :
+      (m o : Option Command) (r : Status) → m ≡ o → (r ≡ s.WriteFault → BreaksRun bytes picked rest picks m before after old new)
+      → r ≡ s.WriteFault → BreaksRun bytes picked rest picks o before after old new
+  keeps_up_as m o r e h v = subst (λ x. BreaksRun bytes picked rest picks x before after old new) e (h v)
+
+  nothing_said : (m : Option Command) → IsNoCheck m → BreaksRun bytes picked rest picks m before after old new
+  nothing_said None k = tt
+  nothing_said (Some (Check x y z n)) k = absurd k
+  nothing_said (Some (ShowDomain x)) k = tt
+  nothing_said (Some (ShowProblem x)) k = tt
+  nothing_said (Some (Numeric x y z)) k = tt
+  nothing_said (Some (Trial n)) k = tt
+  nothing_said (Some (Translate file q x y)) k = tt
+  nothing_said (Some (Lift q x y z)) k = tt
+  nothing_said (Some (Plan q k' n x y)) k = tt
+
+  -- another command than a check
+  pub other_keeps_up : (m o : Option Command) (r : Status) → m ≡ o → IsNoCheck m → r ≡ s.WriteFault → BreaksRun bytes picked rest picks o before after old new
+  other_keeps_up m o r e k v = subst (λ x. BreaksRun bytes picked rest picks x before after old new) e (nothing_said m k)

@@ -9,7 +9,7 @@ ghost use Rattle.plus_run.specs.Command.{command_of, files_of};
 ghost use Rattle.plus_run.specs.Laws.{DecidesFor};
 ghost use Rattle.plus_run.specs.Headline.{IsAnswer, usage_line};
 ghost use Rattle.plus_run.specs.Meant.{meant};
-ghost use Rattle.plus_run.specs.Stopping.{StopsRun};
+ghost use Rattle.plus_run.specs.Stopping.{StopsRun, BreaksRun};
 
 use crate::command::{Check, Command, parse};
 use crate::numeric::numeric;
@@ -44,6 +44,8 @@ fn check<S: Shelf, O: Sink>(
         (O.faults out.old) (O.faults out.new) result }
     ensures stops { result ≡ Status.ReadFault → StopsRun S.bytes S.picked S.rest S.picks
         (Some (meant (Command.Check files.entry))) shelf.old shelf.new (O.taken out.old) (O.taken out.new) }
+    ensures keeps_up { result ≡ Status.WriteFault → BreaksRun S.bytes S.picked S.rest S.picks
+        (Some (meant (Command.Check files.entry))) shelf.old shelf.new (O.taken out.old) (O.taken out.new) }
     ensures reads { ReadsInOrder S.bytes S.picked S.rest S.picks (text_limit + 1)
         (files_of (Some (meant (Command.Check files.entry)))) shelf.old shelf.new }
     ensures keeps { KeepsFiles S.names S.bytes S.faults shelf.old shelf.new }
@@ -74,6 +76,8 @@ fn carry_out<S: Shelf, O: Sink>(
         (O.taken out.old) (O.taken out.new) (S.faults shelf.old) (S.faults shelf.new)
         (O.faults out.old) (O.faults out.new) result }
     ensures stops { result ≡ Status.ReadFault → StopsRun S.bytes S.picked S.rest S.picks
+        (command_of (map string_bytes words.now)) shelf.old shelf.new (O.taken out.old) (O.taken out.new) }
+    ensures keeps_up { result ≡ Status.WriteFault → BreaksRun S.bytes S.picked S.rest S.picks
         (command_of (map string_bytes words.now)) shelf.old shelf.new (O.taken out.old) (O.taken out.new) }
     ensures reads { ReadsInOrder S.bytes S.picked S.rest S.picks (text_limit + 1)
         (files_of (command_of (map string_bytes words.now))) shelf.old shelf.new }
@@ -112,6 +116,11 @@ pub fn run<S: Shelf, O: Sink>(
     // Where a file failed, it tells exactly what is out: of a check the report of all lines of the plan
     // that were read whole, and of every other command nothing.
     ensures stops { result ≡ Status.ReadFault → StopsRun S.bytes S.picked S.rest S.picks
+        (command_of (map string_bytes words.now)) shelf.old shelf.new (O.taken out.old) (O.taken out.new) }
+
+    // Where the sink failed in a check, at most one piece of the plan was read behind the lines whose
+    // report is out.
+    ensures keeps_up { result ≡ Status.WriteFault → BreaksRun S.bytes S.picked S.rest S.picks
         (command_of (map string_bytes words.now)) shelf.old shelf.new (O.taken out.old) (O.taken out.new) }
 
     // Of a plan that stays inside the limits it tells whether there is a trajectory.

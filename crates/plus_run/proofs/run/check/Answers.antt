@@ -4,7 +4,7 @@ use Rattle.plus_io.proofs.Readings.{each_then, of_more}
 use Rattle.plus_run.proofs.RunLemmas.{only_broken, only_read, only_memory, no_usage, rose_before, valid_run, plan_refused, plan_broken, plan_stopped, plan_unread, pair_refused, pair_broken}
 use Rattle.plus_run.proofs.AnswerLemmas.{some_none, line_answer}
 use Rattle.plus_run.specs.Stopping.{in_pair}
-use Rattle.plus_run.proofs.StopLemmas.{line_no_read, plan_stops}
+use Rattle.plus_run.proofs.StopLemmas.{line_no_read, plan_stops, plan_keeps_up, line_keeps_up}
 use Rattle.plus_run.proofs.run.check.Goals as goal
 
 pub returns-in-Ok-clause-answers : goal.returns-in-Ok-clause-answers
@@ -71,3 +71,17 @@ returns-in-Err-Early-clause-stops g c =
 
 pub returns-in-Err-ReadFault-clause-stops : goal.returns-in-Err-ReadFault-clause-stops
 returns-in-Err-ReadFault-clause-stops g c = λ v. in_pair c.in-Err-ReadFault.ensures.reads refl
+
+-- ---- how far the plan is read where the sink failed
+
+pub returns-in-Ok-clause-keeps_up : goal.returns-in-Ok-clause-keeps_up
+returns-in-Ok-clause-keeps_up g c = λ v.
+    plan_keeps_up _ _ _ _ _ _ _ _ _ _ _ _ _ c.in-Ok.typed.domain c.in-Ok.typed.problem c.in-Ok.ensures.both c.in-Ok.ensures.read c.in-Ok.typed.well_typed
+    c.validate-outcome.ensures.reads (ap (λ f. f c.args.files.plan.now) c.in-Ok.ensures.keeps.same_bytes)
+    (c.validate-outcome.ensures.keeps_up (only_broken c.validate-outcome.result (sym c.status.ensures ∙ v)))
+
+pub returns-in-Err-Early-clause-keeps_up : goal.returns-in-Err-Early-clause-keeps_up
+returns-in-Err-Early-clause-keeps_up g c =
+    let line = rw c.in-Err-Early.early-is at c.refuse.ensures.writes in
+    let cause = rw c.in-Err-Early.field-0-is at c.in-Err-Early.ensures.not_read in
+    line_keeps_up _ _ _ _ _ _ _ _ _ _ _ _ c.in-Err-Early.early _ _ _ cause line
