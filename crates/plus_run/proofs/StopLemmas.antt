@@ -19,6 +19,7 @@ use Rattle.plus_reply.specs.Pair.Reads.{ReadsPair}
 use Rattle.plus_reply.proofs.PairLemmas.SpelledLemmas.{on_pair}
 use Rattle.plus_run.specs.Command.{Command, Check, ShowDomain, ShowProblem, Numeric, Trial, Translate, Lift, Plan}
 use Rattle.plus_run.specs.Headline.{IsAnswer}
+use Rattle.plus_run.proofs.RunLemmas.{early_plain}
 use Rattle.plus_run.specs.Stopping.{StopsCheck, in_plan, StopsRun, BreaksCheck, in_line, in_ground, in_report, BreaksRun}
 
 early_no_read : (e : Early) → early_status e ≡ s.ReadFault → ⊥
@@ -30,16 +31,6 @@ early_no_read es.DepthOut q = cc
 early_no_read (es.LineTooLong line) q = cc
 early_no_read (es.Literal text start finish) q = cc
 early_no_read (es.TooMany kind most) q = cc
-
-early_no_write : (e : Early) → early_status e ≡ s.WriteFault → ⊥
-early_no_write (es.BadText text start finish word) q = cc
-early_no_write (es.BadLine line start finish) q = cc
-early_no_write (es.TooLong text) q = cc
-early_no_write (es.Depth text at) q = cc
-early_no_write es.DepthOut q = cc
-early_no_write (es.LineTooLong line) q = cc
-early_no_write (es.Literal text start finish) q = cc
-early_no_write (es.TooMany kind most) q = cc
 
 -- where a line is written no file failed
 written_no_read :
@@ -124,7 +115,7 @@ module _ {S : Type 0} (bytes : S → List ℕ → Option (List ℕ)) (picked res
       → IfSome (bytes before domain) (λ ds. IfSome (bytes before problem) (λ ps. PairRefused ds ps e))
       → Writes (early_text e) (early_status e) old new a b r → r ≡ s.WriteFault
       → BreaksCheck bytes picked rest picks n domain problem plan before after old new
-  line_keeps_up n domain problem plan e a b r h (inl w) v = absurd (early_no_write e (sym w.0 ∙ v))
+  line_keeps_up n domain problem plan e a b r h (inl w) v = absurd (early_plain e (sym w.0 ∙ v))
   line_keeps_up n domain problem plan e a b r h (inr w) v = in_line e h w.2
 
   -- the same command, under another name

@@ -3,6 +3,7 @@ use Rattle.std.proofs.Common.{◌≡◌, ◌⊎◌, ℕ, ◌+◌, ◌<◌, ◌�
 use Rattle.std.specs.Prelude.{◌≢◌, All, Result, Ok}
 use Rattle.std.proofs.lemmas.List.{length-take-le}
 use Rattle.std.proofs.lemmas.List.Elements.{All-head, All-tail}
+use Rattle.plus_io.specs.Limits.{piece_size}
 use Rattle.plus_io.specs.Files.{IsPrefix, Takes}
 use Rattle.plus_io.specs.Taken.{Took, TookPart}
 use Rattle.plus_model.specs.Terms as terms
@@ -27,9 +28,9 @@ use Rattle.plus_report.proofs.ReportLemmas.{report_of-grown}
 use Rattle.plus_validator.specs.Plans.{Pair, lines_meant, plan_of}
 use Rattle.plus_validator.specs.Asking.{instances_of}
 use Rattle.plus_validator.specs.Refused.{IsWaiting}
-use Rattle.plus_validator.specs.Leaving.{IsToldSoFar, TellsSoFar, KeepsUp, unread, ahead, piece_limit}
+use Rattle.plus_validator.specs.Leaving.{IsToldSoFar, TellsSoFar, KeepsUp, unread, ahead}
 use Rattle.plus_validator.specs.KeepingUp.{MoreTellsMore, ReadsOnePieceAhead}
-use Rattle.plus_validator.proofs.TextStops.{lines_meant-more, goes_on, begun_more}
+use Rattle.plus_validator.proofs.TextStops.{lines_meant-more, goes_on, begun_more, unbegun_is, report_more}
 
 -- ---- whole lines
 
@@ -74,24 +75,6 @@ lines_kept w v ls ls' at e f =
     (sym f ∙ ap (numbered Timed 1) (behind_line w v at) ∙ numbered-append Timed 1 n (lines_of w) (lines_of v) refl ∙ ap (λ rs. rs ++ numbered Timed n (lines_of v)) e)
 
 -- ---- histories
-
-unbegun_rest : (P : terms.Problem) (L : Plan) (v : View) (ps : List Part) → (HasBegun L → ⊥) → Follow P L v ps → ps ≡ []
-unbegun_rest P L v [] n f = refl
-unbegun_rest P L v (p ∷ ps) n f = absurd (n f.0)
-
-unbegun_is : (P : terms.Problem) (L : Plan) (h : List Part) → (HasBegun L → ⊥) → Prefix P L h → h ≡ first_part P ∷ []
-unbegun_is P L h n p = p.begins ∙ ap (λ r. first_part P ∷ r) (unbegun_rest P L (first_view P) p.rest n p.follow)
-
-report_from_more : (N : Labels) (P : terms.Problem) (L : Plan) (s : State) (a b : List Part) → (more : List ℕ) × (report_from N P L s (a ++ b) ≡ report_from N P L s a ++ more)
-unfolding report_from
-report_from_more N P L s [] b = (report_from N P L s b, refl)
-report_from_more N P L s (p ∷ a) b =
-    let k = report_from_more N P L (state_after s p) a b in
-    (k.0, ap (λ t. part_text N P L s p ++ t) k.1 ∙ sym (append_assoc (part_text N P L s p) (report_from N P L (state_after s p) a) k.0))
-
-report_more : (N : Labels) (P : terms.Problem) (L : Plan) (a b : List Part) → (more : List ℕ) × (report_of N P L (a ++ b) ≡ report_of N P L a ++ more)
-unfolding report_of
-report_more N P L a b = report_from_more N P L P.initial a b
 
 module _ (d : Pair) (P : terms.Problem) (most : ℕ) (ls m : List Line) (g h : List Part) (a : Prefix P (plan_of d ls false) g) (b : Prefix P (plan_of d (ls ++ m) false) h) where
   -- where no line of a plan is read, the first part is all
@@ -163,16 +146,13 @@ taken_length old a b e =
     let l : length (old ++ a) ≡ length (old ++ b) = ap length e in
     omega (arith, length-append old a, length-append old b)
 
-some_is : {A : Type 0} (a b : A) → Some a ≡ Some b → a ≡ b
-some_is a b e = cc e
-
 pub reads_one_piece_ahead : ReadsOnePieceAhead
 reads_one_piece_ahead d p most text rest old new front report (unread t) begins told part =
-    let is : text ≡ rest = some_is text rest t in
+    let is : text ≡ rest = cc t in
     let l : length text ≡ length rest = ap length is in
     omega arith
 reads_one_piece_ahead d p most text rest old new front report (ahead read piece out more t few told' took) begins told part =
-    let is : text ≡ (read ++ piece) ++ rest = some_is text ((read ++ piece) ++ rest) t in
+    let is : text ≡ (read ++ piece) ++ rest = cc t in
     let l : length text ≡ length ((read ++ piece) ++ rest) = ap length is in
     let sum = length-append (read ++ piece) rest in
     let sum' = length-append read piece in
@@ -180,7 +160,7 @@ reads_one_piece_ahead d p most text rest old new front report (ahead read piece 
       | not_longer s ↦ omega arith
       | longer m i ↦
           let k = more_tells_more d p most front m report out told (subst (λ (z : List ℕ). TellsSoFar d p most z out) i told') in
-          let same = taken_length old (out ++ more) (take part.0 report) (some_is (old ++ (out ++ more)) (old ++ take part.0 report) (sym took ∙ part.2)) in
+          let same = taken_length old (out ++ more) (take part.0 report) (let q : old ++ (out ++ more) ≡ old ++ take part.0 report = cc (sym took ∙ part.2) in q) in
           let longer' : length out ≡ length (report ++ k.0) = ap length k.1 in
           let a = length-append report k.0 in
           let b = length-append out more in

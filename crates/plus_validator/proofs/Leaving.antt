@@ -2,6 +2,7 @@
 use Rattle.std.proofs.Common.{◌≡◌, ℕ, ◌<◌, ◌≤◌, Bool, true, false, List, [], ◌∷◌, ◌++◌, map, length, take, Option, Some, None, refl, subst, sym, ap, ◌∙◌, arith, append-nil, append_assoc, length-append, inl, inr}
 use Rattle.std.specs.Prelude.{All, IfSome, IfErr, Result, Ok, Err}
 use Rattle.std.proofs.lemmas.List.{take_at}
+use Rattle.plus_io.specs.Limits.{piece_size}
 use Rattle.plus_io.specs.Files.{Takes}
 use Rattle.plus_io.specs.Taken.{Took}
 use Rattle.plus_io.proofs.Pieces.{Takes-append}
@@ -36,7 +37,7 @@ use Rattle.plus_validator.specs.Stopped.{IsCutShortInText, IsStoppedInText}
 use Rattle.plus_validator.specs.Validates.{IsRead}
 use Rattle.plus_validator.specs.Feeding.{Course, course, IsFed, HaltsWith, PlaysText, IsPlayedOut}
 use Rattle.plus_validator.specs.Streaming.{HasCome, IsOut}
-use Rattle.plus_validator.specs.Leaving.{IsToldSoFar, TellsSoFar, TellsOnWay, TookSoFar, LeavesReport, BreaksOffSoFar, StopsReading, reading, KeepsUp, unread, ahead, piece_limit}
+use Rattle.plus_validator.specs.Leaving.{IsToldSoFar, TellsSoFar, TellsOnWay, TookSoFar, LeavesReport, BreaksOffSoFar, StopsReading, reading, KeepsUp, unread, ahead}
 use Rattle.plus_validator.proofs.Cutting.{cut_here, no_lf_from}
 use Rattle.plus_validator.proofs.Handing.{took_both, kept_behind}
 use Rattle.plus_validator.proofs.Played.{all_more}
@@ -109,7 +110,7 @@ module _ (d : Domain) (p : tree.Problem) (N : Labels) (P : Problem) (most : ℕ)
       (told_come d p N P most first z e n b bytes rest total (course out.sent feed) i o out.come) report_out
 
   -- and so a piece that is read then is the one that it is ahead
-  pub keeps_up : (left new : Option (List ℕ)) (piece more : List ℕ) → Takes rest left piece → length piece ≤ piece_limit → Took now new more → KeepsUp d p most bytes left old new
+  pub keeps_up : (left new : Option (List ℕ)) (piece more : List ℕ) → Takes rest left piece → length piece ≤ piece_size → Took now new more → KeepsUp d p most bytes left old new
   keeps_up left new piece more t l k =
       ahead out.come.text piece (course out.sent feed).run.account.report more (Takes-append bytes rest left out.come.text piece out.come.front t) l
       (told_come d p N P most first z e n b bytes rest total (course out.sent feed) i o out.come)

@@ -206,7 +206,7 @@ time_refutes d P ls line h meant time n v e (goes_back b f k) = refutes d P (ls 
 
 -- ---- the lines before are worked on the way
 
-unbegun_is : (P : Problem) (L : Plan) (h : List Part) → (HasBegun L → ⊥) → Prefix P L h → h ≡ first_part P ∷ []
+pub unbegun_is : (P : Problem) (L : Plan) (h : List Part) → (HasBegun L → ⊥) → Prefix P L h → h ≡ first_part P ∷ []
 unbegun_is P L h n p = p.begins ∙ ap (λ r. first_part P ∷ r) (unbegun_rest P L (first_view P) p.rest n p.follow)
 
 pub some_more : (xs ys : List model.Line) → xs ++ ys ≡ [] → xs ≡ []
@@ -252,7 +252,7 @@ report_from_more N P L s (p ∷ a) b =
     let k = report_from_more N P L (state_after s p) a b in
     (k.0, ap (λ t. part_text N P L s p ++ t) k.1 ∙ sym (append_assoc (part_text N P L s p) (report_from N P L (state_after s p) a) k.0))
 
-report_more : (N : Labels) (P : Problem) (L : Plan) (a b : List Part) → (more : List ℕ) × (report_of N P L (a ++ b) ≡ report_of N P L a ++ more)
+pub report_more : (N : Labels) (P : Problem) (L : Plan) (a b : List Part) → (more : List ℕ) × (report_of N P L (a ++ b) ≡ report_of N P L a ++ more)
 unfolding report_of
 report_more N P L a b = report_from_more N P L P.initial a b
 

@@ -1,10 +1,11 @@
 -- What the first lines of a plan text tell, and how far its reading is ahead of the report.
 use Rattle.std.specs.Prelude.{ℕ, ◌+◌, ◌<◌, List, ◌++◌, length, Some}
+use Rattle.plus_io.specs.Limits.{piece_size}
 use Rattle.plus_io.specs.Files.{IsPrefix}
 use Rattle.plus_io.specs.Taken.{TookPart}
 use Rattle.plus_tree.specs.declared.trees.Domain.{Domain}
 use Rattle.plus_tree.specs.declared.trees.Problem.{Problem}
-use Rattle.plus_validator.specs.Leaving.{TellsSoFar, KeepsUp, piece_limit}
+use Rattle.plus_validator.specs.Leaving.{TellsSoFar, KeepsUp}
 
 -- the report for the whole lines of a text is a beginning of that for the whole lines of one that goes on behind it
 abbrev pub MoreTellsMore : Type 0
@@ -18,4 +19,4 @@ abbrev pub ReadsOnePieceAhead : Type 0
 ReadsOnePieceAhead =
     (d : Domain) (p : Problem) (most : ℕ) (text rest old new front report : List ℕ)
     → KeepsUp d p most (Some text) (Some rest) (Some old) (Some new) → IsPrefix front text → TellsSoFar d p most front report
-    → TookPart (Some old) (Some new) report → length text < length front + piece_limit + length rest
+    → TookPart (Some old) (Some new) report → length text < length front + piece_size + length rest

@@ -1,6 +1,7 @@
 -- What the check of a plan leaves written where it stops before the plan is judged: what the lines read so far tell.
 use Rattle.std.specs.Prelude.{◌≡◌, ◌⊎◌, ℕ, ◌≤◌, Bool, false, List, [], ◌++◌, length, map, All, Option, None, IfSome, Ok}
 use Rattle.plus_io.specs.Files.{Takes, IsPrefix}
+use Rattle.plus_io.specs.Limits.{piece_size}
 use Rattle.plus_io.specs.Taken.{Took, TookPart}
 use Rattle.plus_model.specs.Terms.{Problem}
 use Rattle.plus_model.specs.History.{Part}
@@ -112,14 +113,10 @@ pub data StopsWriting (d : Domain) (p : tree.Problem) (most : ℕ) (bytes old ne
 
 -- ---- the report is not held back
 
--- how many bytes of a plan are read at once at most
-abbrev pub piece_limit : ℕ
-piece_limit = 4096
-
 -- The reading of a plan is ahead of its report by one piece at most, where the shelf tells what it holds: nothing was read of it; or a
 -- front and one piece more, and the report of all lines that stand whole in the front is out.
 pub data KeepsUp (d : Domain) (p : tree.Problem) (most : ℕ) (bytes rest old new : Option (List ℕ)) : Type 0 where
   unread : Takes bytes rest [] → KeepsUp d p most bytes rest old new
   ahead :
-      (front piece report more : List ℕ) → Takes bytes rest (front ++ piece) → length piece ≤ piece_limit → TellsSoFar d p most front report
+      (front piece report more : List ℕ) → Takes bytes rest (front ++ piece) → length piece ≤ piece_size → TellsSoFar d p most front report
       → Took old new (report ++ more) → KeepsUp d p most bytes rest old new
