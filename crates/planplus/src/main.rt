@@ -5,15 +5,21 @@ mod explain;
 mod files;
 mod screen;
 
-ghost use Rattle.std.specs.Prelude.{◌≡◌, ◌⊎◌, map, string_bytes, None};
+ghost use Rattle.std.specs.Prelude.{◌≡◌, ◌⊎◌, ◌≤◌, ◌+◌, map, string_bytes, None};
 ghost use Rattle.std.specs.Process.{exit_status};
-ghost use Rattle.plus_run.specs.Command.{command_of};
-ghost use Rattle.plus_run.specs.Headline.{IsAnswer, EndsWith};
+ghost use Rattle.plus_io.specs.Files.{KeepsFiles};
+ghost use Rattle.plus_io.specs.Limits.{text_limit};
+ghost use Rattle.plus_io.specs.Picks.{ReadsInOrder};
+ghost use Rattle.plus_run.specs.Command.{command_of, files_of};
+ghost use Rattle.plus_run.specs.Headline.{IsAnswer, EndsWith, MayEnd};
+ghost use Rattle.plus_run.specs.Laws.{DecidesFor};
+ghost use Rattle.plus_run.specs.Stopping.{StopsRun, BreaksRun};
 
 use explain::explain;
 use files::shelf_for;
 use plus_explain::{Ending, Kept};
 use plus_io::{Freeing, Shelf, Sink};
+use plus_report::Status;
 use plus_run::run::run;
 use screen::StdSink;
 use std::alloc::Global;
@@ -43,9 +49,21 @@ fn conclude<S: Shelf, O: Sink>(
     shelf: &mut S,
     out: &mut O,
 ) -> ExitCode
-    ensures { EndsWith (exit_status result) (IsAnswer (command_of (map string_bytes words.now))
+    ensures answers { EndsWith (exit_status result) (IsAnswer (command_of (map string_bytes words.now))
         (S.bytes shelf.old) (O.taken out.old) (O.taken out.new) (S.faults shelf.old)
         (S.faults shelf.new) (O.faults out.old) (O.faults out.new)) }
+    ensures stops { EndsWith (exit_status result) (λ status. status ≡ Status.ReadFault
+        → StopsRun S.bytes S.picked S.rest S.picks (command_of (map string_bytes words.now))
+        shelf.old shelf.new (O.taken out.old) (O.taken out.new)) }
+    ensures keeps_up { EndsWith (exit_status result) (λ status. status ≡ Status.WriteFault
+        → BreaksRun S.bytes S.picked S.rest S.picks (command_of (map string_bytes words.now))
+        shelf.old shelf.new (O.taken out.old) (O.taken out.new)) }
+    ensures decides { EndsWith (exit_status result)
+        (DecidesFor (command_of (map string_bytes words.now)) (S.bytes shelf.old)) }
+    ensures reads { ReadsInOrder S.bytes S.picked S.rest S.picks (text_limit + 1)
+        (files_of (command_of (map string_bytes words.now))) shelf.old shelf.new }
+    ensures keeps { KeepsFiles S.names S.bytes S.faults shelf.old shelf.new }
+    ensures no_fall { O.faults out.old ≤ O.faults out.new }
 {
     run(alloc, words, shelf, out, Freeing::AtExit).exit_code()
 }
@@ -54,8 +72,13 @@ fn conclude<S: Shelf, O: Sink>(
 // they were answered so.
 fn perform<R: Files + Print + Eprint>(rt: &R, alloc: Global, words: &[String]) -> ExitCode
     // Words that are no command end so, unless the output failed or there was no memory.
-    ensures { command_of (map string_bytes words.now) ≡ None →
+    ensures no_command { command_of (map string_bytes words.now) ≡ None →
         (exit_status result ≡ 4) ⊎ (exit_status result ≡ 6) ⊎ (exit_status result ≡ 7) }
+    // No other words end so.
+    ensures usage { exit_status result ≡ 4 → command_of (map string_bytes words.now) ≡ None }
+    // There was no memory to begin, or these words may be answered so.
+    ensures allowed { (exit_status result ≡ 7)
+        ⊎ MayEnd (command_of (map string_bytes words.now)) (exit_status result) }
 {
     match shelf_for(rt, alloc, words) {
         Ok(shelf) => {

@@ -212,14 +212,3 @@ pair_broken n domain problem plan e old new before now r h (inr w) v =
     told domain problem e (λ ds ps. IsBrokenRun n ds ps plan old new) h (λ ds ps x. in_pair e x w.2)
 
 -- ---- the number of the process
-
--- words that are no command end with the number of the usage line, or of a failed output
-pub ends_unknown :
-    (number : ℕ) (command : Option Command) (bytes : List ℕ → Option (List ℕ)) (old new : Option (List ℕ)) (read_before read_now write_before write_now : ℕ)
-    → EndsWith number (IsAnswer command bytes old new read_before read_now write_before write_now) → command ≡ None
-    → (number ≡ 4) ⊎ (number ≡ 6) ⊎ (number ≡ 7)
-ends_unknown number command bytes old new read_before read_now write_before write_now (status, is, answer) none =
-    elim (answer.no_command none) [
-      | inl w ↦ inl (is ∙ ap exit_number w.0)
-      | inr w ↦ inr (inl (is ∙ ap exit_number w.0))
-    ]

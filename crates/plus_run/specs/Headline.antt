@@ -165,3 +165,14 @@ pub record IsAnswer (command : Option Command) (bytes : List ℕ → Option (Lis
 -- a process ends with this number, which is that of a status that shows so much
 abbrev pub EndsWith : ℕ → (Status → Type 0) → Type 0
 EndsWith number P = (status : Status) × (number ≡ exit_number status) × P status
+
+-- A process may end with this number after this command: with some files, an output and their faults an answer shows so much.
+pub record MayEnd (command : Option Command) (number : ℕ) : Type 0 where
+  pub bytes : List ℕ → Option (List ℕ)
+  pub old : Option (List ℕ)
+  pub new : Option (List ℕ)
+  pub read_before : ℕ
+  pub read_now : ℕ
+  pub write_before : ℕ
+  pub write_now : ℕ
+  pub ends : EndsWith number (IsAnswer command bytes old new read_before read_now write_before write_now)
