@@ -210,5 +210,3 @@ pub pair_broken :
 pair_broken n domain problem plan e old new before now r h (inl w) v = absurd (early_plain e (sym w.0 ∙ v))
 pair_broken n domain problem plan e old new before now r h (inr w) v =
     told domain problem e (λ ds ps. IsBrokenRun n ds ps plan old new) h (λ ds ps x. in_pair e x w.2)
-
--- ---- the number of the process
