@@ -1,15 +1,15 @@
 //! The ground problem of a well-typed pair, and the instance of a call.
 
-ghost use Rattle.std.specs.Prelude.{◌≡◌, None, Some, length, slice_get, nat_eq, IfOk, MatchResult, MatchOption, if◌then◌else◌};
+ghost use Rattle.std.specs.Prelude.{◌≡◌, None, Some, [], true, length, map, slice_get, nat_eq, IfOk, MatchResult, MatchOption, if◌then◌else◌};
 ghost use Rattle.std.specs.List.{list_any, position_or_len};
 ghost use Rattle.std.specs.Str.{bytes_eq};
 ghost use Rattle.plus_model.specs.Running.{IsRising};
-ghost use Rattle.plus_state.specs.View.{problem_of, labels_of, action_of};
+ghost use Rattle.plus_state.specs.View.{problem_of, labels_of, action_of, condition_of, process_of, event_of};
 ghost use Rattle.plus_state.specs.Fits.{ActionFits};
 ghost use Rattle.plus_types.specs.Faults.{action_names};
 ghost use Rattle.plus_numbering.specs.Numbered.{context};
-ghost use Rattle.plus_expansion.specs.Numbers.{ground_names};
-ghost use Rattle.plus_expansion.specs.Expansion.{expanded, labels_meant};
+ghost use Rattle.plus_expansion.specs.Numbers.{ground_names, ground_labels};
+ghost use Rattle.plus_expansion.specs.Expansion.{expanded, labels_meant, initial_state, condition_meant, instances_of, process_meant, event_meant};
 ghost use Rattle.plus_expansion.specs.Calls.{called_of, bound_by};
 ghost use Rattle.plus_expansion.specs.Counting.{IsGroundable};
 ghost use Rattle.plus_ground.specs.Refusals.{IsInstance, RefusesGround, RefusesCall};
@@ -22,7 +22,7 @@ use crate::schemas::{action, events, processes};
 use crate::timed_literals::timed_literals;
 use plus_literal::FromParts;
 use plus_numbering::{GroundFault, Numbering, fit, is_small, schema_fits, within};
-use plus_state::{Action, Ground};
+use plus_state::{Action, Cond, Event, Ground, Label, Process, State};
 use plus_tree::{Call, Name, Schema, TypedName};
 use plus_types::Typed;
 use std::alloc::{AllocError, Global};

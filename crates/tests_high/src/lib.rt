@@ -5,6 +5,8 @@
 #[cfg(test)]
 mod edges;
 #[cfg(test)]
+mod farms;
+#[cfg(test)]
 mod lifts;
 #[cfg(test)]
 mod limits;

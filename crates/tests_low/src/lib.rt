@@ -23,5 +23,3 @@ mod reports;
 mod searches;
 #[cfg(test)]
 mod tokens;
-#[cfg(test)]
-mod trials;
