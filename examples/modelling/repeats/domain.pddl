@@ -1,4 +1,4 @@
-; An alarm sounds where the water is high. The event undoes its own condition: where the alarm sounds it holds no more.
+; An alarm sounds where the water is high. The event holds again as soon as it has fired.
 (define (domain cellar)
  (:predicates (alarm))
  (:functions (water))
@@ -7,5 +7,5 @@
   :effect (increase (water) (* #t 2)))
  (:event flood
   :parameters ()
-  :precondition (and (not (alarm)) (>= (water) 5))
+  :precondition (>= (water) 5)
   :effect (alarm)))

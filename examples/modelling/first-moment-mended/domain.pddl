@@ -1,5 +1,4 @@
-; A kettle must not get hotter than 80. The event holds at every moment after the mark is reached, and not at it: it has no
-; first moment.
+; A kettle must not get hotter than 80. What breaks the rule is an event at the mark itself, so that it has a first moment.
 (define (domain kettle)
  (:predicates (on) (spoilt))
  (:functions (temperature))
@@ -17,5 +16,5 @@
   :effect (increase (temperature) (* #t 30)))
  (:event too-hot
   :parameters ()
-  :precondition (and (not (spoilt)) (> (temperature) 80))
+  :precondition (and (not (spoilt)) (>= (temperature) 81))
   :effect (spoilt)))

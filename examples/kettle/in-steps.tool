@@ -1,0 +1,1 @@
+0 steps 1/2 domain.pddl problem.pddl lifted.plan

@@ -1,0 +1,1 @@
+1 steps 1/2 domain.pddl problem.pddl four.plan

@@ -1,0 +1,1 @@
+0 steps 1 domain.pddl problem.pddl four.plan

@@ -1,0 +1,1 @@
+0 plan-lines times.txt

@@ -1,0 +1,1 @@
+1 plan-lines unknown.txt

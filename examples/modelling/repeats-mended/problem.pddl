@@ -1,0 +1,4 @@
+(define (problem rain)
+ (:domain cellar)
+ (:init (= (water) 0))
+ (:goal (alarm)))
