@@ -37,61 +37,22 @@ fn limits<Q: FromParts>(numbering: &Numbering) -> Result<(), GroundFault>
     fit::<Q>(numbering.typed)
 }
 
-// The texts of the ground atoms and of the ground fluents.
-fn both_labels(alloc: Global, numbering: &Numbering) -> Result<(Vec<Label>, Vec<Label>), AllocError>
-    ensures atoms { IfOk result (λ ls. ls.0.items ≡ ground_labels (context numbering.now) numbering.now.typed.now.domain.predicates) }
-    ensures fluents { IfOk result (λ ls. ls.1.items ≡ ground_labels (context numbering.now) numbering.now.typed.now.domain.functions) }
-{
-    let atoms = numbering.atom_labels(alloc)?;
-    let fluents = numbering.fluent_labels(alloc)?;
-    Ok((atoms, fluents))
-}
-
-// The state at the beginning, and the goal.
-fn ends<Q: FromParts>(
-    alloc: Global,
-    numbering: &Numbering,
-) -> Result<(State<Q>, Cond<Q>), AllocError>
-    requires { IsGroundable Q.fits numbering.now.typed.now.domain numbering.now.typed.now.problem }
-    ensures initial { IfOk result (λ e. e.0 ≡ initial_state (context numbering.now) numbering.now.typed.now.problem.init) }
-    ensures goal { IfOk result (λ e. condition_of Q.value e.1
-        ≡ condition_meant (context numbering.now) [] true numbering.now.typed.now.problem.goal) }
-{
-    let problem = numbering.typed.problem();
-    let none = Environment::new(alloc);
-    let initial = initial(alloc, numbering, problem.init.as_slice())?;
-    let goal = condition(alloc, numbering, &none, true, &problem.goal)?;
-    Ok((initial, goal))
-}
-
-// The processes and the events.
-fn both_schemas<Q: FromParts>(
-    alloc: Global,
-    numbering: &Numbering,
-) -> Result<(Vec<Process<Q>>, Vec<Event<Q>>), AllocError>
-    requires { IsGroundable Q.fits numbering.now.typed.now.domain numbering.now.typed.now.problem }
-    ensures processes { IfOk result (λ s. map (process_of Q.value) s.0.items
-        ≡ instances_of (context numbering.now) (process_meant (context numbering.now)) numbering.now.typed.now.domain.processes) }
-    ensures events { IfOk result (λ s. map (event_of Q.value) s.1.items
-        ≡ instances_of (context numbering.now) (event_meant (context numbering.now)) numbering.now.typed.now.domain.events) }
-{
-    let domain = numbering.typed.domain();
-    let processes = processes(alloc, numbering, domain.processes.as_slice())?;
-    let events = events(alloc, numbering, domain.events.as_slice())?;
-    Ok((processes, events))
-}
-
 // The ground problem of a pair inside the limits, whose literals are values of the type of numbers.
 fn expand<Q: FromParts>(alloc: Global, numbering: &Numbering) -> Result<Ground<Q>, AllocError>
     requires { IsGroundable Q.fits numbering.now.typed.now.domain numbering.now.typed.now.problem }
     ensures expands { IfOk result (λ g. problem_of Q.value g ≡ expanded numbering.now.typed.now.domain numbering.now.typed.now.problem) }
     ensures labels { IfOk result (λ g. labels_of g ≡ labels_meant numbering.now.typed.now.domain numbering.now.typed.now.problem) }
 {
+    let domain = numbering.typed.domain();
     let problem = numbering.typed.problem();
+    let none = Environment::new(alloc);
+    let atoms = numbering.atom_labels(alloc)?;
+    let fluents = numbering.fluent_labels(alloc)?;
+    let initial = initial(alloc, numbering, problem.init.as_slice())?;
+    let goal = condition(alloc, numbering, &none, true, &problem.goal)?;
+    let processes = processes(alloc, numbering, domain.processes.as_slice())?;
+    let events = events(alloc, numbering, domain.events.as_slice())?;
     let timed = timed_literals(alloc, numbering, problem.init.as_slice())?;
-    let (initial, goal) = ends(alloc, numbering)?;
-    let (processes, events) = both_schemas(alloc, numbering)?;
-    let (atoms, fluents) = both_labels(alloc, numbering)?;
     Ok(Ground {
         atoms,
         fluents,
