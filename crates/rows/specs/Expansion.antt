@@ -1,2 +1,3 @@
 pub mod Depot
 pub mod Ground
+pub mod Counts

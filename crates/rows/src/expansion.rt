@@ -2,6 +2,7 @@
 //! event, its ground form worked by hand, and timed literals. They show that the definitions of `plus_expansion`
 //! say what they are meant to say.
 
+ghost use Rattle.rows.specs.Expansion.Counts.{CountRows};
 ghost use Rattle.rows.specs.Expansion.Ground.{ObjectRows, NumberRows, ProblemRows, TimedRows, CallRows, ConditionRows, ExpressionRows, SizeRows};
 
 /// The objects of each type, and the choices of objects for variables.
@@ -42,4 +43,9 @@ pub fn expression_rows()
 /// Nodes, counts and literals.
 pub fn size_rows()
     ensures { SizeRows }
+{}
+
+/// The six counts in their order with their limits: a limit may be reached and not passed.
+pub fn count_rows()
+    ensures { CountRows }
 {}

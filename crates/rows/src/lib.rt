@@ -3,5 +3,8 @@
 
 pub mod expansion;
 pub mod model;
+pub mod reports;
 pub mod tested;
+pub mod texts;
 pub mod time;
+pub mod walk;

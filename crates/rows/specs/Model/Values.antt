@@ -1,7 +1,7 @@
 -- Worked rows of values and conditions. The state has the atoms 0 (true) and 1 (false), and the
 -- fluents 0 (6), 1 (4) and 2 (no value).
 use Rattle.std.specs.Prelude.{◌≡◌, Bool, true, false, [], ◌∷◌, Some, None, pos, negsuc}
-use Rattle.plus_fraction.specs.Fraction.{Fraction, whole, over}
+use Rattle.plus_fraction.specs.Fraction.{whole, over}
 use Rattle.plus_model.specs.Terms.{Expression, Number, Fluent, Sum, Difference, Product, Quotient, Test, Below, AtMost, Same, AtLeast, Above, Always, Never, Both, Either, Atom, Compare, State}
 use Rattle.plus_model.specs.Value.{value, holds}
 

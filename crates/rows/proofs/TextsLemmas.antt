@@ -1,0 +1,4 @@
+pub mod TokenRows
+pub mod CanonRows
+pub mod ReadingRows
+pub mod LineRows

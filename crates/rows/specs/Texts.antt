@@ -1,0 +1,4 @@
+pub mod Tokens
+pub mod Canon
+pub mod Reading
+pub mod Lines
