@@ -14,6 +14,8 @@ pub mod Told
 pub mod Advance
 pub mod Act
 pub mod Finish
+pub mod Played
+pub mod StepsLeft
 pub mod Forked
 pub mod Laws
 pub mod Closing
