@@ -17,7 +17,8 @@ use Rattle.plus_planner.specs.Grid.{timed}
 use Rattle.plus_plan_command.specs.Planning.Planned.{task_of}
 use Rattle.plus_io.specs.Limits.{text_limit}
 use Rattle.plus_validator.specs.Plans.{pair, lines_meant}
-use Rattle.plus_validator.specs.Asking.{entries_of, call_tests, instances_of, NoneFails, IsClear}
+use Rattle.plus_timeline.specs.Played.{entries_of}
+use Rattle.plus_validator.specs.Asking.{call_tests, instances_of, NoneFails, IsClear}
 
 -- ---- the plan of a ground problem
 

@@ -18,7 +18,8 @@ ghost use Rattle.plus_plan_command.specs.Planning.Planned.{task_of};
 ghost use Rattle.plus_validator.specs.declared.judge.Outcome.{Outcome};
 ghost use Rattle.plus_validator.specs.declared.judge.Outcome.TheVariants.{Valid};
 ghost use Rattle.plus_validator.specs.Accepted.{IsAccepted};
-ghost use Rattle.plus_validator.specs.Asking.{entries_of, IsClear, NoneFails};
+ghost use Rattle.plus_timeline.specs.Played.{entries_of};
+ghost use Rattle.plus_validator.specs.Asking.{IsClear, NoneFails};
 ghost use Rattle.plus_validator.specs.Verdicts.{IsAnswered};
 ghost use Rattle.laws_found.specs.Passing.{AreClean, PassesCheck, IsTextOf, InstancesPass, CallPasses};
 

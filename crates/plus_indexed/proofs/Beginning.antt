@@ -1,22 +1,14 @@
 -- What is known where a timeline with an index begins.
-use Rattle.std.proofs.Common.{◌≡◌, ℕ, refl, ap, sym, subst, ◌∙◌}
+use Rattle.std.proofs.Common.{◌≡◌, ℕ, ap, sym, subst, ◌∙◌}
 use Rattle.std.specs.Prelude.{Some, None}
 use Rattle.plus_fraction.specs.Fraction.{Fraction}
 use Rattle.plus_model.specs.Terms.{Problem}
 use Rattle.plus_reads.specs.Indexing.{Indexes}
 use Rattle.plus_timeline.specs.Timeline.{TimelineView, begun}
 use Rattle.plus_timeline.specs.Serving.{Serves}
+use Rattle.plus_timeline.proofs.Serving.{begun_serves}
 use Rattle.plus_indexed.specs.Indexed.{IndexedView}
 use Rattle.plus_indexed.specs.Knows.{Knows}
-
-begun_serves : (P : Problem) (most : ℕ) → Serves P (begun P most)
-begun_serves P most = record {
-  atoms = refl;
-  fluents = refl;
-  events = refl;
-  runs = λ R h. (let k : None ≡ Some R = h in cc);
-  still = λ h a. cc;
-}
 
 pub knows_begun : (fits : Fraction → Type 0) (P : Problem) (most : ℕ) (v : IndexedView) → v.line ≡ begun P most → Indexes P v.kept.index → v.kept.events ≡ None → v.kept.processes ≡ None → Knows fits P v
 knows_begun fits P most v e i n m = record {

@@ -1,5 +1,5 @@
 -- What is asked where a part comes next does not depend on how late the end is.
-use Rattle.std.proofs.Common.{◌≡◌, ◌≢◌, inl, inr, ℕ, Bool, false, List, [], ◌∷◌, ◌++◌, refl, ap, ap₂, sym, subst, ◌∙◌, if◌then◌else◌}
+use Rattle.std.proofs.Common.{◌≡◌, ◌≢◌, inl, inr, ℕ, Bool, List, [], ◌∷◌, ◌++◌, refl, ap, ap₂, sym, subst, ◌∙◌, if◌then◌else◌}
 use Rattle.std.specs.Prelude.{Option, Some, None}
 use Rattle.plus_fraction.specs.Fraction.{Fraction}
 use Rattle.plus_model.specs.Terms.{Problem}
@@ -9,8 +9,8 @@ use Rattle.plus_model.specs.History.{Part, Enter, Round, Act, Run, View, view_af
 use Rattle.plus_model.specs.Trajectory.{is_below, next_line, time_or, least, until, Next, NextBy, Follow, first_part, first_view}
 use Rattle.plus_model.proofs.Paths.{view_is}
 use Rattle.plus_stretch.specs.Tests.{Test}
-use Rattle.plus_stretch.specs.StretchTests.{if_empty}
-use Rattle.plus_timeline.specs.Asked.{round_tests, line_tests, advance_by, advance_tests, nothing_due, is_there, asked}
+use Rattle.plus_timeline.specs.Asked.{round_tests, line_tests, advance_by, is_there, asked}
+use Rattle.plus_timeline.proofs.Stays.{no_tests, not_there, listed, asked_is}
 use Rattle.plus_planner.specs.Laws.{ending_at, last_time, AskedGoesOn}
 use Rattle.plus_planner.proofs.Waiting.{Played, AtLast, inside, last_part, before_last, start, no_act, no_run}
 
@@ -19,22 +19,6 @@ pub walk : (P : Problem) (lines : List Line) (part : Part) (xs : List Part) (v :
 walk P lines part [] v played f = (played, f.1)
 walk P lines part (x ∷ xs) v (inl h) f = walk P lines part xs (view_after v x) (before_last P lines (last_time lines) v v.running x h f.1) f.2
 walk P lines part (x ∷ xs) v (inr a) f = walk P lines part xs (view_after v x) (inr (last_part P lines (last_time lines) (last_time lines) v v.running x refl a a.moment f.1).1) f.2
-
-no_tests : (xs : List ℕ) (ts : List Test) → xs ≢ [] → if_empty xs ts ≡ []
-no_tests [] ts n = absurd (n refl)
-no_tests (x ∷ xs) ts n = refl
-
-pub not_there : (xs : List ℕ) (b : Bool) → xs ≢ [] → nothing_due xs b ≡ false
-not_there [] b n = absurd (n refl)
-not_there (x ∷ xs) b n = refl
-
-abbrev pub listed : Problem → Plan → ℕ → (ℕ → List Test) → ℕ → Fraction → View → Option (List ℕ) → Option Line → List Test
-listed P L most instance entries u v o line =
-    advance_by P most entries u v o ++ (if is_there P u v o then line_tests P L instance v line else [])
-
-pub asked_is : (P : Problem) (L : Plan) (most : ℕ) (instance : ℕ → List Test) (entries : ℕ) (v : View) → asked P L most instance entries v ≡ listed P L most instance entries (until P L v) v v.running (next_line L v)
-unfolding asked advance_tests
-asked_is P L most instance entries v = refl
 
 line_same : (P : Problem) (lines : List Line) (u t : Fraction) (instance : ℕ → List Test) (v : View) (line : Option Line) → line_tests P (ending_at lines u) instance v line ≡ line_tests P (ending_at lines t) instance v line
 line_same P lines u t instance v None = refl

@@ -1,18 +1,18 @@
 -- A search begins with the timeline at time 0, where it comes there.
-use Rattle.std.proofs.Common.{◌≡◌, inr, ℕ, ◌≤◌, List, [], ◌∷◌, ◌++◌, refl, sym, subst, ◌∙◌}
+use Rattle.std.proofs.Common.{◌≡◌, inr, ℕ, ◌≤◌, List, [], ◌∷◌, ◌++◌, refl, sym, subst}
 use Rattle.std.specs.Prelude.{pos}
 use Rattle.plus_fraction.specs.Fraction.{Fraction, whole, ◌≤ℚ◌}
 use Rattle.plus_fraction.proofs.FractionRing.{zero-*ℚ}
 use Rattle.plus_fraction.proofs.FractionAtMost.{≤ℚ_refl}
 use Rattle.plus_model.specs.Terms.{Problem}
-use Rattle.plus_model.specs.History.{Part}
 use Rattle.plus_model.specs.Trajectory.{first_part}
 use Rattle.plus_search.proofs.Bounds.{nothing_starts}
 use Rattle.plus_search.specs.declared.spaces.Fate.{Fate}
 use Rattle.plus_search.specs.declared.spaces.Fate.TheVariants.{Alive, Broken, Beyond}
 use Rattle.plus_timeline.specs.Timeline.{TimelineView, begun}
 use Rattle.plus_timeline.proofs.Serving.{begun_serves}
-use Rattle.plus_planner.specs.Grid.{Task, timed, AllTimes, IsClearIn, Plays, IsAlive, EndsBeyond, GridPlan}
+use Rattle.plus_timeline.proofs.Played.{clear_first}
+use Rattle.plus_planner.specs.Grid.{Task, timed, AllTimes, Plays, IsAlive, EndsBeyond, GridPlan}
 use Rattle.plus_planner.specs.Standing.{CanReach, IsOnWay, Carried}
 use Rattle.plus_planner.specs.Places.{StandsAt, CanSearch, uncut}
 use Rattle.plus_planner.specs.Searches.{HasNone}
@@ -26,23 +26,15 @@ use Rattle.plus_planner.proofs.SearchLemmas.{uncut_is_tree, no_plan, beyond_numb
 -- it may be carried to time 0
 pub begun_reach : (P : Problem) (most : ℕ) (t : TimelineView) (u : Fraction) → t ≡ begun P most → u ≡ whole (pos 0) → 1 ≤ most → CanReach P u t
 begun_reach P most t u e f m = subst (CanReach P u) (sym e) record {
-  goes = record { serves = begun_serves P most; going = refl; within = m };
+  goes = record { knows = begun_serves P most; going = refl; within = m };
   ahead = subst (λ (z : Fraction). whole (pos 0) ≤ℚ z) (sym f) (≤ℚ_refl (whole (pos 0)));
   room = tt;
 }
 
-nothing_left : (xs ys : List Part) (x : Part) → x ∷ [] ≡ (x ∷ xs) ++ ys → ys ≡ []
-nothing_left [] ys x e = sym (let f : [] ≡ ys = cc e in f)
-nothing_left (y ∷ xs) ys x e = absurd (let f : [] ≡ y ∷ (xs ++ ys) = cc e in cc f)
-
 module _ (fits : Fraction → Type 0) (task : Task) where
-  clear_first : IsClearIn fits task.problem (timed task []) task.most (first_part task.problem ∷ [])
-  clear_first g rest some p e =
-      absurd (some (nothing_left p.rest rest (first_part task.problem) (subst (λ z. first_part task.problem ∷ [] ≡ z ++ rest) p.begins e)))
-
   first_way : IsOnWay fits task.problem (timed task []) (now_of task []) 0 (first_part task.problem ∷ []) (begun task.problem task.most)
   first_way = record {
-    played = record { prefix = record { ordered = tt; rest = []; begins = refl; follow = tt }; now = refl; entries = refl; clear = clear_first };
+    played = record { prefix = record { ordered = tt; rest = []; begins = refl; follow = tt }; now = refl; entries = refl; beside = tt; clear = clear_first fits task.problem (timed task []) task.most (λ i. []) };
     target_is = refl;
     acted_is = refl;
   }

@@ -6,7 +6,7 @@ use Rattle.plus_model.specs.Terms.{Problem}
 use Rattle.plus_model.specs.Breach as model
 use Rattle.plus_model.specs.Plan.{Plan}
 use Rattle.plus_model.specs.History.{Part}
-use Rattle.plus_model.specs.Trajectory.{HasBegun, least}
+use Rattle.plus_model.specs.Trajectory.{HasBegun}
 use Rattle.plus_search.specs.declared.spaces.Fate.{Fate}
 use Rattle.plus_search.specs.declared.spaces.Fate.TheVariants.{Alive, Broken, Beyond}
 use Rattle.plus_state.specs.declared.outcome.Limit.{Limit}
@@ -14,43 +14,38 @@ use Rattle.plus_state.specs.declared.outcome.Limit.TheVariants as limits
 use Rattle.plus_stretch.specs.Tests.{Test, breach, AllPass, FirstFailing, IsLimit, of_limit, breach_of}
 use Rattle.plus_timeline.specs.Timeline.{TimelineView}
 use Rattle.plus_state.specs.declared.outcome.Breach as outcome
-use Rattle.plus_timeline.specs.Advance.{Advances, IsThere, BreaksOff, AdvanceTold}
-use Rattle.plus_timeline.specs.Asked.{advance_tests}
+use Rattle.plus_timeline.specs.Advance.{Advances, IsThere, AdvanceTold}
 use Rattle.plus_timeline.specs.Told.{Told}
 use Rattle.plus_timeline.specs.declared.next.Next.{Next}
 use Rattle.plus_timeline.specs.declared.next.Next.TheVariants.{Round, Run, Entry, There}
 use Rattle.plus_timeline.specs.declared.stop.Stop.{Stop}
 use Rattle.plus_timeline.specs.declared.stop.Stop.TheVariants as stops
-use Rattle.plus_planner.specs.Standing.{CanReach, IsOnWay, IsReached, Arrives, FailsAt, FailsOnWay, IsNoLimit, Carried, StepsOn, Steps, fate_by, refused_by}
-use Rattle.plus_planner.proofs.Steps.{IsMore, a_round, a_run, an_entry, part_of, way_tests, way_fails, step_goes, step_most, step_less, step_played, step_clear, step_target, step_acted, step_done}
+use Rattle.plus_planner.specs.Standing.{CanReach, IsOnWay, Arrives, FailsAt, FailsOnWay, IsNoLimit, Carried, StepsOn, Steps, fate_by, refused_by}
+use Rattle.plus_timeline.specs.Serving.{Serves}
+use Rattle.plus_timeline.specs.StepsLeft.{IsMore, a_round, a_run, an_entry}
+use Rattle.plus_timeline.proofs.Serving.{advance_serves}
+use Rattle.plus_timeline.proofs.StepsLeft.{step_goes, step_most, step_less}
+use Rattle.plus_timeline.proofs.Played.{part_of, way_tests, asked_same, way_fails, step_way, step_done}
 
 -- what a step says by its answer
 step_more : {Q : Type 0} (value : Q → Fraction) (fits : Fraction → Type 0) (P : Problem) (u : Fraction) (old new : TimelineView) (answer : Next Q) → IsMore answer → CanReach P u old → Advances value P u old new answer → AllPass fits (way_tests P u old) → StepsOn fits P u old new
 step_more value fits P u old new answer m c a x = record {
-  can = step_goes value P u old new answer c a;
-  less = step_less value P u old new answer c m a;
+  can = step_goes value (Serves P old) (Serves P new) P u old new answer c a (advance_serves value P u old new answer a c.goes.knows);
+  less = step_less value P u old new answer c.goes.knows.events c.room m a;
   most = step_most value P u old new answer a;
   on_way = λ L acted h b w. (
     h ++ part_of new answer ∷ [],
-    record {
-      played = step_played value fits P L h u old new answer m b w.played
-          (step_clear value fits P L h u old new answer m w.played w.target_is a x) w.target_is a;
-      target_is = step_target value P L u old new answer w.target_is a;
-      acted_is = step_acted value P u old new answer a ∙ w.acted_is;
-    },
+    step_way value fits P L (λ i. []) (λ g. Unit {0}) (λ g. Unit {0}) u acted h old new answer m b w a x tt,
   );
 }
 
 step_there : {Q : Type 0} (value : Q → Fraction) (fits : Fraction → Type 0) (P : Problem) (u : Fraction) (old new : TimelineView) → CanReach P u old → IsThere P u old new → AllPass fits (way_tests P u old) → Arrives fits P u old new
 step_there {Q} value fits P u old new c a x = record {
-  can = (step_goes {Q = Q} value P u old new There c a).goes;
+  can = (step_goes {Q = Q} value (Serves P old) (Serves P new) P u old new There c a (advance_serves {Q = Q} value P u old new There a c.goes.knows)).goes;
   paused = record { there = ap (λ v. v.answer) a.is; fresh = ap (λ v. v.acted) a.is };
   moment = ap (λ v. v.now.running) a.is ∙ a.moment;
   most = ap (λ v. v.most) a.is;
-  reached = λ L acted h b w. (
-    h,
-    subst (λ k. IsReached fits P L u k h new) w.acted_is (step_done {Q = Q} value fits P L h u old new w.played w.target_is a x),
-  );
+  reached = λ L acted h b w. (h, step_done fits P L (λ i. []) (λ g. Unit {0}) (λ g. Unit {0}) u acted h old new w a x tt);
 }
 
 pub step_says : {Q : Type 0} (value : Q → Fraction) (fits : Fraction → Type 0) (P : Problem) (u : Fraction) (old new : TimelineView) (answer : Next Q) → CanReach P u old → Advances value P u old new answer → AllPass fits (way_tests P u old) → Steps fits P u old new (fate_by answer)
@@ -64,7 +59,7 @@ step_says value fits P u old new There c a x = step_there value fits P u old new
 -- the history at which a test fails that `advance` asks
 fails_here : (fits : Fraction → Type 0) (P : Problem) (u : Fraction) (old : TimelineView) (Kind : Test → Type 0) (test : Test) → FirstFailing fits (way_tests P u old) test → Kind test → FailsOnWay fits P u old Kind
 fails_here fits P u old Kind test f k = record {
-  fails = λ L acted h b w. (h, record { prefix = w.played.prefix; clear = w.played.clear; test = test; first = way_fails fits P L u h old test w.played w.target_is f; kind = k });
+  fails = λ L acted h b w. (h, record { prefix = w.played.prefix; clear = w.played.clear; test = test; first = subst (λ (ts : List Test). FirstFailing fits ts test) (asked_same w.played) (way_fails fits P L (λ i. []) u old test w.target_is f); kind = k });
 }
 
 breach_fails : (fits : Fraction → Type 0) (P : Problem) (u : Fraction) (old : TimelineView) (o : Option model.Breach) → IsSomeAnd o (λ c. FirstFailing fits (way_tests P u old) (breach c)) → FailsOnWay fits P u old IsNoLimit

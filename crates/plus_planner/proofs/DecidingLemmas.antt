@@ -16,7 +16,8 @@ use Rattle.plus_timeline.specs.declared.stop.Stop.{Stop}
 use Rattle.plus_timeline.specs.declared.stop.Stop.TheVariants as stops
 use Rattle.plus_timeline.proofs.Serving.{act_serves}
 use Rattle.plus_planner.specs.declared.places.Taken.{Taken}
-use Rattle.plus_planner.specs.Standing.{CanGoOn, HasRoom, CanReach, refused_by}
+use Rattle.plus_timeline.specs.StepsLeft.{HasRoom}
+use Rattle.plus_planner.specs.Standing.{CanGoOn, CanReach, refused_by}
 use Rattle.plus_planner.specs.Places.{ActFails, Goes, ActEnds, WaitEnds}
 use Rattle.plus_planner.proofs.Carries.{limit_kind, goes_on}
 
@@ -41,7 +42,7 @@ reach_done P action t done u c d e =
     let time = ap (λ v. v.now.time) d.is in
     record {
       goes = record {
-        serves = act_serves P action t done d c.serves;
+        knows = act_serves P action t done d c.knows;
         going = ap (λ v. v.ended) d.is ∙ c.going;
         within = within_same (sym (ap (λ v. v.entries) d.is)) (sym (ap (λ v. v.most) d.is)) c.within;
       };

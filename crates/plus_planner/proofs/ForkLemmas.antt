@@ -18,12 +18,12 @@ use Rattle.plus_planner.specs.Places.{Goes, ActEnds, WaitEnds}
 
 pub can_forked : (P : Problem) (t : TimelineView) → t.now.running ≡ None → CanGoOn P t → CanGoOn P (forked t)
 can_forked P t m c = record {
-  serves = record {
-    atoms = c.serves.atoms;
-    fluents = c.serves.fluents;
-    events = c.serves.events;
+  knows = record {
+    atoms = c.knows.atoms;
+    fluents = c.knows.fluents;
+    events = c.knows.events;
     runs = λ members e. never members (sym m ∙ e);
-    still = c.serves.still;
+    still = c.knows.still;
   };
   going = c.going;
   within = c.within;
@@ -47,6 +47,7 @@ alike_way fits P L u acted h t t' a w = record {
     prefix = w.played.prefix;
     now = a.now ∙ w.played.now;
     entries = a.entries ∙ w.played.entries;
+    beside = tt;
     clear = subst (λ m. IsClearIn fits P L m h) (sym a.most) w.played.clear;
   };
   target_is = ap (target L) a.now ∙ w.target_is;

@@ -1,5 +1,5 @@
 -- The lists of decisions are a tree.
-use Rattle.std.proofs.Common.{◌≡◌, ◌≢◌, inl, inr, ℕ, List, [], ◌∷◌, ◌++◌, refl, sym, subst, arith, rules, ◌∙◌}
+use Rattle.std.proofs.Common.{◌≡◌, inl, inr, ℕ, List, [], ◌∷◌, ◌++◌, refl, sym, subst, arith, rules, ◌∙◌}
 use Rattle.std.proofs.lemmas.Grind.{common_steps}
 use Rattle.std.proofs.lemmas.List.{append-nil}
 use Rattle.plus_fraction.specs.Fraction.{Fraction}
@@ -30,10 +30,7 @@ no_halt fits task ds h g p s =
   where
     at_end : (g : List Part) → Halts fits task ds g → (rest : List Part) → h ≡ g ++ rest → ⊥
     at_end g s [] e = (one_test (Passes fits)).none (asked_at task ds g) s.test (subst (λ x. AllPass fits (asked_at task ds x)) (e ∙ append-nil g) p.passes) s.first
-    at_end g s (r ∷ rest) e = (one_test (Passes fits)).none (asked_at task ds g) s.test (p.clear g (r ∷ rest) (filled r rest) s.prefix e) s.first
-      where
-        filled : (x : Part) (xs : List Part) → x ∷ xs ≢ []
-        filled x xs e = cc
+    at_end g s (r ∷ rest) e = (one_test (Passes fits)).none (asked_at task ds g) s.test (p.clear g r rest s.prefix e) s.first
 
 apart : (fits : Fraction → Type 0) (task : Task) (ds : List ℕ) → IsAlive fits task ds → EndsBeyond fits task ds → ⊥
 apart fits task ds a b =

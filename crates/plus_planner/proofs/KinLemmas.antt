@@ -1,5 +1,5 @@
 -- The timelines of one search stay those of one search.
-use Rattle.std.proofs.Common.{◌≡◌, ◌⊎◌, inl, inr, ℕ, zero, suc, ◌+◌, ◌<◌, ◌≤◌, List, [], ◌∷◌, ◌++◌, length, take, drop, arith, refl, ap, sym, subst, ◌∙◌}
+use Rattle.std.proofs.Common.{◌≡◌, inl, inr, ℕ, zero, suc, ◌+◌, ◌<◌, ◌≤◌, List, [], ◌∷◌, ◌++◌, length, take, drop, arith, refl, ap, sym, subst, ◌∙◌}
 use Rattle.std.proofs.lemmas.List.{length-append, take-append-le}
 use Rattle.std.specs.Prelude.{true, false, pos, Bool, Option, Some, None, Result, Ok, Err, OnOk, IfSome, slice_get, nat_lt, option_to_list, if◌then◌else◌}
 use Rattle.std.specs.List.{AllByRecursion}
@@ -22,7 +22,7 @@ use Rattle.plus_planner.specs.Tried.{Returns}
 use Rattle.plus_planner.specs.Worlds.{Stands, Holds}
 use Rattle.plus_planner.specs.Places.{now_in, base_in}
 use Rattle.plus_planner.specs.Standing.{CanGoOn, CanReach, Carried}
-use Rattle.plus_planner.proofs.ForkLemmas.{AreAlike, alike_carried}
+use Rattle.plus_planner.proofs.ForkLemmas.{alike_carried}
 
 -- ---- one timeline
 
@@ -73,7 +73,7 @@ kin_light P old new l h = elim l [
 
 can_rooted : (P : Problem) (t : TimelineView) (o : Option State) → CanGoOn P t → CanGoOn P (record t { root = o })
 can_rooted P t o c = record {
-  serves = record { atoms = c.serves.atoms; fluents = c.serves.fluents; events = c.serves.events; runs = c.serves.runs; still = c.serves.still };
+  knows = record { atoms = c.knows.atoms; fluents = c.knows.fluents; events = c.knows.events; runs = c.knows.runs; still = c.knows.still };
   going = c.going;
   within = c.within;
 }
@@ -89,7 +89,7 @@ carried_rootless fits P u old new Alive c = record {
       let x = c.reached L acted h b w in (
         x.0,
         record {
-          played = record { prefix = x.1.played.prefix; now = x.1.played.now; entries = x.1.played.entries; clear = x.1.played.clear };
+          played = record { prefix = x.1.played.prefix; now = x.1.played.now; entries = x.1.played.entries; beside = tt; clear = x.1.played.clear };
           present = x.1.present;
           over = x.1.over;
           passed = x.1.passed;
@@ -247,10 +247,6 @@ popped_some P (Some s) h t k = kin_refork P s t h.0 k
 
 pub kin_popped : (P : Problem) (spares left : List TimelineView) (o : Option TimelineView) (t : TimelineView) → spares ≡ left ++ option_to_list o → AllByRecursion (IsKin P) spares → IsKin P t → IfSome o (λ s. CanRefork s t)
 kin_popped P spares left o t e h k = popped_some P o (each_right (IsKin P) left (option_to_list o) (subst (AllByRecursion (IsKin P)) e h)) t k
-
-pub kin_ok : {A E K : Type 0} (r : Result A E) → K → OnOk r K
-kin_ok (Err e) k = tt
-kin_ok (Ok x) k = k
 
 -- ---- what was tried is forgotten
 

@@ -4,8 +4,6 @@ pub mod Valid
 pub mod Asking
 pub mod Ready
 pub mod Ending
-pub mod Rounds
-pub mod Steps
 pub mod Carries
 pub mod Ticks
 pub mod Walks

@@ -16,7 +16,8 @@ use Rattle.plus_planner.specs.Grid.{Task, ticks, after_decision, tick_after, tim
 use Rattle.plus_planner.specs.Laws.{AllWaits, EndsWithAction}
 use Rattle.plus_state.specs.Fits.{ActionFits}
 use Rattle.plus_timeline.specs.Advance.{IsAhead}
-use Rattle.plus_planner.specs.Standing.{HasRoom, CanReach, IsNoLimit, Carried}
+use Rattle.plus_timeline.specs.StepsLeft.{HasRoom}
+use Rattle.plus_planner.specs.Standing.{CanReach, IsNoLimit, Carried}
 use Rattle.plus_planner.specs.Places.{StandsAt, path_of, StandFrom, now_in, base_in, StandsBehind, taken_after, Goes, ActFails, ActEnds, WaitEnds, CanTry, Walks}
 use Rattle.plus_planner.proofs.Ready.{ticks_join}
 use Rattle.plus_planner.proofs.Resting.{rest_passed}
@@ -257,8 +258,8 @@ module _ {Q : Type 0} (fits : Fraction → Type 0) (task : Task) where
         record {
           goes = s.can;
           paused = s.paused;
-          fit = subst (λ x. ActionFits x t.fluents action) (sym s.can.serves.atoms)
-              (subst (λ x. ActionFits task.problem.atoms x action) (sym s.can.serves.fluents) (b.can.fit k action a));
+          fit = subst (λ x. ActionFits x t.fluents action) (sym s.can.knows.atoms)
+              (subst (λ x. ActionFits task.problem.atoms x action) (sym s.can.knows.fluents) (b.can.fit k action a));
         }
 
     pub act_walks : {E : Type 0} (k : ℕ) (action : Action) (start' : TimelineView) (taken' : List (Taken Q)) (r : Result Fate E) → k < suc (length task.actions) → slice_get task.actions k ≡ Some action → OnOk r (start' ≡ start) → IfOk r (ActEnds fits task.problem action k (now_in start taken) taken taken') → IfOk r (Walks fits task start start' taken taken' k)

@@ -1,24 +1,26 @@
 -- What was played of a list is what happens first where it goes on.
-use Rattle.std.proofs.Common.{◌≡◌, ◌⊎◌, inl, inr, ℕ, suc, ◌<◌, ◌≤◌, Bool, false, not, List, [], ◌∷◌, ◌++◌, length, refl, ap, sym, subst, ◌∙◌, arith, rules, if◌then◌else◌}
+use Rattle.std.proofs.Common.{◌≡◌, ◌⊎◌, inl, inr, ℕ, suc, ◌<◌, ◌≤◌, false, List, [], ◌∷◌, ◌++◌, length, refl, ap, sym, subst, ◌∙◌, arith, rules, if◌then◌else◌}
 use Rattle.std.specs.Prelude.{Option, Some, None, slice_get}
 use Rattle.std.proofs.lemmas.Grind.{common_steps}
 use Rattle.std.proofs.lemmas.List.{append-nil}
 use Rattle.plus_fraction.specs.Fraction.{Fraction}
 use Rattle.plus_fraction.proofs.FractionRing.{zero-*ℚ}
-use Rattle.plus_model.specs.Terms.{Action, State, Problem}
-use Rattle.plus_model.specs.Firing.{firing}
+use Rattle.plus_model.specs.Terms.{Action, Problem}
 use Rattle.plus_model.specs.Plan.{Called, Line, ActLine, EndLine, Instance, UnknownAction, WrongArguments, time_of, Plan, IsInOrder}
 use Rattle.plus_model.specs.History.{Part, Enter, Round, Act, Run, View, view_after, view_from}
-use Rattle.plus_model.specs.Trajectory.{is_below, next_line, time_or, least, until, Next, NextBy, Follow, first_part, first_view, view_of, Prefix}
+use Rattle.plus_model.specs.Trajectory.{next_line, time_or, least, until, Next, NextBy, Follow, first_part, first_view, view_of, Prefix}
 use Rattle.plus_model.proofs.Moments.{≤ℚ_refl}
 use Rattle.plus_model.proofs.Paths.{view_is}
-use Rattle.plus_stretch.proofs.Rising.{to_below}
 use Rattle.plus_stretch.specs.Tests.{Test, AllPass}
-use Rattle.plus_timeline.specs.Asked.{line_tests, advance_by, nothing_due, is_there, asked}
-use Rattle.plus_planner.specs.Grid.{Task, ticks, line_for, after_decision, lines_from, acts_from, tick_after, timed, entries_of, IsClearIn}
+use Rattle.plus_timeline.specs.Asked.{line_tests, advance_by, advance_tests, is_there, asked}
+use Rattle.plus_timeline.specs.Played.{entries_of}
+use Rattle.plus_planner.specs.Grid.{Task, ticks, line_for, after_decision, lines_from, acts_from, tick_after, timed, IsClearIn}
 use Rattle.plus_planner.specs.Laws.{ending_at, last_time, CanAct, AllWaits, EndsWithAction, CanWait}
 use Rattle.plus_planner.proofs.Waiting.{inside_more, at_more, at_end, acted_next, wait_goes_on, act_goes_on}
-use Rattle.plus_planner.proofs.Asking.{asked_is, not_there, asked_goes_on}
+use Rattle.plus_timeline.proofs.Stays.{asked_is}
+use Rattle.plus_timeline.proofs.AskedHere.{IsNoAct, still_due, asked_cut}
+use Rattle.plus_timeline.proofs.Played.{tail_is}
+use Rattle.plus_planner.proofs.Asking.{asked_goes_on}
 
 -- ---- a beginning of a prefix is one
 
@@ -26,13 +28,10 @@ pub begin_follow : (P : Problem) (L : Plan) (v : View) (xs ys : List Part) → F
 begin_follow P L v [] ys f = tt
 begin_follow P L v (x ∷ xs) ys f = (f.0, f.1, begin_follow P L (view_after v x) xs ys f.2)
 
-pub tails : (x y : Part) (xs ys : List Part) → x ∷ xs ≡ y ∷ ys → xs ≡ ys
-tails x y xs ys e = cc
-
 pub beginning : (P : Problem) (L : Plan) (g rest g0 : List Part) → g ≡ first_part P ∷ g0 → Prefix P L (g ++ rest) → Prefix P L g
 beginning P L g rest g0 a b =
     let e : first_part P ∷ (g0 ++ rest) ≡ first_part P ∷ b.rest = sym (ap (λ z. z ++ rest) a) ∙ b.begins in
-    let f = tails (first_part P) (first_part P) (g0 ++ rest) b.rest e in
+    let f = tail_is (first_part P) (first_part P) (g0 ++ rest) b.rest e in
     record { ordered = b.ordered; rest = g0; begins = a; follow = begin_follow P L (first_view P) g0 rest (subst (λ xs. Follow P L (first_view P) xs) (sym f) b.follow) }
 
 pub one_more : (g : List Part) (part : Part) (rest : List Part) → g ++ part ∷ rest ≡ (g ++ part ∷ []) ++ rest
@@ -42,31 +41,17 @@ one_more g part rest = search (rules, common_steps)
 abbrev pub due : List Line → Fraction → Called → List Line → Plan
 due lines t call more = record { lines = lines ++ ActLine t call ∷ more; closed = false }
 
--- ---- what is asked where a part comes next that is no action: nothing of the next line
+-- ---- where all actions are done no act comes next
 
-pub asked_cut : (P : Problem) (L : Plan) (most : ℕ) (instance : ℕ → List Test) (entries : ℕ) (v : View) → is_there P (until P L v) v v.running ≡ false → asked P L most instance entries v ≡ advance_by P most entries (until P L v) v v.running ++ []
-asked_cut P L most instance entries v h =
-    asked_is P L most instance entries v
-    ∙ ap (λ (b : Bool). advance_by P most entries (until P L v) v v.running ++ (if b then line_tests P L instance v (next_line L v) else [])) h
-
-pub going : (P : Problem) (L : Plan) (v : View) (o : Option (List ℕ)) (p : Part) → NextBy P L v o p → ((i : ℕ) (s : State) → p ≡ Act i s → ⊥) → is_there P (until P L v) v o ≡ false
-going P L v (Some R) p n a = refl
-going P L v None (Enter t s u) n a = absurd n
-going P L v None (Round E s) n a = not_there (firing P v.state) (is_below v.time (until P L v)) (λ f. n.some (n.all ∙ f))
-going P L v None (Act i s) n a = absurd (a i s refl)
-going P L v None (Run R) n a =
-    ap (λ (xs : List ℕ). nothing_due xs (is_below v.time (until P L v))) n.still
-    ∙ ap (λ (b : Bool). not b) (to_below v.time (until P L v) n.later)
-
-no_act : (P : Problem) (lines : List Line) (t : Fraction) (v : View) (o : Option (List ℕ)) (p : Part) → v.acted ≡ length lines → NextBy P (ending_at lines t) v o p → (i : ℕ) (s : State) → p ≡ Act i s → ⊥
-no_act P lines t v (Some R) (Act j u) g n i s e = absurd n
-no_act P lines t v None (Act j u) g n i s e = differ (sym (subst (λ k. slice_get (lines ++ EndLine t ∷ []) k ≡ Some (EndLine t)) (sym g) (at_end lines (EndLine t))) ∙ n.due)
+no_act : (P : Problem) (lines : List Line) (t : Fraction) (v : View) (o : Option (List ℕ)) (p : Part) → v.acted ≡ length lines → NextBy P (ending_at lines t) v o p → IsNoAct p
+no_act P lines t v (Some R) (Act j u) g n = n
+no_act P lines t v None (Act j u) g n = differ (sym (subst (λ k. slice_get (lines ++ EndLine t ∷ []) k ≡ Some (EndLine t)) (sym g) (at_end lines (EndLine t))) ∙ n.due)
   where
     differ : {a b : Fraction} {c : Called} → Some (EndLine a) ≡ Some (ActLine b c) → ⊥
     differ h = cc
-no_act P lines t v o (Enter a b c) g n i s e = cc
-no_act P lines t v o (Round E u) g n i s e = cc
-no_act P lines t v o (Run R) g n i s e = cc
+no_act P lines t v o (Enter a b c) g n = tt
+no_act P lines t v o (Round E u) g n = tt
+no_act P lines t v o (Run R) g n = tt
 
 -- ---- an action is due in place of the end
 
@@ -87,9 +72,9 @@ asked_line P lines more t call most instance entries v e =
 asked_due : (P : Problem) (lines more : List Line) (t : Fraction) (call : Called) (most : ℕ) (instance : ℕ → List Test) (entries : ℕ) (v : View) (p : Part) → v.acted ≤ length lines → Next P (ending_at lines t) v p → asked P (ending_at lines t) most instance entries v ≡ asked P (due lines t call more) most instance entries v
 asked_due P lines more t call most instance entries v p h n = elim (cases v.acted (length lines) h) [
   | inl g ↦ asked_line P lines more t call most instance entries v (inside_more lines (EndLine t) (ActLine t call) more v.acted g)
-  | inr g ↦ (let u = same_until g in let k = going P (ending_at lines t) v v.running p n (no_act P lines t v v.running p g n) in
+  | inr g ↦ (let u = same_until g in let k = still_due P (ending_at lines t) v v.running p (no_act P lines t v v.running p g n) n in
       asked_cut P (ending_at lines t) most instance entries v k
-      ∙ ap (λ (x : Fraction). advance_by P most entries x v v.running ++ []) u
+      ∙ ap (λ (x : Fraction). advance_tests P most entries x v) u
       ∙ sym (asked_cut P (due lines t call more) most instance entries v (subst (λ (x : Fraction). is_there P x v v.running ≡ false) u k)))
 ]
   where
@@ -113,22 +98,20 @@ split P L h g part rest g0 a p e = (
 )
 
 clear_due : (fits : Fraction → Type 0) (P : Problem) (lines more : List Line) (t : Fraction) (call : Called) (most : ℕ) (h : List Part) → Prefix P (ending_at lines t) h → IsClearIn fits P (ending_at lines t) most h → IsClearIn fits P (due lines t call more) most h
-clear_due fits P lines more t call most h p c g [] some a e = absurd (some refl)
-clear_due fits P lines more t call most h p c g (part ∷ rest) some a e =
+clear_due fits P lines more t call most h p c g part rest a e =
     let s = split P (ending_at lines t) h g part rest a.rest a.begins p e in
     let b = s.1 in
-    let f = tails (first_part P) (first_part P) (a.rest ++ part ∷ []) b.rest (sym (ap (λ z. z ++ part ∷ []) a.begins) ∙ b.begins) in
+    let f = tail_is (first_part P) (first_part P) (a.rest ++ part ∷ []) b.rest (sym (ap (λ z. z ++ part ∷ []) a.begins) ∙ b.begins) in
     let w = walk_end P lines t part a.rest (first_view P) (omega arith) (subst (λ xs. Follow P (ending_at lines t) (first_view P) xs) (sym f) b.follow) in
     let q : asked P (ending_at lines t) most (λ i. []) (entries_of g) (view_of P g) ≡ asked P (due lines t call more) most (λ i. []) (entries_of g) (view_of P g) =
     subst (λ v. asked P (ending_at lines t) most (λ i. []) (entries_of g) v ≡ asked P (due lines t call more) most (λ i. []) (entries_of g) v) (sym (view_is P g a.rest a.begins))
     (asked_due P lines more t call most (λ i. []) (entries_of g) (view_from (first_view P) a.rest) part w.0 w.1) in
-    subst (AllPass fits) q (c g (part ∷ rest) some s.0 e)
+    subst (AllPass fits) q (c g part rest s.0 e)
 
 clear_wait : (fits : Fraction → Type 0) (P : Problem) (lines : List Line) (t : Fraction) (most : ℕ) (h : List Part) → Prefix P (ending_at lines (last_time lines)) h → IsClearIn fits P (ending_at lines (last_time lines)) most h → IsClearIn fits P (ending_at lines t) most h
-clear_wait fits P lines t most h p c g [] some a e = absurd (some refl)
-clear_wait fits P lines t most h p c g (part ∷ rest) some a e =
+clear_wait fits P lines t most h p c g part rest a e =
     let s = split P (ending_at lines (last_time lines)) h g part rest a.rest a.begins p e in
-    subst (AllPass fits) (asked_goes_on P lines t most (λ i. []) (entries_of g) g part s.0 s.1) (c g (part ∷ rest) some s.0 e)
+    subst (AllPass fits) (asked_goes_on P lines t most (λ i. []) (entries_of g) g part s.0 s.1) (c g part rest s.0 e)
 
 -- ---- the lines of a list of decisions
 

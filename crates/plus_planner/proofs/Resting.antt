@@ -13,7 +13,8 @@ use Rattle.plus_timeline.specs.Timeline.{TimelineView}
 use Rattle.plus_timeline.specs.Forked.{forked}
 use Rattle.plus_timeline.specs.Finish.{IsPaused}
 use Rattle.plus_timeline.specs.Asked.{asked, advance_by, advance_tests, round_tests}
-use Rattle.plus_planner.specs.Grid.{Task, timed, entries_of}
+use Rattle.plus_timeline.specs.Played.{entries_of}
+use Rattle.plus_planner.specs.Grid.{Task, timed}
 use Rattle.plus_planner.specs.Standing.{CanReach, Carried, Steps}
 use Rattle.plus_planner.specs.Places.{StandsAt}
 use Rattle.plus_planner.proofs.Carries.{along_start, along_step, along_done}

@@ -22,13 +22,15 @@ use Rattle.plus_timeline.specs.Timeline.{TimelineView}
 use Rattle.plus_timeline.specs.Act.{DoesAct}
 use Rattle.plus_timeline.specs.Laws.{AddsChange}
 use Rattle.plus_timeline.proofs.Follows.{act_follows}
-use Rattle.plus_planner.specs.Grid.{Task, ticks, after_decision, line_for, acts_from, tick_after, timed, AllTimes, entries_of, asked_in, IsClearIn, Plays, IsAlive, Halts, EndsBeyond}
+use Rattle.plus_timeline.specs.Played.{entries_of}
+use Rattle.plus_planner.specs.Grid.{Task, ticks, after_decision, line_for, acts_from, tick_after, timed, AllTimes, asked_in, IsClearIn, Plays, IsAlive, Halts, EndsBeyond}
 use Rattle.plus_planner.specs.Laws.{ending_at, AllWaits, EndsWithAction}
 use Rattle.plus_planner.specs.Standing.{IsPlayed, IsOnWay, IsReached, Arrives, FailsAt, IsNoLimit, Carried}
 use Rattle.plus_planner.specs.Places.{StandsAt}
 use Rattle.plus_planner.proofs.Waiting.{at_end, at_more}
 use Rattle.plus_planner.proofs.Ready.{acts_join, ticks_join, ends_with, acts_next, can_act, can_wait}
-use Rattle.plus_planner.proofs.Steps.{some_part, played_on, entries_of-append, asked_same, asked_there}
+use Rattle.plus_timeline.proofs.AskedHere.{asked_there}
+use Rattle.plus_timeline.proofs.Played.{played_on, entries_of-append, asked_same}
 use Rattle.plus_planner.proofs.Ticks.{ticks_ordered}
 
 -- ---- lines and times
@@ -115,7 +117,7 @@ module _ (fits : Fraction → Type 0) (task : Task) (ds : List ℕ) where
     where
       at_rest : (g : List Part) → FailsAt fits task.problem (timed task ds) task.most Kind g → (rest : List Part) → h ≡ g ++ rest → ⊥
       at_rest g s [] e = (one_test (Passes fits)).none (asked_in task.problem (timed task ds) task.most g) s.test (subst (λ x. AllPass fits (asked_in task.problem (timed task ds) task.most x)) (e ∙ append-nil g) p.passes) s.first
-      at_rest g s (r ∷ rest) e = (one_test (Passes fits)).none (asked_in task.problem (timed task ds) task.most g) s.test (p.clear g (r ∷ rest) (some_part r rest) s.prefix e) s.first
+      at_rest g s (r ∷ rest) e = (one_test (Passes fits)).none (asked_in task.problem (timed task ds) task.most g) s.test (p.clear g r rest s.prefix e) s.first
 
   -- and of two of them the tests are one
   before_other : (Kind Kind' : Test → Type 0) (h g : List Part) (a : FailsAt fits task.problem (timed task ds) task.most Kind h) (b : FailsAt fits task.problem (timed task ds) task.most Kind' g) → Begins h g → a.test ≡ b.test
@@ -125,7 +127,7 @@ module _ (fits : Fraction → Type 0) (task : Task) (ds : List ℕ) where
       at_rest [] e =
           (one_test (Passes fits)).one (asked_in task.problem (timed task ds) task.most h) a.test b.test a.first
           (subst (λ x. FirstFailing fits (asked_in task.problem (timed task ds) task.most x) b.test) (e ∙ append-nil h) b.first)
-      at_rest (r ∷ rest) e = absurd ((one_test (Passes fits)).none (asked_in task.problem (timed task ds) task.most h) a.test (b.clear h (r ∷ rest) (some_part r rest) a.prefix e) a.first)
+      at_rest (r ∷ rest) e = absurd ((one_test (Passes fits)).none (asked_in task.problem (timed task ds) task.most h) a.test (b.clear h r rest a.prefix e) a.first)
 
   pub one_failing : (Kind Kind' : Test → Type 0) (h g : List Part) (a : FailsAt fits task.problem (timed task ds) task.most Kind h) (b : FailsAt fits task.problem (timed task ds) task.most Kind' g) → a.test ≡ b.test
   one_failing Kind Kind' h g a b = elim (one_path task.problem (timed task ds) h g a.prefix b.prefix) [
@@ -226,13 +228,13 @@ Ends fits task ds new Beyond = (g : List Part) × FailsAt fits task.problem (tim
 
 module _ (fits : Fraction → Type 0) (task : Task) where
   played_in : (ds : List ℕ) (t : TimelineView) (s : StandsAt fits task ds t) (L : Plan) → Prefix task.problem L s.history → IsClearIn fits task.problem L task.most s.history → IsPlayed fits task.problem L s.history t
-  played_in ds t s L p c = record { prefix = p; now = s.now; entries = s.entries; clear = subst (λ k. IsClearIn fits task.problem L k s.history) (sym s.most) c }
+  played_in ds t s L p c = record { prefix = p; now = s.now; entries = s.entries; beside = tt; clear = subst (λ k. IsClearIn fits task.problem L k s.history) (sym s.most) c }
 
   -- all that is asked at the end of the decisions passes
   passes_end : (ds : List ℕ) (t : TimelineView) (h : List Part) → IsPlayed fits task.problem (timed task ds) h t → t.now.acted ≡ length (acts_of task ds) → IsPresent task.problem t.now → until task.problem (timed task ds) t.now ≡ t.now.time → AllPass fits (advance_tests task.problem t.most t.entries (until task.problem (timed task ds) t.now) t.now) → AllPass fits (asked_in task.problem (timed task ds) t.most h)
   passes_end ds t h p k q o a =
       subst (AllPass fits)
-      (sym (asked_there task.problem (timed task ds) t.most t.entries t.now (Some (EndLine (now_of task ds))) (line_end task ds t.now k) q o) ∙ asked_same fits task.problem (timed task ds) h t p)
+      (sym (asked_there task.problem (timed task ds) t.most (λ i. []) t.entries t.now (Some (EndLine (now_of task ds))) (line_end task ds t.now k) q o) ∙ asked_same p)
       (pass_append (Passes fits) (advance_tests task.problem t.most t.entries (until task.problem (timed task ds) t.now) t.now) [] a (pass_none (Passes fits)))
 
   -- and where all of it passes, so does what `advance` asks
@@ -240,7 +242,7 @@ module _ (fits : Fraction → Type 0) (task : Task) where
   advance_passes ds t h p k q o a =
       pass_left (Passes fits) (advance_tests task.problem t.most t.entries (until task.problem (timed task ds) t.now) t.now) []
       (subst (AllPass fits)
-      (sym (asked_same fits task.problem (timed task ds) h t p) ∙ asked_there task.problem (timed task ds) t.most t.entries t.now (Some (EndLine (now_of task ds))) (line_end task ds t.now k) q o) a)
+      (sym (asked_same p) ∙ asked_there task.problem (timed task ds) t.most (λ i. []) t.entries t.now (Some (EndLine (now_of task ds))) (line_end task ds t.now k) q o) a)
 
   -- a timeline that arrived stands at the end of the decisions
   arrived : (ds : List ℕ) (old new : TimelineView) (h : List Part) (acted : ℕ) → AllTimes fits (timed task ds).lines → Arrives fits task.problem (now_of task ds) old new → old.most ≡ task.most → acted ≡ length (acts_of task ds) → IsReached fits task.problem (timed task ds) (now_of task ds) acted h new → StandsAt fits task ds new
@@ -364,8 +366,8 @@ module _ (fits : Fraction → Type 0) (task : Task) where
     -- what is asked before the action is done
     act_asks : asked_in task.problem (timed task (ds ++ k ∷ [])) t.most s.history ≡ advance_tests task.problem t.most t.entries (until task.problem (timed task (ds ++ k ∷ [])) t.now) t.now ++ act_tests t.now.acted action t.now.state
     act_asks =
-        sym (asked_same fits task.problem (timed task (ds ++ k ∷ [])) s.history t here)
-        ∙ asked_there task.problem (timed task (ds ++ k ∷ [])) t.most t.entries t.now (Some (ActLine (now_of task ds) (Instance action))) next_is present over
+        sym (asked_same here)
+        ∙ asked_there task.problem (timed task (ds ++ k ∷ [])) t.most (λ i. []) t.entries t.now (Some (ActLine (now_of task ds) (Instance action))) next_is present over
 
     act_passes : AllPass fits (act_tests t.now.acted action t.now.state) → AllPass fits (asked_in task.problem (timed task (ds ++ k ∷ [])) t.most s.history)
     act_passes p = subst (AllPass fits) (sym act_asks) (pass_append (Passes fits) _ _ advance_pass p)
@@ -395,9 +397,9 @@ module _ (fits : Fraction → Type 0) (task : Task) where
         let due_now : next_line (timed task (ds ++ k ∷ [])) t.now ≡ Some (ActLine t.now.time (Instance action)) = next_is ∙ ap (λ x. Some (ActLine x (Instance action))) (sym s.time) in
         let adds : AddsChange task.problem (timed task (ds ++ k ∷ [])) t done part = act_follows task.problem (timed task (ds ++ k ∷ [])) t done action due_now d in
         record {
-          played = played_on fits task.problem (timed task (ds ++ k ∷ [])) s.history t done part (begun task (ds ++ k ∷ [])) here (act_passes p)
+          played = played_on (λ g. Unit {0}) done part (begun task (ds ++ k ∷ [])) here (act_passes p)
               (ap (λ v. v.most) d.is) adds.adds
-              (ap (λ v. v.entries) d.is ∙ s.entries ∙ sym (entries_of-append s.history part ∙ add-zero (entries_of s.history)));
+              (ap (λ v. v.entries) d.is ∙ s.entries ∙ sym (entries_of-append s.history part ∙ add-zero (entries_of s.history))) tt;
           target_is = ap (λ (o : Option Line). time_or o done.now.time) (line_end task (ds ++ k ∷ []) done.now (acted_length done d));
           acted_is = refl;
         }

@@ -72,7 +72,7 @@ module _ {Q : Type 0} (fits : Fraction → Type 0) (task : Task) (start : Timeli
 
   pub state_fits : (t : TimelineView) (s : State) → t ≡ now_in start taken → StateFits t.atoms t.fluents s → StateFits task.problem.atoms task.problem.fluents s
   state_fits t s e f =
-      let k = (now_stands fits task start taken b).can.serves in
+      let k = (now_stands fits task start taken b).can.knows in
       record { atoms_fit = f.atoms_fit ∙ ap (λ v. v.atoms) e ∙ k.atoms; fluents_fit = f.fluents_fit ∙ ap (λ v. v.fluents) e ∙ k.fluents }
 
   pub never_yes : (k : ℕ) → ((s : State) × EndsIn fits task (path_of taken) s × (no_cut s k ≡ true)) → ⊥

@@ -7,11 +7,12 @@ use Rattle.std.specs.Prelude.{◌≡◌, ◌≢◌, ◌⊎◌, ℕ, suc, ◌≤�
 use Rattle.plus_fraction.specs.Fraction.{Fraction, whole, ◌*ℚ◌}
 use Rattle.plus_model.specs.Terms.{Action, State, Problem}
 use Rattle.plus_model.specs.Plan.{Instance, Line, ActLine, EndLine, time_of, Plan}
-use Rattle.plus_model.specs.History.{Part, Enter, Round, Act, Run}
+use Rattle.plus_model.specs.History.{Part}
 use Rattle.plus_model.specs.Trajectory.{IsWorked, Prefix, view_of}
 use Rattle.plus_search.specs.Tree.{Tree}
 use Rattle.plus_stretch.specs.Tests.{Test, AllPass, FirstFailing, IsLimit}
-use Rattle.plus_timeline.specs.Asked.{asked, goal_tests}
+use Rattle.plus_timeline.specs.Asked.{goal_tests}
+use Rattle.plus_timeline.specs.Played as played
 
 -- what is searched: a ground problem, the actions, and the interval; and how many moments a history may
 -- enter
@@ -59,22 +60,13 @@ abbrev pub AllTimes : (Fraction → Type 0) → List Line → Type 0
 AllTimes fits [] = Unit {0}
 AllTimes fits (line ∷ lines) = fits (time_of line) × AllTimes fits lines
 
--- how many moments a history enters
-abbrev pub entries_of : List Part → ℕ
-entries_of [] = 0
-entries_of (Enter t a s ∷ h) = suc (entries_of h)
-entries_of (Round events s ∷ h) = entries_of h
-entries_of (Act i s ∷ h) = entries_of h
-entries_of (Run running ∷ h) = entries_of h
-
 -- what is asked at a history of a plan. An action of a search asks nothing before its condition.
 abbrev pub asked_in : Problem → Plan → ℕ → List Part → List Test
-asked_in P L most h = asked P L most (λ i. []) (entries_of h) (view_of P h)
+asked_in P L most h = played.asked_at P L most (λ i. []) h
 
 -- no test fails before the end of the history
 abbrev pub IsClearIn : (Fraction → Type 0) → Problem → Plan → ℕ → List Part → Type 0
-IsClearIn fits P L most h =
-    (g rest : List Part) → rest ≢ [] → Prefix P L g → h ≡ g ++ rest → AllPass fits (asked_in P L most g)
+IsClearIn fits P L most h = played.IsClear fits P L most (λ i. []) h
 
 -- the same of the plan that decisions make
 abbrev pub asked_at : Task → List ℕ → List Part → List Test

@@ -7,7 +7,8 @@ use Rattle.plus_model.specs.Trajectory.{view_of}
 use Rattle.plus_state.specs.Fits.{ActionFits}
 use Rattle.plus_timeline.specs.Timeline.{TimelineView}
 use Rattle.plus_timeline.specs.Finish.{IsPaused}
-use Rattle.plus_planner.specs.Grid.{Task, ticks, acts_from, tick_after, entries_of, Plays, IsAlive, grid}
+use Rattle.plus_timeline.specs.Played.{entries_of}
+use Rattle.plus_planner.specs.Grid.{Task, ticks, acts_from, tick_after, Plays, IsAlive, grid}
 use Rattle.plus_planner.specs.declared.places.Taken.{Taken}
 use Rattle.plus_planner.specs.Standing.{CanGoOn, Carried, IsNoLimit}
 use Rattle.plus_search.specs.Tree.{Tree}

@@ -1,82 +1,46 @@
 -- How a timeline stands in what happens of a plan, and how far it may be carried.
-use Rattle.std.specs.Prelude.{◌≡◌, ℕ, zero, suc, ◌+◌, ◌-◌, ◌*◌, ◌<◌, ◌≤◌, List, Option, Some, None, if◌then◌else◌}
+use Rattle.std.specs.Prelude.{◌≡◌, ℕ, ◌<◌, List, [], Option, Some, None}
 use Rattle.plus_fraction.specs.Fraction.{Fraction}
 use Rattle.plus_model.specs.Terms.{Problem}
-use Rattle.plus_model.specs.Firing.{is_in}
 use Rattle.plus_model.specs.Plan.{Plan}
 use Rattle.plus_model.specs.History.{Part}
-use Rattle.plus_model.specs.Trajectory.{HasBegun, target, until, Prefix, view_of}
-use Rattle.plus_model.specs.Breach.{IsPresent}
+use Rattle.plus_model.specs.Trajectory.{HasBegun, Prefix}
 use Rattle.plus_search.specs.declared.spaces.Fate.{Fate}
 use Rattle.plus_search.specs.declared.spaces.Fate.TheVariants.{Alive, Broken, Beyond}
-use Rattle.plus_stretch.specs.Tests.{Test, AllPass, FirstFailing, IsLimit}
+use Rattle.plus_stretch.specs.Tests.{Test, FirstFailing, IsLimit}
 use Rattle.plus_timeline.specs.declared.next.Next.{Next}
 use Rattle.plus_timeline.specs.declared.next.Next.TheVariants.{Round, Run, Entry, There}
 use Rattle.plus_timeline.specs.declared.stop.Stop.{Stop}
 use Rattle.plus_timeline.specs.declared.stop.Stop.TheVariants as stops
 use Rattle.plus_timeline.specs.Timeline.{TimelineView}
 use Rattle.plus_timeline.specs.Serving.{Serves}
-use Rattle.plus_timeline.specs.Stops.{IsGoing}
-use Rattle.plus_timeline.specs.Advance.{IsAhead}
 use Rattle.plus_timeline.specs.Finish.{IsPaused}
-use Rattle.plus_timeline.specs.Asked.{advance_tests}
-use Rattle.plus_planner.specs.Grid.{entries_of, asked_in, IsClearIn}
+use Rattle.plus_timeline.specs.Played as played
+use Rattle.plus_timeline.specs.StepsLeft as steps
+use Rattle.plus_timeline.specs.StepsLeft.{steps_left}
+use Rattle.plus_planner.specs.Grid.{asked_in, IsClearIn}
 
--- the timeline is that of this history of the plan, and all that is asked before passes
-pub record IsPlayed (fits : Fraction → Type 0) (P : Problem) (L : Plan) (h : List Part) (t : TimelineView) : Type 0 where
-  pub prefix : Prefix P L h
-  pub now : t.now ≡ view_of P h
-  pub entries : t.entries ≡ entries_of h
-  pub clear : IsClearIn fits P L t.most h
+-- the timeline is that of this history of the plan, and all that is asked before passes. Nothing is told beside it.
+abbrev pub IsPlayed : (Fraction → Type 0) → Problem → Plan → List Part → TimelineView → Type 0
+IsPlayed fits P L h t = played.IsPlayed fits P L (λ i. []) (λ g. Unit {0}) h t
 
 -- the timeline goes on, with this problem
-pub record CanGoOn (P : Problem) (t : TimelineView) : Type 0 where
-  pub serves : Serves P t
-  pub going : IsGoing t
-  pub within : t.entries ≤ t.most
-
--- a further entry is allowed where a set runs
-abbrev pub HasRoom : Option (List ℕ) → ℕ → ℕ → Type 0
-HasRoom None entries most = Unit {0}
-HasRoom (Some running) entries most = entries < most
+abbrev pub CanGoOn : Problem → TimelineView → Type 0
+CanGoOn P t = steps.CanGoOn (Serves P t) t
 
 -- it may be carried up to this time
-pub record CanReach (P : Problem) (u : Fraction) (t : TimelineView) : Type 0 where
-  pub goes : CanGoOn P t
-  pub ahead : IsAhead t.now.running t.now.time u
-  pub room : HasRoom t.now.running t.entries t.most
-
--- ---- how many steps are left at most: behind each that closes or begins an entry, a round for each event
-
--- the parts that an entry has left: one that closes it, and none where a set runs
-abbrev pub pending : Option (List ℕ) → ℕ
-pending None = 1
-pending (Some running) = 0
-
--- how many of the events below this number are not among those that fired
-abbrev pub unfired : ℕ → List ℕ → ℕ
-unfired zero fired = 0
-unfired (suc n) fired = (if is_in fired n then 0 else 1) + unfired n fired
-
-unfoldable pub steps_left : TimelineView → ℕ
-steps_left t = (2 * (t.most - t.entries) + pending t.now.running) * (t.event_count + 1) + unfired t.event_count t.now.fired
+abbrev pub CanReach : Problem → Fraction → TimelineView → Type 0
+CanReach P u t = steps.CanReach (Serves P t) u t
 
 -- ---- what it comes to. Each is said for every plan whose next line has the time that is aimed at
 
 -- the timeline is on its way to the time u, by a history of the plan; so many actions are done
-pub record IsOnWay (fits : Fraction → Type 0) (P : Problem) (L : Plan) (u : Fraction) (acted : ℕ) (h : List Part) (t : TimelineView) : Type 0 where
-  pub played : IsPlayed fits P L h t
-  pub target_is : target L t.now ≡ u
-  pub acted_is : t.now.acted ≡ acted
+abbrev pub IsOnWay : (Fraction → Type 0) → Problem → Plan → Fraction → ℕ → List Part → TimelineView → Type 0
+IsOnWay fits P L u acted h t = played.IsOnWay fits P L (λ i. []) (λ g. Unit {0}) u acted h t
 
 -- up to the time of the next line nothing is left to do
-pub record IsReached (fits : Fraction → Type 0) (P : Problem) (L : Plan) (u : Fraction) (acted : ℕ) (h : List Part) (t : TimelineView) : Type 0 where
-  pub played : IsPlayed fits P L h t
-  pub present : IsPresent P t.now
-  pub over : until P L t.now ≡ t.now.time
-  pub passed : AllPass fits (advance_tests P t.most t.entries (until P L t.now) t.now)
-  pub acted_is : t.now.acted ≡ acted
-  pub time_is : t.now.time ≡ u
+abbrev pub IsReached : (Fraction → Type 0) → Problem → Plan → Fraction → ℕ → List Part → TimelineView → Type 0
+IsReached fits P L u acted h t = played.IsReached fits P L (λ i. []) (λ g. Unit {0}) u acted h t
 
 -- the time is reached, and nothing is due there
 pub record Arrives (fits : Fraction → Type 0) (P : Problem) (u : Fraction) (old new : TimelineView) : Type 0 where

@@ -27,7 +27,7 @@ by_running P L v o part e n = subst (λ (r : Option (List ℕ)). NextBy P L v r 
 least_is : (P : Problem) (L : Plan) (v : View) (u : Fraction) → target L v ≡ u → least v.time u P.timed ≡ until P L v
 least_is P L v u e = ap (λ t. least v.time t P.timed) (sym e)
 
-least_same : (t : Fraction) (ls : List Timed) → least t t ls ≡ t
+pub least_same : (t : Fraction) (ls : List Timed) → least t t ls ≡ t
 least_same t ls = ≤ℚ_antisymm (least t t ls) t (least_within t t ls) (least_above t t ls (≤ℚ_refl t))
 
 round_follows : (P : Problem) (L : Plan) (old new : TimelineView) → FiresRound P old new → AddsChange P L old new (history.Round new.events new.now.state)
@@ -68,7 +68,7 @@ enter_follows P L old new u t g r =
       before = ap (λ v. v.before) r.is;
     }
 
-done_follows : (P : Problem) (L : Plan) (old new : TimelineView) (u : Fraction) → target L old.now ≡ u → IsThere P u old new → IsDone P L old new
+pub done_follows : (P : Problem) (L : Plan) (old new : TimelineView) (u : Fraction) → target L old.now ≡ u → IsThere P u old new → IsDone P L old new
 done_follows P L old new u g r =
     let e : new.now ≡ old.now = ap (λ v. v.now) r.is in
     let here : until P L old.now ≡ old.now.time = ap (λ t. least old.now.time t P.timed) (g ∙ sym r.time) ∙ least_same old.now.time P.timed in

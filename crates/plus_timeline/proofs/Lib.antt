@@ -18,3 +18,7 @@ pub mod Advancing
 pub mod InOrder
 pub mod LiteralLemmas
 pub mod Noting
+pub mod AskedHere
+pub mod Unfired
+pub mod StepsLeft
+pub mod Played

@@ -1,13 +1,13 @@
 -- The members of a settled running set, and how many rates it has.
 use Rattle.std.proofs.Common.{◌≡◌, ℕ, ◌<◌, zero, suc, Bool, true, false, List, [], ◌∷◌, length, replicate, refl, ap, sym, subst, ◌∙◌, arith}
 use Rattle.std.proofs.lemmas.List.Elements.{All-nil, All-cons}
-use Rattle.std.proofs.lemmas.Bool.{eq-eqb}
-use Rattle.std.specs.Prelude.{Option, Some, None, IsSomeAnd, Result, Ok, Err, ◌||◌, All, nat_eq, slice_get, pos}
+use Rattle.std.specs.Prelude.{Option, Some, None, IsSomeAnd, Result, Ok, Err, All, slice_get, pos}
 use Rattle.plus_fraction.specs.Fraction.{Fraction, whole}
 use Rattle.plus_model.specs.Terms.{Rate, Process, State, Problem}
 use Rattle.plus_model.specs.Value.{value, fluent_of}
 use Rattle.plus_model.specs.Firing.{is_in}
 use Rattle.plus_model.specs.Running.{JustAfter, GoesOn, Settled, add_at, rated, then_rates, add_rates, rates_at, sum_rates, rates}
+use Rattle.plus_model.proofs.Members.{in_first, in_later}
 use Rattle.plus_settle.specs.Members.{AreMembers}
 use Rattle.plus_timeline.specs.Timeline.{TimelineView}
 use Rattle.plus_timeline.specs.Serving.{Serves}
@@ -60,21 +60,15 @@ rates_size P s members rs e = sum_size P members s (replicate (length s.fluents)
 
 -- ---- members
 
-inside_list : {A : Type 0} (xs : List A) (k : ℕ) (Q : A → Type 0) → IsSomeAnd (slice_get xs k) Q → k < length xs
+-- a member that has a property stands in the list
+pub inside_list : {A : Type 0} (xs : List A) (k : ℕ) (Q : A → Type 0) → IsSomeAnd (slice_get xs k) Q → k < length xs
 inside_list [] k Q h = elim h [ ]
 inside_list (x ∷ xs) zero Q h = omega arith
 inside_list (x ∷ xs) (suc k) Q h = let i = inside_list xs k Q h in omega arith
 
-or_there : (x b : Bool) → b ≡ true → x || b ≡ true
-or_there true b e = refl
-or_there false b e = e
-
-first_in : (x : ℕ) (xs : List ℕ) → is_in (x ∷ xs) x ≡ true
-first_in x xs = ap (λ (b : Bool). b || is_in xs x) (eq-eqb x x refl)
-
 all_inside : (n : ℕ) (xs : List ℕ) → ((k : ℕ) → is_in xs k ≡ true → k < n) → All (λ p. p < n) xs
 all_inside n [] h = All-nil (λ p. p < n)
-all_inside n (x ∷ xs) h = All-cons (λ p. p < n) x xs (h x (first_in x xs)) (all_inside n xs (λ k e. h k (or_there (nat_eq k x) (is_in xs k) e)))
+all_inside n (x ∷ xs) h = All-cons (λ p. p < n) x xs (h x (in_first x xs)) (all_inside n xs (λ k e. h k (in_later k x xs e)))
 
 pub members_are : (P : Problem) (s : State) (rs : List Fraction) (members : List ℕ) → GoesOn P s rs members → AreMembers (length P.processes) members
 members_are P s rs members g = record {

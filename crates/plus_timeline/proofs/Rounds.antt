@@ -1,5 +1,5 @@
 -- What `advance` tells where a round is due, or none is.
-use Rattle.std.proofs.Common.{◌≡◌, ◌≢◌, ℕ, Bool, false, List, [], ◌∷◌, ◌++◌, length, map, cond, refl, ap, ap₂, sym, subst, ◌∙◌, inl}
+use Rattle.std.proofs.Common.{◌≡◌, ℕ, Bool, false, List, [], ◌∷◌, ◌++◌, length, map, cond, refl, ap, ap₂, sym, subst, ◌∙◌, inl}
 use Rattle.std.proofs.lemmas.List.{map-append}
 use Rattle.std.specs.Prelude.{Option, Some, None, Ok, Err, find, if◌then◌else◌}
 use Rattle.plus_fraction.specs.Fraction.{Fraction}
@@ -18,7 +18,7 @@ use Rattle.plus_state.proofs.Testing.{pass_none, pass_append, fail_left, carry_p
 use Rattle.plus_cascade.specs.declared.rounds.CascadeStop.{CascadeStop}
 use Rattle.plus_cascade.specs.declared.rounds.CascadeStop.TheVariants.{Repeats, Conflict, NoValue, Number, Memory}
 use Rattle.plus_cascade.specs.declared.rounds.DueRound.{DueRound}
-use Rattle.plus_cascade.specs.Fired.{event_numbers, has_fired, first_repeated, with_fired, IsSetOf}
+use Rattle.plus_cascade.specs.Fired.{event_numbers, has_fired, first_repeated, IsSetOf}
 use Rattle.plus_cascade.specs.Steps as cascade
 use Rattle.plus_cascade.specs.Steps.{RoundStep, condition_nodes, repeat_steps, fire_steps, round_steps}
 use Rattle.plus_cascade.specs.Rounds.{RoundChanges, FailsJointly}
@@ -29,6 +29,7 @@ use Rattle.plus_timeline.specs.Asked.{repeated, fire_tests, round_tests, closing
 use Rattle.plus_timeline.specs.Advance.{RoundFails, BreaksOff}
 use Rattle.plus_timeline.specs.Stopping.{of_cascade}
 use Rattle.plus_timeline.specs.Told.{Told}
+use Rattle.plus_timeline.proofs.Stays.{no_tests}
 
 -- ---- the steps of a round as tests of a history
 again : {A B C : Type 0} (f : A → B) (g : B → C) (h : A → C) → ((x : A) → g (f x) ≡ h x) → (xs : List A) → map g (map f xs) ≡ map h xs
@@ -69,10 +70,6 @@ pub at_moment : (P : Problem) (most entries : ℕ) (u : Fraction) (v : View) →
 unfolding advance_tests
 at_moment P most entries u v e = ap (advance_by P most entries u v) e
 
-no_rest : (es : List ℕ) (ts : List Test) → es ≢ [] → if_empty es ts ≡ []
-no_rest [] ts n = absurd (n refl)
-no_rest (e ∷ es) ts n = refl
-
 module _ {Q : Type 0} (value : Q → Fraction) (fits : Fraction → Type 0) (P : Problem) (set : List Bool) (v : View) (is : IsSetOf set v.fired) where
   shared : (es : List ℕ) → first_repeated set es ≡ first_shared es v.fired
   unfolding first_repeated first_shared
@@ -110,7 +107,7 @@ module _ {Q : Type 0} (value : Q → Fraction) (fits : Fraction → Type 0) (P :
     round_passes r h =
         let f = h.1 in
         subst (AllPass fits) (sym (at_moment P most entries u v moment))
-        (pass_append (Passes fits) _ _ (asked_pass h.0) (subst (AllPass fits) (sym (no_rest (firing P v.state) _ (λ e. f.some (f.all ∙ e)))) (pass_none (Passes fits))))
+        (pass_append (Passes fits) _ _ (asked_pass h.0) (subst (AllPass fits) (sym (no_tests (firing P v.state) _ (λ e. f.some (f.all ∙ e)))) (pass_none (Passes fits))))
 
     -- ---- the round that is due is none
     first_stop : (m : RoundStep) → cascade.FirstStop fits (round_steps P set v.state) m → FirstFailing fits (advance_tests P most entries u v) (of_round m)

@@ -19,19 +19,20 @@ use Rattle.plus_stretch.specs.StretchTests.{if_empty, stretch_tests}
 use Rattle.plus_timeline.specs.Asked.{round_tests, closing_tests, line_tests, advance_by, advance_tests, nothing_due, is_there, asked}
 use Rattle.plus_timeline.specs.AskedLaws.{AskedStays, AdvanceFirst, LineBehind}
 
-abbrev whole_list : Problem → Plan → ℕ → (ℕ → List Test) → ℕ → Fraction → View → Option (List ℕ) → Option Line → List Test
-whole_list P L most instance entries u v o line =
+-- what is asked, by what runs and by the next line
+abbrev pub listed : Problem → Plan → ℕ → (ℕ → List Test) → ℕ → Fraction → View → Option (List ℕ) → Option Line → List Test
+listed P L most instance entries u v o line =
     advance_by P most entries u v o ++ (if is_there P u v o then line_tests P L instance v line else [])
 
-asked_is : (P : Problem) (L : Plan) (most : ℕ) (instance : ℕ → List Test) (entries : ℕ) (v : View) → asked P L most instance entries v ≡ whole_list P L most instance entries (until P L v) v v.running (next_line L v)
+pub asked_is : (P : Problem) (L : Plan) (most : ℕ) (instance : ℕ → List Test) (entries : ℕ) (v : View) → asked P L most instance entries v ≡ listed P L most instance entries (until P L v) v v.running (next_line L v)
 unfolding asked advance_tests
 asked_is P L most instance entries v = refl
 
-no_tests : (xs : List ℕ) (ts : List Test) → xs ≢ [] → if_empty xs ts ≡ []
+pub no_tests : (xs : List ℕ) (ts : List Test) → xs ≢ [] → if_empty xs ts ≡ []
 no_tests [] ts n = absurd (n refl)
 no_tests (x ∷ xs) ts n = refl
 
-not_there : (xs : List ℕ) (b : Bool) → xs ≢ [] → nothing_due xs b ≡ false
+pub not_there : (xs : List ℕ) (b : Bool) → xs ≢ [] → nothing_due xs b ≡ false
 not_there [] b n = absurd (n refl)
 not_there (x ∷ xs) b n = refl
 
@@ -41,18 +42,18 @@ by_bool false f = refl
 
 module _ (P : Problem) (L L' : Plan) (most : ℕ) (instance : ℕ → List Test) (entries : ℕ) (v : View) (g : GoesOnFrom L L') where
   -- a round is due, whatever the lines say
-  in_round : (u : Fraction) (K : Plan) (line : Option Line) → firing P v.state ≢ [] → whole_list P K most instance entries u v None line ≡ (round_tests P v.fired v.state ++ []) ++ []
+  in_round : (u : Fraction) (K : Plan) (line : Option Line) → firing P v.state ≢ [] → listed P K most instance entries u v None line ≡ (round_tests P v.fired v.state ++ []) ++ []
   in_round u K line n = ap₂ (λ (xs : List Test) (b : Bool). (round_tests P v.fired v.state ++ xs) ++ (if b then line_tests P K instance v line else []))
       (no_tests (firing P v.state) _ n) (not_there (firing P v.state) (is_below v.time u) n)
 
   -- time is to go on
-  in_time : (u : Fraction) (K : Plan) (line : Option Line) → firing P v.state ≡ [] → is_below v.time u ≡ true → whole_list P K most instance entries u v None line ≡ (round_tests P v.fired v.state ++ closing_tests P most entries v.state) ++ []
+  in_time : (u : Fraction) (K : Plan) (line : Option Line) → firing P v.state ≡ [] → is_below v.time u ≡ true → listed P K most instance entries u v None line ≡ (round_tests P v.fired v.state ++ closing_tests P most entries v.state) ++ []
   in_time u K line s b =
       ap (λ (xs : List ℕ). (round_tests P v.fired v.state ++ if_empty xs (if is_below v.time u then closing_tests P most entries v.state else [])) ++ (if nothing_due xs (is_below v.time u) then line_tests P K instance v line else [])) s
       ∙ ap (λ (c : Bool). (round_tests P v.fired v.state ++ (if c then closing_tests P most entries v.state else [])) ++ (if not c then line_tests P K instance v line else [])) b
 
   -- a line is due
-  in_line : (u : Fraction) (K : Plan) (line : Option Line) → firing P v.state ≡ [] → is_below v.time u ≡ false → whole_list P K most instance entries u v None line ≡ (round_tests P v.fired v.state ++ []) ++ line_tests P K instance v line
+  in_line : (u : Fraction) (K : Plan) (line : Option Line) → firing P v.state ≡ [] → is_below v.time u ≡ false → listed P K most instance entries u v None line ≡ (round_tests P v.fired v.state ++ []) ++ line_tests P K instance v line
   in_line u K line s b =
       ap (λ (xs : List ℕ). (round_tests P v.fired v.state ++ if_empty xs (if is_below v.time u then closing_tests P most entries v.state else [])) ++ (if nothing_due xs (is_below v.time u) then line_tests P K instance v line else [])) s
       ∙ ap (λ (c : Bool). (round_tests P v.fired v.state ++ (if c then closing_tests P most entries v.state else [])) ++ (if not c then line_tests P K instance v line else [])) b
@@ -64,7 +65,7 @@ module _ (P : Problem) (L L' : Plan) (most : ℕ) (instance : ℕ → List Test)
   due_below K line e t = by_bool (is_below v.time (until P K v)) (λ b.
       not_below v.time (until P K v) (from_below v.time (until P K v) b) (subst (λ (x : Fraction). until P K v ≤ℚ x) (ap (λ (o : Option Line). time_or o v.time) e ∙ t) (until_within P K v)))
 
-  stays_by : (o : Option (List ℕ)) (part : Part) → NextBy P L v o part → whole_list P L most instance entries (until P L v) v o (next_line L v) ≡ whole_list P L' most instance entries (until P L' v) v o (next_line L' v)
+  stays_by : (o : Option (List ℕ)) (part : Part) → NextBy P L v o part → listed P L most instance entries (until P L v) v o (next_line L v) ≡ listed P L' most instance entries (until P L' v) v o (next_line L' v)
   stays_by None (Enter t a s) n = absurd n
   stays_by None (Round E s) n =
       let some : firing P v.state ≢ [] = λ e. n.some (n.all ∙ e) in

@@ -7,6 +7,8 @@ pub mod Told
 pub mod Advance
 pub mod Act
 pub mod Finish
+pub mod Played
+pub mod StepsLeft
 -- Inner words.
 pub mod Undo
 pub mod EntryStates

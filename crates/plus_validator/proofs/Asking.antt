@@ -1,23 +1,18 @@
--- What is asked at a history, by what comes next there.
-use Rattle.std.proofs.Common.{◌≡◌, ◌≢◌, ℕ, zero, suc, ◌<◌, Bool, true, false, not, List, [], ◌∷◌, ◌++◌, refl, ap, sym, subst, ◌∙◌, append-nil, arith, if◌then◌else◌}
+-- What is asked at a history by the next line, and for other instances and longer plans.
+use Rattle.std.proofs.Common.{◌≡◌, ℕ, zero, suc, ◌<◌, Bool, true, false, List, [], ◌∷◌, ◌++◌, refl, ap, sym, subst, ◌∙◌, arith, if◌then◌else◌}
 use Rattle.std.specs.Prelude.{Option, Some, None, length, slice_get}
-use Rattle.plus_fraction.specs.Fraction.{Fraction, ◌<ℚ◌}
-use Rattle.plus_fraction.proofs.FractionOrder.{<ℚ_irrefl}
 use Rattle.plus_model.specs.Terms.{State, Problem}
-use Rattle.plus_model.specs.Firing.{firing}
 use Rattle.plus_model.specs.Plan.{Instance, UnknownAction, WrongArguments, Line, ActLine, EndLine, Plan}
 use Rattle.plus_model.specs.History.{Part, Enter, Round, Act, Run, View}
-use Rattle.plus_model.specs.Trajectory.{is_below, next_line, until, IsEndOrNone, Next, NextBy}
-use Rattle.plus_model.specs.Breach.{IsPresent}
+use Rattle.plus_model.specs.Trajectory.{next_line, until, IsEndOrNone, Next, NextBy}
+use Rattle.plus_model.specs.Breach.{Breach, IsPresent}
 use Rattle.plus_model.specs.Laws.{GoesOnFrom}
-use Rattle.plus_model.proofs.Moments.{from_below}
 use Rattle.plus_number.specs.Frac.{IsFrac64}
 use Rattle.plus_state.proofs.Testing.{pass_append, fail_left, fail_right, pass_none, fail_here, one_test}
-use Rattle.plus_model.specs.Breach.{Breach}
 use Rattle.plus_stretch.specs.Tests.{Test, too_many_nodes, no_number, breach, Passes, AllPass, FirstFailing}
-use Rattle.plus_timeline.specs.Asked.{goal_tests, act_tests, line_tests, advance_tests, nothing_due, is_there, asked}
-use Rattle.plus_stretch.proofs.Rising.{to_below}
-use Rattle.plus_timeline.proofs.Stays.{asked_stays}
+use Rattle.plus_timeline.specs.Asked.{goal_tests, act_tests, line_tests, advance_by, advance_tests, is_there, asked}
+use Rattle.plus_timeline.proofs.Stays.{asked_is, asked_stays}
+use Rattle.plus_timeline.proofs.AskedHere.{IsNoAct, asked_on, asked_there}
 
 -- ---- lists of tests
 
@@ -49,65 +44,14 @@ pub number_fails : (start last : ℕ) (xs : List Test) → FirstFailing IsFrac64
 unfolding Passes
 number_fails start last xs = fail_here (Passes IsFrac64) (no_number start last) xs (λ x. x)
 
--- ---- whether a line is asked for
-
--- no act
-abbrev pub IsNoAct : Part → Type 0
-IsNoAct (Act i s) = ⊥
-IsNoAct _ = Unit {0}
-
-by_bool : (b : Bool) → (b ≡ true → ⊥) → b ≡ false
-by_bool true f = absurd (f refl)
-by_bool false f = refl
-
-something_due : (xs : List ℕ) (b : Bool) → xs ≢ [] → nothing_due xs b ≡ false
-something_due [] b n = absurd (n refl)
-something_due (x ∷ xs) b n = refl
+-- ---- the next line
 
 module _ (P : Problem) (L : Plan) (most : ℕ) (instance : ℕ → List Test) (entries : ℕ) (v : View) where
-  asked_by : (b : Bool) → is_there P (until P L v) v v.running ≡ b → asked P L most instance entries v ≡ advance_tests P most entries (until P L v) v ++ (if b then line_tests P L instance v (next_line L v) else [])
-  unfolding asked
-  asked_by b e = ap (λ (c : Bool). advance_tests P most entries (until P L v) v ++ (if c then line_tests P L instance v (next_line L v) else [])) e
-
-  not_there : (o : Option (List ℕ)) (part : Part) → IsNoAct part → NextBy P L v o part → is_there P (until P L v) v o ≡ false
-  not_there None (Enter t a s) q n = absurd n
-  not_there None (Round E s) q n = something_due (firing P v.state) (is_below v.time (until P L v)) (λ e. n.some (n.all ∙ e))
-  not_there None (Act i s) q n = absurd q
-  not_there None (Run R) q n =
-      ap (λ (xs : List ℕ). nothing_due xs (is_below v.time (until P L v))) n.still
-      ∙ ap not (to_below v.time (until P L v) n.later)
-  not_there (Some R) part q n = refl
-
-  -- where a part but an act comes next, what `advance` asks is all
-  pub asked_on : (part : Part) → IsNoAct part → Next P L v part → asked P L most instance entries v ≡ advance_tests P most entries (until P L v) v
-  asked_on part q n = asked_by false (not_there v.running part q n) ∙ append-nil (advance_tests P most entries (until P L v) v)
-
-  there_by : (o : Option (List ℕ)) → o ≡ None → firing P v.state ≡ [] → until P L v ≡ v.time → is_there P (until P L v) v o ≡ true
-  there_by (Some R) e s u = cc e
-  there_by None e s u =
-      ap (λ (xs : List ℕ). nothing_due xs (is_below v.time (until P L v))) s
-      ∙ ap not (by_bool (is_below v.time (until P L v)) (λ b. <ℚ_irrefl v.time (subst (λ (x : Fraction). v.time <ℚ x) u (from_below v.time (until P L v) b))))
-
-  -- where nothing is due and time goes no further, the next line is asked
-  pub asked_there : IsPresent P v → until P L v ≡ v.time → asked P L most instance entries v ≡ advance_tests P most entries (until P L v) v ++ line_tests P L instance v (next_line L v)
-  asked_there p u = asked_by true (there_by v.running p.moment p.still u)
-
-  line_is : (o : Option Line) → next_line L v ≡ o → IsPresent P v → until P L v ≡ v.time → asked P L most instance entries v ≡ advance_tests P most entries (until P L v) v ++ line_tests P L instance v o
-  line_is o e p u = asked_there p u ∙ ap (λ (x : Option Line). advance_tests P most entries (until P L v) v ++ line_tests P L instance v x) e
-
-  -- ---- the next line
-
   pub line_passes : (o : Option Line) → next_line L v ≡ o → IsPresent P v → until P L v ≡ v.time → AllPass IsFrac64 (advance_tests P most entries (until P L v) v) → AllPass IsFrac64 (line_tests P L instance v o) → AllPass IsFrac64 (asked P L most instance entries v)
-  line_passes o e p u a b = subst (AllPass IsFrac64) (sym (line_is o e p u)) (all_pass (advance_tests P most entries (until P L v) v) (line_tests P L instance v o) a b)
+  line_passes o e p u a b = subst (AllPass IsFrac64) (sym (asked_there P L most instance entries v o e p u)) (all_pass (advance_tests P most entries (until P L v) v) (line_tests P L instance v o) a b)
 
   pub line_fails : (o : Option Line) (t : Test) → next_line L v ≡ o → IsPresent P v → until P L v ≡ v.time → AllPass IsFrac64 (advance_tests P most entries (until P L v) v) → FirstFailing IsFrac64 (line_tests P L instance v o) t → FirstFailing IsFrac64 (asked P L most instance entries v) t
-  line_fails o t e p u a f = subst (λ (ts : List Test). FirstFailing IsFrac64 ts t) (sym (line_is o e p u)) (fails_right (advance_tests P most entries (until P L v) v) (line_tests P L instance v o) t a f)
-
-  -- a test of `advance` fails
-  pub advance_fails : (t : Test) → FirstFailing IsFrac64 (advance_tests P most entries (until P L v) v) t → FirstFailing IsFrac64 (asked P L most instance entries v) t
-  advance_fails t f =
-      subst (λ (ts : List Test). FirstFailing IsFrac64 ts t) (sym (asked_by (is_there P (until P L v) v v.running) refl))
-      (fails_left (advance_tests P most entries (until P L v) v) _ t f)
+  line_fails o t e p u a f = subst (λ (ts : List Test). FirstFailing IsFrac64 ts t) (sym (asked_there P L most instance entries v o e p u)) (fails_right (advance_tests P most entries (until P L v) v) (line_tests P L instance v o) t a f)
 
   -- a line that is no action asks for the goal, at the end of the text
   end_asks : (o : Option Line) → IsEndOrNone o → line_tests P L instance v o ≡ (if L.closed then goal_tests P v.state else [])
@@ -137,23 +81,24 @@ same_line_tests P L instance instance' v (Some (ActLine t (UnknownAction name)))
 same_line_tests P L instance instance' v (Some (ActLine t (WrongArguments name))) e = refl
 same_line_tests P L instance instance' v (Some (ActLine t (Instance action))) e = ap (λ (ts : List Test). ts ++ act_tests v.acted action v.state) e
 
-some_below : (ls : List Line) (i : ℕ) (line : Line) → slice_get ls i ≡ Some line → i < length ls
-some_below [] i line e = cc e
-some_below (x ∷ ls) zero line e = omega arith
-some_below (x ∷ ls) (suc i) line e = let k = some_below ls i line e in omega arith
+-- a line that stands there
+pub line_below : (ls : List Line) (i : ℕ) (line : Line) → slice_get ls i ≡ Some line → i < length ls
+line_below [] i line e = cc e
+line_below (x ∷ ls) zero line e = omega arith
+line_below (x ∷ ls) (suc i) line e = let k = line_below ls i line e in omega arith
 
 module _ (P : Problem) (L : Plan) (most : ℕ) (instance instance' : ℕ → List Test) (entries : ℕ) (v : View) (agree : (i : ℕ) → i < length L.lines → instance i ≡ instance' i) where
   same_act : instance v.acted ≡ instance' v.acted → asked P L most instance entries v ≡ asked P L most instance' entries v
   same_act e =
-      asked_by P L most instance entries v _ refl
-      ∙ ap (λ (ts : List Test). advance_tests P most entries (until P L v) v ++ (if is_there P (until P L v) v v.running then ts else [])) (same_line_tests P L instance instance' v (next_line L v) e)
-      ∙ sym (asked_by P L most instance' entries v _ refl)
+      asked_is P L most instance entries v
+      ∙ ap (λ (ts : List Test). advance_by P most entries (until P L v) v v.running ++ (if is_there P (until P L v) v v.running then ts else [])) (same_line_tests P L instance instance' v (next_line L v) e)
+      ∙ sym (asked_is P L most instance' entries v)
 
   same_on : (part : Part) → IsNoAct part → Next P L v part → asked P L most instance entries v ≡ asked P L most instance' entries v
   same_on part q n = asked_on P L most instance entries v part q n ∙ sym (asked_on P L most instance' entries v part q n)
 
   act_below : (o : Option (List ℕ)) (i : ℕ) (s : State) → NextBy P L v o (Act i s) → v.acted < length L.lines
-  act_below None i s n = some_below L.lines v.acted _ n.due
+  act_below None i s n = line_below L.lines v.acted _ n.due
   act_below (Some R) i s n = absurd n
 
   same_by : (part : Part) → Next P L v part → asked P L most instance entries v ≡ asked P L most instance' entries v

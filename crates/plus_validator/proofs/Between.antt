@@ -3,7 +3,7 @@ use Rattle.std.proofs.Common.{◌≡◌, ℕ, Bool, false, List, [], ◌∷◌, 
 use Rattle.plus_fraction.specs.Fraction.{Fraction, ◌<ℚ◌}
 use Rattle.plus_model.specs.Terms.{Problem}
 use Rattle.plus_model.specs.Plan as model
-use Rattle.plus_model.specs.Plan.{ActLine, EndLine, time_of, Plan, IsInOrder}
+use Rattle.plus_model.specs.Plan.{ActLine, EndLine, time_of, IsInOrder}
 use Rattle.plus_model.specs.History.{Part}
 use Rattle.plus_model.specs.Trajectory.{HasBegun, Prefix}
 use Rattle.plus_model.specs.Laws.{Begins}
@@ -21,7 +21,8 @@ use Rattle.plus_report.specs.declared.refusals.Early.TheVariants.{Literal}
 use Rattle.plus_report.specs.declared.refusals.Text.TheVariants as texts
 use Rattle.plus_stretch.specs.Tests.{Test}
 use Rattle.plus_validator.specs.Plans.{Pair, line_meant, lines_meant, plan_of, HasTime, HasValue}
-use Rattle.plus_validator.specs.Asking.{asked_at, instances_of, NoneFails, Fails, IsClear}
+use Rattle.plus_timeline.specs.Played.{asked_at}
+use Rattle.plus_validator.specs.Asking.{instances_of, NoneFails, Fails, IsClear}
 use Rattle.plus_validator.specs.Refused.{AreDone, TimeFault, after_end, no_value, goes_back, number_in}
 use Rattle.plus_validator.proofs.Asking.{none_fails}
 use Rattle.plus_validator.proofs.CalledTests.{instances_agree}

@@ -19,6 +19,7 @@ use Rattle.plus_expansion.specs.Literals.{call_literals}
 use Rattle.plus_expansion.specs.Calls.{called_of}
 use Rattle.plus_ground.specs.Refusals.{IsTooLarge, HasUnfit, IsInstance}
 use Rattle.plus_stretch.specs.Tests.{Test, too_many_nodes, no_number, AllPass, FirstFailing}
+use Rattle.plus_timeline.proofs.Stays.{by_bool}
 use Rattle.plus_validator.specs.Asking.{is_value, literal_tests, size_tests, call_tests, line_instances, all_instances, or_nothing, instances_of}
 use Rattle.plus_validator.specs.Plans.{Pair, line_meant, lines_meant}
 use Rattle.plus_validator.proofs.Asking.{all_pass, fails_left, fails_right, number_fails, nodes_fail, nothing_passes}
@@ -30,10 +31,6 @@ value_is l f = let a = f.places in let b = f.value in grind (arith, common_steps
 
 no_value : (l : Literal) → (LiteralFits IsFrac64 l → ⊥) → is_value l ≡ true → ⊥
 no_value l n e = n (record { places = grind (arith, common_steps); value = (grind (arith, common_steps), grind (arith, common_steps)) })
-
-by_bool : (b : Bool) → (b ≡ true → ⊥) → b ≡ false
-by_bool true f = absurd (f refl)
-by_bool false f = refl
 
 values_pass : (ls : List Literal) → All (LiteralFits IsFrac64) ls → AllPass IsFrac64 (literal_tests ls)
 values_pass [] a = nothing_passes

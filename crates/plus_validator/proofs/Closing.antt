@@ -1,30 +1,27 @@
 -- The beginning and the end of a run.
-use Rattle.std.proofs.Common.{◌≡◌, ℕ, ◌≤◌, true, false, List, [], ◌∷◌, ◌++◌, refl, ap, sym, subst, ◌∙◌, append-nil, inl, inr, pos, arith}
-use Rattle.std.specs.Prelude.{Option, None, length, if◌then◌else◌}
-use Rattle.plus_fraction.specs.Fraction.{Fraction, whole, ◌≤ℚ◌}
+use Rattle.std.proofs.Common.{◌≡◌, ℕ, ◌≤◌, true, false, [], ◌∷◌, ◌++◌, refl, ap, sym, subst, ◌∙◌, append-nil, inl, inr, pos, arith}
+use Rattle.std.specs.Prelude.{length, if◌then◌else◌}
+use Rattle.plus_fraction.specs.Fraction.{Fraction, whole}
 use Rattle.plus_model.specs.Terms.{Problem}
 use Rattle.plus_model.specs.Plan.{Plan, IsInOrder}
 use Rattle.plus_model.specs.Trajectory.{IsWorked, first_part, literals}
 use Rattle.plus_model.specs.Value.{holds}
 use Rattle.plus_model.proofs.Paths.{prefix_begins}
-use Rattle.plus_model.proofs.Moments.{≤ℚ_refl}
 use Rattle.plus_number.specs.declared.frac.Frac64.{Frac64}
 use Rattle.plus_number.specs.Frac.{fraction_of, IsFrac64}
 use Rattle.plus_state.specs.View.{Labels}
 use Rattle.plus_timeline.specs.Timeline as timeline
 use Rattle.plus_timeline.specs.Timeline.{begun}
-use Rattle.plus_indexed.specs.Indexed.{IndexedView}
 use Rattle.plus_indexed.specs.Knows.{Knows}
-use Rattle.plus_timeline.specs.Advance.{IsAhead}
 use Rattle.plus_timeline.specs.declared.next.Next.TheVariants.{Entry}
 use Rattle.plus_report.specs.Report.{report_of, report_from}
 use Rattle.plus_report.specs.Text.{entry_text, literals_text}
 use Rattle.plus_validator.specs.Account.{Account, Progress}
-use Rattle.plus_validator.specs.Standing.{CanGoOn, CanReach, IsReached, HasRoom, next_text, account_next, EndsBy, AllActed}
+use Rattle.plus_validator.specs.Standing.{CanGoOn, IsReached, next_text, account_next, EndsBy, AllActed}
 use Rattle.plus_validator.specs.Running.{IsOnWay, Reaches}
 use Rattle.plus_validator.specs.Playing.{Closes, Begins, closed}
-use Rattle.plus_validator.proofs.Clear.{clear_first}
-use Rattle.plus_validator.proofs.Steps.{literals_shown, account_by, asked_is}
+use Rattle.plus_timeline.proofs.Played.{clear_first, asked_same}
+use Rattle.plus_validator.proofs.Steps.{literals_shown, account_by}
 use Rattle.plus_validator.proofs.Lines.{close_played, close_target, close_worked}
 use Rattle.plus_stretch.specs.Tests.{AllPass}
 use Rattle.plus_validator.specs.Asking.{IsClear, NoneFails}
@@ -63,8 +60,8 @@ begins N P most time run some e k n t r =
             prefix = prefix_begins P L (subst IsInOrder (sym none) tt);
             now = ap (λ v. v.now) e;
             entries = ap (λ v. v.entries) e;
-            written = r ∙ ap (λ v. account_next fraction_of N P v (Entry time) nothing) e ∙ account_by (first_report N P L most time now) refl refl;
-            clear = clear_first P L run.timeline.line.most instance;
+            beside = r ∙ ap (λ v. account_next fraction_of N P v (Entry time) nothing) e ∙ account_by (first_report N P L most time now) refl refl;
+            clear = clear_first IsFrac64 P L run.timeline.line.most instance;
           };
           not_closed = open_yet;
           last = subst (λ b. EndsBy L.lines b run.timeline.line.now.time) (sym n) (inl (none, ap (λ v. v.now.time) e));
@@ -89,7 +86,7 @@ closes N P old mid new now e c r a g w = record {
       subst (λ x. IsReached N P (closed L) instance old.timeline.line.now.acted x there.0 mid.timeline.line mid.account) e there.1 in
       let worked : IsWorked P (closed L) mid.timeline.line.now = close_worked N P L instance old.ended h there.0 old.timeline.line mid.timeline.line old.account mid.account ready there_now in
       let passed : NoneFails P (closed L) mid.timeline.line.most instance there.0 =
-      subst (AllPass IsFrac64) (asked_is N P (closed L) instance there.0 mid.timeline.line mid.account there.1.played)
+      subst (AllPass IsFrac64) (asked_same there.1.played)
       (goal_passes P (closed L) mid.timeline.line.most instance mid.timeline.line.entries mid.timeline.line.now refl worked.acted there.1.present there.1.over there.1.passed a) in
       let within = r.can.within in
       let most = r.most in
@@ -105,7 +102,7 @@ closes N P old mid new now e c r a g w = record {
           few = omega arith;
           clear = subst (λ (m : ℕ). IsClear P (closed L) m instance there.0) r.most there.1.played.clear;
           passed = subst (λ (m : ℕ). NoneFails P (closed L) m instance there.0) r.most passed;
-          written = w ∙ there.1.played.written;
+          written = w ∙ there.1.played.beside;
         },
       );
 }

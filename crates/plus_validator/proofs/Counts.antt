@@ -9,7 +9,8 @@ use Rattle.plus_state.specs.View.{Labels}
 use Rattle.plus_report.specs.Labels.{event_label}
 use Rattle.plus_report.specs.Report.{part_text, state_after, literals_part, report_from, report_of}
 use Rattle.plus_report.specs.Text.{newline, fraction_text, fluents_text, labels_text, entry_text, round_text, changes_text}
-use Rattle.plus_validator.specs.Asking.{entries_of, firings_of}
+use Rattle.plus_timeline.specs.Played.{entries_of}
+use Rattle.plus_validator.specs.Asking.{firings_of}
 use Rattle.plus_validator.specs.Laws.{CountsFit}
 
 -- a moment has a byte

@@ -37,7 +37,8 @@ use Rattle.plus_validator.specs.declared.judge.Outcome.TheVariants.{Valid, Inval
 use Rattle.plus_io.specs.Limits.{text_limit}
 use Rattle.plus_validator.specs.Outcomes.{outcome_of}
 use Rattle.plus_validator.specs.Plans.{Pair, pair, lines_meant, plan_of, Reading, plan_in}
-use Rattle.plus_validator.specs.Asking.{asked_at, instances_of, NoneFails}
+use Rattle.plus_timeline.specs.Played.{asked_at}
+use Rattle.plus_validator.specs.Asking.{instances_of, NoneFails}
 use Rattle.plus_validator.specs.Refused.{StandsEarly, Stands, IsWaiting, TimeFault, after_end, no_value, goes_back, number_in, IsTimeRefused, IsStopped, IsStoppedAtEnd, Cause, NonePlays, BreachRefutes, line_next, Refusal, IsRefused}
 use Rattle.plus_validator.specs.Accepted.{IsAccepted}
 use Rattle.plus_validator.specs.Validates.{IsRead, IsRefusedIn, IsWhole}

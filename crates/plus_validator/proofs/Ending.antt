@@ -1,7 +1,6 @@
 -- A plan that is refused as invalid stays inside the limits.
 use Rattle.std.proofs.Common.{◌≡◌, ℕ, Bool, true, false, List, [], ◌∷◌, ◌++◌, refl, ap, sym, subst, ◌∙◌, inl, inr, append-nil, append_assoc}
 use Rattle.std.specs.Prelude.{◌≢◌, ◌⊎◌, All, Ok}
-use Rattle.std.proofs.lemmas.List.Elements.{All-head, All-tail}
 use Rattle.plus_model.specs.Terms as terms
 use Rattle.plus_model.specs.Plan as model
 use Rattle.plus_model.specs.Plan.{Plan, IsInOrder}
@@ -28,8 +27,9 @@ use Rattle.plus_plan.specs.Lines.{plan_lines}
 use Rattle.plus_plan.specs.TimeValue.{value_of}
 use Rattle.plus_expansion.specs.Expansion.{expanded}
 use Rattle.plus_report.specs.declared.verdicts.Verdict.TheVariants as verdicts
+use Rattle.plus_timeline.specs.Played.{asked_at}
 use Rattle.plus_validator.specs.Plans.{Pair, pair, lines_meant, plan_of, Reading, plan_in, HasTime, HasValue}
-use Rattle.plus_validator.specs.Asking.{asked_at, instances_of, NoneFails, Fails, IsClear}
+use Rattle.plus_validator.specs.Asking.{instances_of, NoneFails, Fails, IsClear}
 use Rattle.plus_validator.specs.Refused.{IsBroken, Stands, IsWaiting, TimeFault, after_end, no_value, goes_back, number_in, IsTimeRefused, IsStopped, IsStoppedAtEnd, Refusal}
 use Rattle.plus_validator.specs.Tame.{StaysInside, IsOpenBehind, IsTame}
 use Rattle.plus_validator.specs.Laws.{InvalidIsTame}
@@ -38,14 +38,10 @@ use Rattle.plus_validator.proofs.Between.{place_excluded, no_after}
 use Rattle.plus_validator.proofs.CalledTests.{instances_agree}
 use Rattle.plus_validator.proofs.Clear.{clear_grows}
 use Rattle.plus_validator.proofs.Deciding.{Places, all_read, next_read, places, cause_in, refusal_of, breach_in, not_none}
-use Rattle.plus_validator.proofs.Inside.{inside_front, in_order_is_tame}
+use Rattle.plus_validator.proofs.Inside.{one_of, inside_front, in_order_is_tame}
 use Rattle.plus_validator.proofs.Longer.{fails_longer}
 use Rattle.plus_validator.proofs.OneAnswer.{time_once}
 use Rattle.plus_validator.proofs.TextStops.{goes_on, begun_more}
-
-one_of : {A : Type 0} (Q : A → Type 0) (front back : List A) (x : A) → All Q (front ++ x ∷ back) → Q x
-one_of Q [] back x a = All-head Q x back a
-one_of Q (y ∷ front) back x a = one_of Q front back x (All-tail Q y (front ++ x ∷ back) a)
 
 -- ---- at the longest prefix, before which all passes
 

@@ -1,7 +1,6 @@
 -- The refusal of a pair and an answer to a plan for it exclude each other.
-use Rattle.std.proofs.Common.{◌≡◌, ℕ, List, [], ◌∷◌, ◌++◌, sym, subst, ◌∙◌}
+use Rattle.std.proofs.Common.{◌≡◌, ℕ, List, sym, subst, ◌∙◌}
 use Rattle.std.specs.Prelude.{Some, None, All}
-use Rattle.std.proofs.lemmas.List.Elements.{All-head, All-tail}
 use Rattle.plus_number.specs.Frac.{IsFrac64}
 use Rattle.plus_tree.specs.declared.trees.Domain.{Domain}
 use Rattle.plus_tree.specs.declared.trees.Problem.{Problem}
@@ -14,11 +13,7 @@ use Rattle.plus_ground.specs.Refusals.{RefusesGround}
 use Rattle.plus_expansion.specs.Counting.{IsGroundable}
 use Rattle.plus_validator.specs.Validates.{TellsFault}
 use Rattle.plus_validator.specs.Laws.{IsJudgedFor, accepted, refused, PairOrPlan}
-
--- one of a list
-one_of : {A : Type 0} (Q : A → Type 0) (front back : List A) (x : A) → All Q (front ++ x ∷ back) → Q x
-one_of Q [] back x a = All-head Q x back a
-one_of Q (y ∷ front) back x a = one_of Q front back x (All-tail Q y (front ++ x ∷ back) a)
+use Rattle.plus_validator.proofs.Inside.{one_of}
 
 -- the literal is a value of the type of numbers
 abbrev Fits : File × Literal → Type 0

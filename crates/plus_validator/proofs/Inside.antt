@@ -17,7 +17,8 @@ use Rattle.plus_validator.proofs.CalledTests.{instances_agree}
 use Rattle.plus_validator.proofs.Longer.{fails_longer}
 use Rattle.plus_validator.proofs.TextStops.{goes_on, begun_more}
 
-one_of : {A : Type 0} (Q : A → Type 0) (front back : List A) (x : A) → All Q (front ++ x ∷ back) → Q x
+-- a member has what all have
+pub one_of : {A : Type 0} (Q : A → Type 0) (front back : List A) (x : A) → All Q (front ++ x ∷ back) → Q x
 one_of Q [] back x a = All-head Q x back a
 one_of Q (y ∷ front) back x a = one_of Q front back x (All-tail Q y (front ++ x ∷ back) a)
 

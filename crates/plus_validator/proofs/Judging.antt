@@ -33,7 +33,8 @@ use Rattle.plus_validator.specs.Feeding.{IsPlayedOut, StopsOn}
 use Rattle.plus_validator.specs.Judged.{GivesVerdict, SumsUp, IsPlain, IsJudged}
 use Rattle.plus_validator.proofs.Played.{accepted}
 use Rattle.plus_validator.specs.Accepted.{IsAccepted}
-use Rattle.plus_validator.specs.Asking.{entries_of, firings_of, instances_of}
+use Rattle.plus_timeline.specs.Played.{entries_of}
+use Rattle.plus_validator.specs.Asking.{firings_of, instances_of}
 use Rattle.plus_validator.specs.Validates.{IsRead, IsRefusal, IsRefusedIn}
 use Rattle.plus_validator.specs.Verdicts as verdicts
 use Rattle.plus_validator.specs.Verdicts.{JudgesText}

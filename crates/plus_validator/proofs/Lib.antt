@@ -2,7 +2,6 @@ pub mod Asking
 pub mod CalledTests
 pub mod Clear
 pub mod Numbers
-pub mod Rounds
 pub mod Steps
 pub mod FiresLemmas
 pub mod Lines

@@ -43,7 +43,7 @@ grown N P L L' instance instance' more h t account e a o b p =
       prefix = prefix_goes_on P L L' h p.prefix (record { more = more; lines = e }) o b;
       now = p.now;
       entries = p.entries;
-      written = p.written ∙ sym (account_by (ap (λ (M : Plan). report_of N P M h) is ∙ report_of-grown N P L more L'.closed h p.prefix) refl refl);
+      beside = p.beside ∙ sym (account_by (ap (λ (M : Plan). report_of N P M h) is ∙ report_of-grown N P L more L'.closed h p.prefix) refl refl);
       clear = clear_grows P L L' t.most instance instance' (record { more = more; lines = e }) a h p.prefix p.clear;
     }
 

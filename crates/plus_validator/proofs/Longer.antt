@@ -1,28 +1,26 @@
 -- What fails for the lines read so far fails first for every plan that goes on from them.
-use Rattle.std.proofs.Common.{◌≡◌, ℕ, zero, suc, ◌<◌, Bool, true, false, List, [], ◌∷◌, ◌++◌, refl, ap, sym, subst, ◌∙◌, inl, inr, append-nil, arith, if◌then◌else◌}
-use Rattle.std.specs.Prelude.{◌≢◌, ◌⊎◌, Option, Some, None, length, slice_get}
+use Rattle.std.proofs.Common.{◌≡◌, ℕ, ◌<◌, Bool, true, false, List, [], ◌∷◌, ◌++◌, refl, ap, sym, subst, ◌∙◌, inl, inr, append-nil, if◌then◌else◌}
+use Rattle.std.specs.Prelude.{◌≢◌, ◌⊎◌, Option, Some, None, length}
 use Rattle.plus_fraction.specs.Fraction.{Fraction, ◌<ℚ◌}
-use Rattle.plus_fraction.proofs.FractionAtMost.{≤ℚ_antisymm}
 use Rattle.plus_fraction.proofs.FractionOrder.{<ℚ_irrefl}
-use Rattle.plus_model.specs.Terms.{Timed, Problem}
+use Rattle.plus_model.specs.Terms.{Problem}
 use Rattle.plus_model.specs.Firing.{firing}
 use Rattle.plus_model.specs.Plan.{Instance, UnknownAction, WrongArguments, Line, ActLine, EndLine, Plan}
 use Rattle.plus_model.specs.History.{Part, Enter, Round, Act, Run, View, view_after, view_from}
 use Rattle.plus_model.specs.Trajectory.{is_below, least, next_line, time_or, until, NextBy, Follow, Prefix, first_view, view_of}
 use Rattle.plus_model.specs.Laws.{GoesOnFrom}
-use Rattle.plus_model.proofs.Moments.{from_below, least_within, least_above, ≤ℚ_refl}
+use Rattle.plus_model.proofs.Moments.{from_below}
 use Rattle.plus_model.proofs.Later.{same_line}
 use Rattle.plus_number.specs.Frac.{IsFrac64}
 use Rattle.plus_stretch.specs.Tests.{Test, FirstFailing}
 use Rattle.plus_stretch.specs.StretchTests.{if_empty}
 use Rattle.plus_timeline.specs.Asked.{round_tests, closing_tests, act_tests, goal_tests, line_tests, advance_by, advance_tests, is_there, asked}
-use Rattle.plus_validator.specs.Asking.{entries_of, Fails}
-use Rattle.plus_validator.proofs.Asking.{fails_left}
+use Rattle.plus_timeline.specs.Played.{entries_of}
+use Rattle.plus_timeline.proofs.Follows.{least_same}
+use Rattle.plus_validator.specs.Asking.{Fails}
+use Rattle.plus_validator.proofs.Asking.{fails_left, line_below}
 
 -- ---- where a set runs, a line is next
-
-least_same : (t : Fraction) (ls : List Timed) → least t t ls ≡ t
-least_same t ls = ≤ℚ_antisymm (least t t ls) t (least_within t t ls) (least_above t t ls (≤ℚ_refl t))
 
 until_now : (P : Problem) (L : Plan) (v : View) → next_line L v ≡ None → until P L v ≡ v.time
 until_now P L v e = ap (λ (o : Option Line). least v.time (time_or o v.time) P.timed) e ∙ least_same v.time P.timed
@@ -58,11 +56,6 @@ never_below : (x : Fraction) (b : Bool) → is_below x x ≡ b → b ≡ false
 never_below x true e = absurd (<ℚ_irrefl x (from_below x x e))
 never_below x false e = refl
 
-some_below : (ls : List Line) (i : ℕ) (line : Line) → slice_get ls i ≡ Some line → i < length ls
-some_below [] i line e = cc e
-some_below (x ∷ ls) zero line e = omega arith
-some_below (x ∷ ls) (suc i) line e = let k = some_below ls i line e in omega arith
-
 module _ (P : Problem) (L L' : Plan) (most : ℕ) (instance instance' : ℕ → List Test) (entries : ℕ) (v : View) (g : GoesOnFrom L L') (agree : (i : ℕ) → i < length L.lines → instance i ≡ instance' i) (still_open : L.closed ≡ false) (t : Test) where
   abbrev whole_list : Plan → (ℕ → List Test) → Fraction → Option Line → List Test
   whole_list K inst u o = advance_tests P most entries u v ++ (if is_there P u v v.running then line_tests P K inst v o else [])
@@ -87,7 +80,7 @@ module _ (P : Problem) (L L' : Plan) (most : ℕ) (instance instance' : ℕ → 
       let e' : next_line L' v ≡ Some line = same_line L L' v line g e in
       let u : until P L' v ≡ until P L v = ap (λ (o : Option Line). least v.time (time_or o v.time) P.timed) (e' ∙ sym e) in
       subst (λ (ts : List Test). FirstFailing IsFrac64 ts t) (sym (asked_is L' instance' (Some line) (until P L v) e' u))
-      (line_on line (until P L v) (agree v.acted (some_below L.lines v.acted line e))
+      (line_on line (until P L v) (agree v.acted (line_below L.lines v.acted line e))
       (subst (λ (ts : List Test). FirstFailing IsFrac64 ts t) (asked_is L instance (Some line) (until P L v) e refl) f))
 
   -- the tests at a moment begin with those of a round

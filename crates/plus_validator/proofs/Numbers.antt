@@ -1,49 +1,24 @@
 -- The numbers of events, processes and fluents that a step or a breach names are places in their lists.
 use Rattle.std.proofs.Common.{◌≡◌, ℕ, zero, suc, ◌+◌, ◌<◌, ◌≤◌, Bool, true, false, List, [], ◌∷◌, ◌++◌, map, subst, ◌⊎◌, inl, inr, pos, arith}
-use Rattle.std.specs.Prelude.{Option, Some, None, IsSomeAnd, Result, Ok, Err, IfErr, All, length, replicate, slice_get, find, if◌then◌else◌}
+use Rattle.std.specs.Prelude.{Option, Some, None, Result, Ok, Err, IfErr, All, length, replicate, slice_get, find, if◌then◌else◌}
 use Rattle.std.proofs.lemmas.Bool.{cases_lt}
 use Rattle.std.proofs.lemmas.List.Elements.{All-nil, All-cons, All-head, All-tail, All-append}
 use Rattle.plus_fraction.specs.Fraction.{Fraction, whole}
 use Rattle.plus_model.specs.Terms.{Expression, Number, Fluent, Sum, Difference, Product, Quotient, Effect, Event, Process, Rate, State, Problem}
-use Rattle.plus_model.specs.Value.{value, fluent_of, holds}
-use Rattle.plus_model.specs.Firing.{numbers_of, firing, is_in, first_shared, effects_at, effects_of}
+use Rattle.plus_model.specs.Value.{value, fluent_of}
+use Rattle.plus_model.specs.Firing.{firing, is_in, first_shared, effects_at, effects_of}
 use Rattle.plus_model.specs.Running.{rated, then_rates, add_rates, rates_at, sum_rates, rates, RunsAfter, GoesOn, names, names_of_rates, named_pairs, first_coupled}
 use Rattle.plus_model.specs.Breach.{Differs, HoldsAfter}
-use Rattle.plus_model.proofs.Members.{in_first, in_later}
 use Rattle.plus_settle.proofs.MembersLemmas.{all_in}
+use Rattle.plus_timeline.proofs.Members.{inside_list, members_are}
+use Rattle.plus_timeline.proofs.Unfired.{firing_below}
 use Rattle.plus_state.specs.Fits.{IsIn, AllEffectsFit, RateFits, EventFits, ProcessFits, ProblemFits}
 
--- ---- places in a list
-
--- a member that has a property stands in the list
-pub some_below : {A : Type 0} (xs : List A) (k : ℕ) (Q : A → Type 0) → IsSomeAnd (slice_get xs k) Q → k < length xs
-some_below [] k Q h = elim h [ ]
-some_below (x ∷ xs) zero Q h = omega arith
-some_below (x ∷ xs) (suc k) Q h = (let l = some_below xs k Q h in omega arith)
-
--- the numbers of members that pass a test
-choose : (n k : ℕ) (b : Bool) (es : List ℕ) → k < n → All (λ e. e < n) es → All (λ e. e < n) (if b then k ∷ es else es)
-choose n k true es h r = All-cons (λ e. e < n) k es h r
-choose n k false es h r = r
-
-numbers_below : {A : Type 0} (test : A → Bool) (k n : ℕ) (xs : List A) → k + length xs ≡ n → All (λ e. e < n) (numbers_of test k xs)
-numbers_below test k n [] h = All-nil (λ e. e < n)
-numbers_below test k n (x ∷ xs) h = choose n k (test x) (numbers_of test (suc k) xs) (omega arith) (numbers_below test (suc k) n xs (omega arith))
-
-pub firing_below : (P : Problem) (s : State) → All (λ e. e < length P.events) (firing P s)
-unfolding firing
-firing_below P s = numbers_below (λ (e : Event). holds e.condition s) 0 (length P.events) P.events (omega arith)
-
--- all members are below a number
-members_below : (n : ℕ) (xs : List ℕ) → ((k : ℕ) → is_in xs k ≡ true → k < n) → All (λ p. p < n) xs
-members_below n [] f = All-nil (λ p. p < n)
-members_below n (x ∷ xs) f = All-cons (λ p. p < n) x xs (f x (in_first x xs)) (members_below n xs (λ k h. f k (in_later k x xs h)))
-
 pub runs_below : (P : Problem) (s : State) (rs : List Fraction) (p : ℕ) → RunsAfter P s rs p → p < length P.processes
-runs_below P s rs p h = some_below P.processes p _ h
+runs_below P s rs p h = inside_list P.processes p _ h
 
 pub set_below : (P : Problem) (s : State) (rs : List Fraction) (R : List ℕ) → GoesOn P s rs R → All (λ p. p < length P.processes) R
-set_below P s rs R g = members_below (length P.processes) R (λ k h. runs_below P s rs k ((g.members k).0 h))
+set_below P s rs R g = (members_are P s rs R g).inside
 
 -- what is found in a list has what all members have
 found_by : {A : Type 0} (Q : A → Type 0) (b : Bool) (x : A) (o : Option A) (y : A) → Q x → (o ≡ Some y → Q y) → (if b then Some x else o) ≡ Some y → Q y
@@ -61,7 +36,7 @@ unfolding first_shared
 repeats_below P s fired e h = found_in (is_in fired) (λ k. k < length P.events) (firing P s) e h (firing_below P s)
 
 pub after_below : (P : Problem) (s : State) (rs : List Fraction) (e : ℕ) → HoldsAfter P s rs e → e < length P.events
-after_below P s rs e h = some_below P.events e _ h
+after_below P s rs e h = inside_list P.events e _ h
 
 effects_in : (n m : ℕ) (es : List Event) (k : ℕ) → All (EventFits n m) es → AllEffectsFit n m (effects_at (slice_get es k))
 effects_in n m [] k a = tt

@@ -18,7 +18,8 @@ use Rattle.plus_validator.specs.declared.judge.Judged.{Judged}
 use Rattle.plus_validator.specs.declared.judge.Outcome.{Outcome}
 use Rattle.plus_validator.specs.declared.judge.Outcome.TheVariants as outcomes
 use Rattle.plus_validator.specs.Accepted.{IsAccepted}
-use Rattle.plus_validator.specs.Asking.{entries_of, firings_of}
+use Rattle.plus_timeline.specs.Played.{entries_of}
+use Rattle.plus_validator.specs.Asking.{firings_of}
 use Rattle.plus_validator.specs.Laws as laws
 use Rattle.plus_validator.specs.Laws.{IsJudgedFor, OneJudgement, JudgedAsChecked, CheckedAsJudged}
 use Rattle.plus_validator.specs.Outcomes.{early_outcome, outcome_of}

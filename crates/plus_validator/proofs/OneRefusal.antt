@@ -1,7 +1,6 @@
 -- A plan text is refused in one way.
 use Rattle.std.proofs.Common.{◌≡◌, ℕ, Bool, true, false, List, [], ◌∷◌, ◌++◌, ap, sym, subst, ◌∙◌, inl, inr, append_assoc, append-nil}
 use Rattle.std.specs.Prelude.{◌⊎◌, All, Result, Ok, Err}
-use Rattle.std.proofs.lemmas.List.Elements.{All-head, All-tail}
 use Rattle.plus_model.specs.Terms.{Problem}
 use Rattle.plus_model.specs.Plan as model
 use Rattle.plus_model.specs.Plan.{Plan, IsInOrder}
@@ -21,10 +20,7 @@ use Rattle.plus_validator.proofs.Telling.{tells_first}
 use Rattle.plus_validator.proofs.TextStops.{lines_meant-more, begun_more}
 use Rattle.plus_validator.proofs.Between.{PlaysOn, time_excluded, none_between}
 use Rattle.plus_validator.proofs.OneAnswer.{same, left, right, parted, begins_both, SameVerdict, by_equal, fault_once, time_refused_once, stopped_once, ended_once, time_or_stopped}
-
-one_of : {A : Type 0} (Q : A → Type 0) (front back : List A) (x : A) → All Q (front ++ x ∷ back) → Q x
-one_of Q [] back x a = All-head Q x back a
-one_of Q (y ∷ front) back x a = one_of Q front back x (All-tail Q y (front ++ x ∷ back) a)
+use Rattle.plus_validator.proofs.Inside.{one_of}
 
 clear_front : (P : Problem) (L : Plan) (most : ℕ) (instance : ℕ → List Test) (g h : List Part) → Begins g h → IsClear P L most instance h → IsClear P L most instance g
 clear_front P L most instance g h b c = λ f part rest q e.

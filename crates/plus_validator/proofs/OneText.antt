@@ -25,7 +25,8 @@ use Rattle.plus_validator.specs.Plans.{Pair, pair, plan_of, Reading, plan_in, li
 use Rattle.plus_validator.specs.Refused.{Cause, Refusal, IsCut, WholeLines, IsRefused, IsStoppedAtEnd}
 use Rattle.plus_validator.proofs.OneRefusal.{one_refusal, passed_by}
 use Rattle.plus_validator.specs.Accepted.{IsAccepted}
-use Rattle.plus_validator.specs.Asking.{entries_of, firings_of, IsClear, NoneFails, asked_at, instances_of}
+use Rattle.plus_timeline.specs.Played.{entries_of, asked_at}
+use Rattle.plus_validator.specs.Asking.{firings_of, IsClear, NoneFails, instances_of}
 use Rattle.plus_validator.proofs.Between.{PlaysOn}
 use Rattle.plus_validator.proofs.OneAnswer.{begins_both, Parted, left, parted, right, same}
 use Rattle.plus_validator.proofs.LineStops.{names_line}
@@ -33,12 +34,9 @@ use Rattle.plus_validator.proofs.Asking.{none_fails}
 use Rattle.plus_validator.proofs.Telling.{tells_first}
 use Rattle.plus_validator.specs.Validates.{IsRead, IsRefusedIn, IsWhole}
 use Rattle.plus_validator.specs.Laws.{OneAnswer}
+use Rattle.plus_validator.proofs.Inside.{one_of}
 
 -- ---- one cut
-
-one_of : {A : Type 0} (Q : A → Type 0) (front back : List A) (x : A) → All Q (front ++ x ∷ back) → Q x
-one_of Q [] back x a = All-head Q x back a
-one_of Q (y ∷ front) back x a = one_of Q front back x (All-tail Q y (front ++ x ∷ back) a)
 
 none_left : (w m : List ℕ) → w ++ m ≡ [] → m ≡ []
 none_left [] m e = e

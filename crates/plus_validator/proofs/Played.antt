@@ -35,18 +35,21 @@ use Rattle.plus_validator.specs.Plans.{Pair, pair, line_meant, plan_of, HasTime,
 use Rattle.plus_indexed.specs.Indexed.{IndexedView}
 use Rattle.plus_model.proofs.Moments.{≤ℚ_refl}
 use Rattle.plus_timeline.specs.Advance.{IsAhead}
-use Rattle.plus_validator.specs.Standing.{IsPlayed, CanGoOn, CanReach, HasRoom, IsReady, IsReached}
+use Rattle.plus_timeline.specs.StepsLeft.{HasRoom}
+use Rattle.plus_validator.specs.Standing.{IsTold, IsPlayed, CanGoOn, CanReach, IsReady, IsReached}
 use Rattle.plus_validator.specs.Running.{IsOnWay, Reaches}
 use Rattle.plus_validator.specs.Playing.{Readied, IsResting, ActsOnce, PlaysLine, IsInTime, Closes, PlaysAll, Ends, Begins, ReadiedFor}
 use Rattle.plus_validator.proofs.FiresLemmas.{fires_exactly}
 use Rattle.plus_validator.specs.Feeding.{HasPlayed}
 use Rattle.plus_validator.proofs.Texts.{plan_of-append}
-use Rattle.plus_validator.proofs.Steps.{played_on, account_by, entries_of-append, asked_is}
+use Rattle.plus_timeline.proofs.Played.{played_on, entries_of-append, asked_same}
+use Rattle.plus_validator.proofs.Steps.{account_by, told_on}
 use Rattle.plus_validator.proofs.Lines.{with_line, has_begun, read_on, read_target, act_due, acted_target, act_ready, end_ready, Agree}
 use Rattle.std.proofs.lemmas.List.Elements.{All-cons, All-head, All-nil, All-tail}
 use Rattle.plus_stretch.specs.Tests.{AllPass, Test}
 use Rattle.plus_ground.specs.Refusals.{IsInstance}
-use Rattle.plus_validator.specs.Asking.{NoneFails, call_tests, entries_of, firings_of, instances_of, line_instances}
+use Rattle.plus_timeline.specs.Played.{entries_of}
+use Rattle.plus_validator.specs.Asking.{NoneFails, call_tests, firings_of, instances_of, line_instances}
 use Rattle.plus_timeline.specs.Asked.{act_tests}
 use Rattle.plus_validator.proofs.Asking.{all_pass, line_passes}
 use Rattle.plus_validator.proofs.CalledTests.{call_passes, instance_is, instances_agree, same_instances}
@@ -61,7 +64,7 @@ act_adds P L action old new n a = record {
 -- where the action that is due is done, all that is asked passes
 act_passes : (d : Pair) (N : Labels) (P : Problem) (L : Plan) (instance : ℕ → List Test) (h : List Part) (call : Call) (action : Action) (v : TimelineView) (account : Account) → IsInstance IsFrac64 d.domain call.name (called_of d.domain d.problem call.name call.args) action → instance v.now.acted ≡ call_tests d call → IsReached N P L instance v.now.acted v.now.time h v account → next_line L v.now ≡ Some (ActLine v.now.time (Instance action)) → AllPass IsFrac64 (act_tests v.now.acted action v.now.state) → NoneFails P L v.most instance h
 act_passes d N P L instance h call action v account i n s due x =
-    subst (AllPass IsFrac64) (asked_is N P L instance h v account s.played)
+    subst (AllPass IsFrac64) (asked_same s.played)
     (line_passes P L v.most instance v.entries v.now (Some (ActLine v.now.time (Instance action))) due s.present s.over s.passed
     (all_pass (instance v.now.acted) (act_tests v.now.acted action v.now.state) (subst (AllPass IsFrac64) (sym n) (call_passes d call action i)) x))
 
@@ -81,15 +84,16 @@ acts_once d N P call action old new c i x a e r en fi k = record {
       let due' : next_line L old.timeline.line.now ≡ Some (ActLine old.timeline.line.now.time (Instance action)) = due ∙ ap (λ x. Some (ActLine old.timeline.line.now.time x)) i.is in
       let part : Part = Act old.timeline.line.now.acted a.after in (
         h ++ part ∷ [],
-        played_on N P L instance h old.timeline.line new.timeline.line old.account new.account part b s.played
+        played_on (IsTold N P L new.account) new.timeline.line part b s.played
             (act_passes d N P L instance h call action old.timeline.line old.account i n s due' x) (ap (λ v. v.most) a.is)
             (act_adds P L action old.timeline.line new.timeline.line due' a)
             (ap (λ v. v.entries) a.is ∙ s.played.entries ∙ sym (add-zero (entries_of h)) ∙ sym (entries_of-append h part))
+            (told_on N P L instance h old.timeline.line old.account new.account part s.played
             (account_by
             (r ∙ ap (λ x. old.account.report ++ act_text N action.label x new.timeline.line.now.state) (ap (λ v. v.before) a.is)
             ∙ ap (λ x. old.account.report ++ act_text N action.label old.timeline.line.now.state x) (ap (λ v. v.now.state) a.is)
             ∙ ap (λ x. old.account.report ++ act_text N (called_label x) old.timeline.line.now.state a.after) (sym due'))
-            (en ∙ sym (add-zero old.account.entries)) (fi ∙ sym (add-zero old.account.firings))),
+            (en ∙ sym (add-zero old.account.entries)) (fi ∙ sym (add-zero old.account.firings)))),
       );
 }
 

@@ -1,5 +1,5 @@
 -- Runs that are on their way to a time, step by step.
-use Rattle.std.proofs.Common.{◌≡◌, ℕ, List, [], ◌∷◌, ◌++◌, refl, ap, subst, ◌∙◌, append-nil, add-zero}
+use Rattle.std.proofs.Common.{◌≡◌, ℕ, List, [], ◌∷◌, ◌++◌, refl, ap, ◌∙◌, append-nil, add-zero}
 use Rattle.plus_fraction.specs.Fraction.{Fraction}
 use Rattle.plus_model.specs.Terms.{Problem}
 use Rattle.plus_model.specs.Plan.{Plan}
@@ -14,26 +14,25 @@ use Rattle.plus_timeline.specs.Advance.{Advances, IsThere}
 use Rattle.plus_timeline.specs.declared.next.Next.{Next}
 use Rattle.plus_indexed.specs.Knows.{Knows}
 use Rattle.plus_timeline.specs.declared.next.Next.TheVariants.{Round, Run as run_answer, Entry, There}
-use Rattle.plus_validator.specs.Standing.{CanReach, IsReached, IsMore, a_round, a_run, an_entry, is_there, account_next}
+use Rattle.plus_timeline.specs.StepsLeft.{IsMore, a_round, a_run, an_entry}
+use Rattle.plus_validator.specs.Standing.{IsTold, CanReach, is_there, account_next}
 use Rattle.plus_validator.specs.Account.{Account, Progress}
 use Rattle.plus_validator.specs.Running.{IsOnWay, StepsOn, Reaches, Steps}
-use Rattle.plus_validator.proofs.Steps.{account_by, part_of, way_tests, step_goes, step_most, step_less, step_played, step_clear, step_target, step_acted, step_done}
+use Rattle.plus_timeline.proofs.StepsLeft.{step_goes, step_most, step_less}
+use Rattle.plus_timeline.proofs.Played.{part_of, way_tests, step_way, step_done}
+use Rattle.plus_validator.proofs.Steps.{account_by, step_told}
 
 -- what a step says by its answer
 step_more : (N : Labels) (P : Problem) (u : Fraction) (old new : Progress) (answer : Next Frac64) → IsMore answer → CanReach P u old.timeline → Advances fraction_of P u old.timeline.line new.timeline.line answer → AllPass IsFrac64 (way_tests P u old.timeline.line) → new.ended ≡ old.ended → new.account ≡ account_next fraction_of N P new.timeline.line answer old.account → Knows IsFrac64 P new.timeline → StepsOn N P u old new
 step_more N P u old new answer m c a x e r k = record {
-  can = step_goes fraction_of P u old.timeline new.timeline answer c a k;
-  less = step_less fraction_of P u old.timeline old.timeline.line new.timeline.line answer c refl m a;
+  can = step_goes fraction_of (Knows IsFrac64 P old.timeline) (Knows IsFrac64 P new.timeline) P u old.timeline.line new.timeline.line answer c a k;
+  less = step_less fraction_of P u old.timeline.line new.timeline.line answer c.goes.knows.serves.events c.room m a;
   most = step_most fraction_of P u old.timeline.line new.timeline.line answer a;
   ended = e;
   on_way = λ L instance acted h b w. (
     h ++ part_of new.timeline.line answer ∷ [],
-    record {
-      played = step_played fraction_of N P L instance h u old.timeline.line new.timeline.line answer old.account new.account m b w.played
-          (step_clear fraction_of N P L instance h u old.timeline.line new.timeline.line answer old.account m w.played w.target_is a x) w.target_is a r;
-      target_is = step_target fraction_of P L u old.timeline.line new.timeline.line answer w.target_is a;
-      acted_is = step_acted fraction_of P u old.timeline.line new.timeline.line answer a ∙ w.acted_is;
-    },
+    step_way fraction_of IsFrac64 P L instance (IsTold N P L old.account) (IsTold N P L new.account) u acted h old.timeline.line new.timeline.line answer m b w a x
+        (step_told fraction_of N P L instance h u old.timeline.line new.timeline.line answer old.account new.account m w.played w.target_is a r),
   );
 }
 
@@ -43,15 +42,15 @@ nothing_added N P t account = account_by (append-nil account.report) (add-zero a
 
 step_there : (N : Labels) (P : Problem) (u : Fraction) (old new : Progress) → CanReach P u old.timeline → IsThere P u old.timeline.line new.timeline.line → AllPass IsFrac64 (way_tests P u old.timeline.line) → new.ended ≡ old.ended → new.account ≡ account_next fraction_of N P new.timeline.line There old.account → Knows IsFrac64 P new.timeline → Reaches N P u old new
 step_there N P u old new c a x e r k = record {
-  can = (step_goes fraction_of P u old.timeline new.timeline There c a k).goes;
+  can = (step_goes fraction_of (Knows IsFrac64 P old.timeline) (Knows IsFrac64 P new.timeline) P u old.timeline.line new.timeline.line There c a k).goes;
   paused = record { there = ap (λ v. v.answer) a.is; fresh = ap (λ v. v.acted) a.is };
   moment = ap (λ v. v.now.running) a.is ∙ a.moment;
   most = ap (λ v. v.most) a.is;
   ended = e;
   reached = λ L instance acted h b w. (
     h,
-    subst (λ i. IsReached N P L instance i u h new.timeline.line new.account) w.acted_is
-        (step_done fraction_of N P L instance h u old.timeline.line new.timeline.line old.account new.account w.played w.target_is a x (r ∙ nothing_added N P new.timeline.line old.account)),
+    step_done IsFrac64 P L instance (IsTold N P L old.account) (IsTold N P L new.account) u acted h old.timeline.line new.timeline.line w a x
+        (r ∙ nothing_added N P new.timeline.line old.account ∙ w.played.beside),
   );
 }
 

@@ -8,7 +8,7 @@ use Rattle.plus_model.specs.Terms.{Action, State, Problem}
 use Rattle.plus_model.specs.Plan as plan
 use Rattle.plus_model.specs.Plan.{Called, Instance, ActLine, Plan}
 use Rattle.plus_model.specs.History.{Part, View}
-use Rattle.plus_model.specs.Trajectory.{HasBegun, next_line, target, view_of}
+use Rattle.plus_model.specs.Trajectory.{HasBegun, next_line, view_of}
 use Rattle.plus_model.specs.Breach as model
 use Rattle.plus_number.specs.declared.frac.Frac64.{Frac64}
 use Rattle.plus_number.specs.Frac.{fraction_of, IsFrac64}
@@ -44,8 +44,8 @@ use Rattle.plus_validator.specs.Stopped.{IsReported, IsCutShort, StopsOnWay, Hal
 use Rattle.plus_validator.proofs.Runs.{Along}
 use Rattle.plus_validator.specs.Asking.{Fails, call_tests}
 use Rattle.plus_timeline.specs.Asked.{act_tests, asked, line_tests}
-use Rattle.plus_validator.proofs.Asking.{advance_fails, breach_fails, fails_left, fails_right, line_fails}
-use Rattle.plus_validator.proofs.Steps.{asked_is, way_is, way_tests}
+use Rattle.plus_validator.proofs.Asking.{breach_fails, fails_left, fails_right, line_fails}
+use Rattle.plus_timeline.proofs.Played.{asked_same, way_tests, way_fails}
 use Rattle.plus_validator.proofs.CalledTests.{call_passes, call_too_large, call_unfit}
 
 -- two facts for the value of an option
@@ -63,7 +63,7 @@ reported N P L instance h t old new p w e = record {
   prefix = p.prefix;
   few = subst (λ n. n ≤ t.most) p.entries w;
   clear = p.clear;
-  written = e ∙ p.written;
+  written = e ∙ p.beside;
 }
 
 -- a fault comes where this is played
@@ -75,7 +75,7 @@ cut_short N P L instance h t account out halt p w o = record { history = h; acco
 module _ (N : Labels) (P : Problem) (L : Plan) (instance : ℕ → List Test) (h : List Part) (t : TimelineView) (account : Account) (p : IsPlayed N P L instance h t account) where
   -- it fails at the history
   pub fails_at : (test : Test) → FirstFailing IsFrac64 (asked P L t.most instance t.entries t.now) test → Fails P L t.most instance h test
-  fails_at test f = subst (λ (ts : List Test). FirstFailing IsFrac64 ts test) (asked_is N P L instance h t account p) f
+  fails_at test f = subst (λ (ts : List Test). FirstFailing IsFrac64 ts test) (asked_same p) f
 
   -- a breach that stands there and is the first that fails is one of the history
   pub broken_at : (b : Breach Frac64) → HasBegun L → IsSomeAnd (breach_of fraction_of t.now.acted b) (model.Stands P L t.now) → IsSomeAnd (breach_of fraction_of t.now.acted b) (λ c. FirstFailing IsFrac64 (asked P L t.most instance t.entries t.now) (breach c)) → IsSomeAnd (breach_of fraction_of (view_of P h).acted b) (IsBroken P L t.most instance h)
@@ -103,11 +103,6 @@ names_none P u v breaches.Goal s = tt
 
 -- ---- on the way to a time
 
--- what `advance` finds to fail is the first that fails
-way_fails : (P : Problem) (L : Plan) (instance : ℕ → List Test) (u : Fraction) (t : TimelineView) (test : Test) → target L t.now ≡ u → FirstFailing IsFrac64 (way_tests P u t) test → FirstFailing IsFrac64 (asked P L t.most instance t.entries t.now) test
-way_fails P L instance u t test e f =
-    advance_fails P L t.most instance t.entries t.now test (subst (λ (ts : List Test). FirstFailing IsFrac64 ts test) (way_is P L u t e) f)
-
 pub advance_stops : (N : Labels) (P : Problem) (L : Plan) (instance : ℕ → List Test) (u : Fraction) (acted : ℕ) (h : List Part) (old new : Progress) (out : List ℕ) (stop : Stop Frac64) → HasBegun L → CanReach P u old.timeline → IsOnWay N P L instance u acted h old → AdvanceTold fraction_of IsFrac64 P u old.timeline.line new.timeline.line (Err stop) → new.account ≡ old.account → IsPartOut Memory out old.account.report → StopsOnWay N P L old.timeline.line.most instance (left_by out new) (stop_halt stop)
 advance_stops N P L instance u acted h old new out (stops.Breach b) begun c w k r o = record {
   stopped = record {
@@ -115,7 +110,7 @@ advance_stops N P L instance u acted h old new out (stops.Breach b) begun c w k 
     reported = reported N P L instance h old.timeline.line old.account new.account w.played c.goes.within r;
     stands = broken_at N P L instance h old.timeline.line old.account w.played b begun (advance_breaks fraction_of P L old.timeline.line u b w.target_is k.means)
         (and_then (breach_of fraction_of old.timeline.line.now.acted b) (λ x. FirstFailing IsFrac64 (way_tests P u old.timeline.line) (breach x)) (λ x. FirstFailing IsFrac64 (asked P L old.timeline.line.most instance old.timeline.line.entries old.timeline.line.now) (breach x))
-        (λ x f. way_fails P L instance u old.timeline.line (breach x) w.target_is f) k.first);
+        (λ x f. way_fails IsFrac64 P L instance u old.timeline.line (breach x) w.target_is f) k.first);
   };
   names = names_none P _ old.timeline.line.now b k.means;
 }
@@ -123,7 +118,7 @@ advance_stops N P L instance u acted h old new out (stops.Limit l) begun c w k r
   stopped = record {
     history = h;
     reported = reported N P L instance h old.timeline.line old.account new.account w.played c.goes.within r;
-    stands = fails_at N P L instance h old.timeline.line old.account w.played (of_limit fraction_of l) (way_fails P L instance u old.timeline.line (of_limit fraction_of l) w.target_is k.first);
+    stands = fails_at N P L instance h old.timeline.line old.account w.played (of_limit fraction_of l) (way_fails IsFrac64 P L instance u old.timeline.line (of_limit fraction_of l) w.target_is k.first);
   };
   names = tt;
 }

@@ -30,7 +30,8 @@ use Rattle.plus_report.specs.declared.refusals.Text.TheVariants as texts
 use Rattle.plus_validator.specs.declared.judge.Outcome.{Outcome}
 use Rattle.plus_validator.specs.declared.judge.Outcome.TheVariants as outcomes
 use Rattle.plus_validator.specs.Outcomes.{outcome_of}
-use Rattle.plus_validator.specs.Asking.{asked_at, Fails}
+use Rattle.plus_timeline.specs.Played.{asked_at}
+use Rattle.plus_validator.specs.Asking.{Fails}
 use Rattle.plus_validator.specs.Refused.{IsBroken, StandsEarly, Stands, NamesLine}
 
 -- ---- what the test that fails tells

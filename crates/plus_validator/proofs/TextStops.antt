@@ -49,7 +49,8 @@ use Rattle.plus_validator.proofs.Stopping.{reported}
 use Rattle.plus_validator.proofs.Waiting.{waits}
 use Rattle.plus_validator.proofs.Played.{all_more}
 use Rattle.plus_validator.proofs.Clear.{clear_grows, unbegun_rest}
-use Rattle.plus_validator.specs.Asking.{IsClear, NoneFails, asked_at, instances_of}
+use Rattle.plus_timeline.specs.Played.{asked_at}
+use Rattle.plus_validator.specs.Asking.{IsClear, NoneFails, instances_of}
 use Rattle.plus_validator.proofs.CalledTests.{instances_agree}
 use Rattle.plus_validator.proofs.Asking.{none_fails}
 

@@ -28,7 +28,7 @@ use Rattle.plus_validator.specs.Standing.{EndsBy}
 use Rattle.plus_validator.specs.Refused.{IsWaiting, after_end, no_value, goes_back}
 use Rattle.plus_validator.specs.Stopped.{TimeHalts, HaltsAtMoment}
 use Rattle.plus_stretch.specs.Tests.{AllPass, Test}
-use Rattle.plus_validator.proofs.Steps.{asked_is}
+use Rattle.plus_timeline.proofs.Played.{asked_same}
 
 -- what is ready for a line waits for it
 pub waits : (N : Labels) (P : Problem) (L : Plan) (instance : ℕ → List Test) (h : List Part) (run : Progress) → Readied N P L instance h run → IsWaiting P L run.timeline.line.most instance h
@@ -36,7 +36,7 @@ waits N P L instance h run r = elim r.worked [
   | inl e ↦ inl e
   | inr w ↦ inr (record {
     worked = subst (IsWorked P L) r.played.now w.worked;
-    passed = subst (AllPass IsFrac64) (asked_is N P L instance h run.timeline.line run.account r.played) w.passed;
+    passed = subst (AllPass IsFrac64) (asked_same r.played) w.passed;
   })
 ]
 

@@ -13,7 +13,8 @@ use Rattle.plus_expansion.specs.Expansion.{expanded, labels_meant}
 use Rattle.plus_expansion.specs.Counting.{IsGroundable}
 use Rattle.plus_report.specs.Report.{report_of}
 use Rattle.plus_validator.specs.Plans.{pair, plan_of, HasValue}
-use Rattle.plus_validator.specs.Asking.{entries_of, instances_of, NoneFails, IsClear}
+use Rattle.plus_timeline.specs.Played.{entries_of}
+use Rattle.plus_validator.specs.Asking.{instances_of, NoneFails, IsClear}
 use Rattle.plus_validator.specs.Fires.{FiresExactly}
 use Rattle.plus_io.specs.Limits.{text_limit}
 

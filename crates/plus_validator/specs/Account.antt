@@ -6,7 +6,8 @@ use Rattle.plus_model.specs.History.{Part}
 use Rattle.plus_state.specs.View.{Labels}
 use Rattle.plus_indexed.specs.Indexed.{IndexedView}
 use Rattle.plus_report.specs.Report.{report_of}
-use Rattle.plus_validator.specs.Asking.{entries_of, firings_of}
+use Rattle.plus_timeline.specs.Played.{entries_of}
+use Rattle.plus_validator.specs.Asking.{firings_of}
 use Rattle.plus_validator.specs.declared.run.Run.{Run}
 
 pub record Account : Type 0 where

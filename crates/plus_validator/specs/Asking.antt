@@ -1,11 +1,10 @@
 -- What is asked of a plan at a history of it, in order, by the lines of its text: the tests of the timeline, and before an
 -- action is done the limits of its instance.
-use Rattle.std.specs.Prelude.{◌≡◌, ℕ, suc, ◌+◌, Bool, not, ◌&&◌, List, [], ◌∷◌, ◌++◌, length, Option, Some, None, slice_get, nat_lt, unsigned_abs, if◌then◌else◌}
+use Rattle.std.specs.Prelude.{ℕ, ◌+◌, Bool, not, ◌&&◌, List, [], ◌∷◌, ◌++◌, length, Option, Some, None, slice_get, nat_lt, unsigned_abs, if◌then◌else◌}
 use Rattle.plus_fraction.specs.Fraction.{Fraction}
 use Rattle.plus_model.specs.Terms.{Problem}
 use Rattle.plus_model.specs.Plan.{Called, Instance, Plan}
 use Rattle.plus_model.specs.History.{Part, Enter, Round, Act, Run}
-use Rattle.plus_model.specs.Trajectory.{Prefix, view_of}
 use Rattle.plus_number.specs.Frac.{IsFrac64}
 use Rattle.plus_tree.specs.declared.terms.Literal.{Literal}
 use Rattle.plus_tree.specs.declared.trees.Call.{Call}
@@ -17,16 +16,9 @@ use Rattle.plus_expansion.specs.Literals.{call_literals}
 use Rattle.plus_expansion.specs.Calls.{called_of}
 use Rattle.plus_expansion.specs.Counting.{most_nodes}
 use Rattle.plus_stretch.specs.Tests.{Test, too_many_nodes, no_number, AllPass, FirstFailing}
-use Rattle.plus_timeline.specs.Asked.{asked}
+use Rattle.plus_timeline.specs.Played as played
+use Rattle.plus_timeline.specs.Played.{asked_at}
 use Rattle.plus_validator.specs.Plans.{Pair}
-
--- how many moments a history enters
-abbrev pub entries_of : List Part → ℕ
-entries_of [] = 0
-entries_of (Enter t a s ∷ h) = suc (entries_of h)
-entries_of (Round events s ∷ h) = entries_of h
-entries_of (Act i s ∷ h) = entries_of h
-entries_of (Run running ∷ h) = entries_of h
 
 -- how many events fire in a history
 abbrev pub firings_of : List Part → ℕ
@@ -80,11 +72,7 @@ instances_of d ls i = or_nothing (slice_get (all_instances d ls) i)
 
 -- ---- what is asked at a history
 
--- instance i gives what is asked of the instance of action i
-abbrev pub asked_at : Problem → Plan → ℕ → (ℕ → List Test) → List Part → List Test
-asked_at P L most instance h = asked P L most instance (entries_of h) (view_of P h)
-
--- all of it passes
+-- all that is asked there passes; `instance` gives what is asked of the instance of each action
 abbrev pub NoneFails : Problem → Plan → ℕ → (ℕ → List Test) → List Part → Type 0
 NoneFails P L most instance h = AllPass IsFrac64 (asked_at P L most instance h)
 
@@ -94,5 +82,4 @@ Fails P L most instance h test = FirstFailing IsFrac64 (asked_at P L most instan
 
 -- all that is asked at each shorter history passes
 abbrev pub IsClear : Problem → Plan → ℕ → (ℕ → List Test) → List Part → Type 0
-IsClear P L most instance h =
-    (g : List Part) (part : Part) (rest : List Part) → Prefix P L g → h ≡ g ++ part ∷ rest → NoneFails P L most instance g
+IsClear P L most instance h = played.IsClear IsFrac64 P L most instance h

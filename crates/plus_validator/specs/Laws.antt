@@ -14,7 +14,8 @@ use Rattle.plus_validator.specs.declared.judge.Outcome.TheVariants.{Valid, Inval
 use Rattle.plus_validator.specs.declared.judge.Judged.{Judged}
 use Rattle.plus_validator.specs.Accepted.{IsAccepted}
 use Rattle.plus_report.specs.Report.{report_of}
-use Rattle.plus_validator.specs.Asking.{entries_of, firings_of, instances_of}
+use Rattle.plus_timeline.specs.Played.{entries_of}
+use Rattle.plus_validator.specs.Asking.{firings_of, instances_of}
 use Rattle.plus_io.specs.Limits.{text_limit}
 use Rattle.plus_validator.specs.Outcomes.{outcome_of}
 use Rattle.plus_validator.specs.Plans.{Pair, lines_meant, plan_of, HasValue}

@@ -16,7 +16,8 @@ use Rattle.plus_plan.specs.Lines.{plan_lines}
 use Rattle.plus_expansion.specs.Expansion.{expanded, labels_meant}
 use Rattle.plus_expansion.specs.Counting.{IsGroundable}
 use Rattle.plus_report.specs.Report.{report_of}
-use Rattle.plus_validator.specs.Asking.{entries_of, instances_of, IsClear}
+use Rattle.plus_timeline.specs.Played.{entries_of}
+use Rattle.plus_validator.specs.Asking.{instances_of, IsClear}
 use Rattle.plus_validator.specs.Plans.{Pair, pair, plan_of, Reading, plan_in, HasValue}
 use Rattle.plus_validator.specs.Refused.{IsWaiting, IsPlayedOn, IsCut, WholeLines}
 use Rattle.plus_validator.specs.Validates.{IsRead, BreaksOff}

@@ -21,7 +21,8 @@ use Rattle.plus_plan.specs.Lines.{plan_lines}
 use Rattle.plus_expansion.specs.Expansion.{expanded, labels_meant}
 use Rattle.plus_stretch.specs.Tests.{Test}
 use Rattle.plus_tree.specs.declared.trees.Call.{Call}
-use Rattle.plus_validator.specs.Asking.{entries_of, call_tests, instances_of, NoneFails, IsClear}
+use Rattle.plus_timeline.specs.Played.{entries_of}
+use Rattle.plus_validator.specs.Asking.{call_tests, instances_of, NoneFails, IsClear}
 use Rattle.plus_validator.specs.Plans.{Pair, plan_of, HasValue}
 use Rattle.plus_expansion.specs.Calls.{called_of}
 use Rattle.plus_validator.specs.Account.{Account, Progress, account_of}

@@ -35,7 +35,8 @@ use Rattle.plus_report.specs.declared.refusals.Text.TheVariants as texts
 use Rattle.plus_report.specs.Report.{called_label, report_of}
 use Rattle.plus_report.specs.Verdicts.{verdict_text}
 use Rattle.plus_validator.specs.declared.judge.Outcome.{Outcome}
-use Rattle.plus_validator.specs.Asking.{entries_of, instances_of, NoneFails, Fails, IsClear}
+use Rattle.plus_timeline.specs.Played.{entries_of}
+use Rattle.plus_validator.specs.Asking.{instances_of, NoneFails, Fails, IsClear}
 use Rattle.plus_validator.specs.Outcomes.{outcome_of}
 use Rattle.plus_validator.specs.Plans.{Pair, pair, line_meant, plan_of, Reading, reading_of, plan_in, HasTime, HasValue}
 

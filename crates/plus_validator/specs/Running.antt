@@ -4,18 +4,19 @@ use Rattle.plus_fraction.specs.Fraction.{Fraction}
 use Rattle.plus_model.specs.Terms.{Problem}
 use Rattle.plus_model.specs.Plan.{Plan}
 use Rattle.plus_model.specs.History.{Part}
-use Rattle.plus_model.specs.Trajectory.{HasBegun, target}
+use Rattle.plus_model.specs.Trajectory.{HasBegun}
+use Rattle.plus_number.specs.Frac.{IsFrac64}
 use Rattle.plus_state.specs.View.{Labels}
 use Rattle.plus_stretch.specs.Tests.{Test}
 use Rattle.plus_timeline.specs.Finish.{IsPaused}
+use Rattle.plus_timeline.specs.Played as played
+use Rattle.plus_timeline.specs.StepsLeft.{steps_left}
 use Rattle.plus_validator.specs.Account.{Progress}
-use Rattle.plus_validator.specs.Standing.{IsPlayed, CanGoOn, CanReach, IsReached, steps_left}
+use Rattle.plus_validator.specs.Standing.{IsTold, CanGoOn, CanReach, IsReached}
 
 -- the run is on its way to the time u, by a history of the plan
-pub record IsOnWay (N : Labels) (P : Problem) (L : Plan) (instance : ℕ → List Test) (u : Fraction) (acted : ℕ) (h : List Part) (run : Progress) : Type 0 where
-  pub played : IsPlayed N P L instance h run.timeline.line run.account
-  pub target_is : target L run.timeline.line.now ≡ u
-  pub acted_is : run.timeline.line.now.acted ≡ acted
+abbrev pub IsOnWay : Labels → Problem → Plan → (ℕ → List Test) → Fraction → ℕ → List Part → Progress → Type 0
+IsOnWay N P L instance u acted h run = played.IsOnWay IsFrac64 P L instance (IsTold N P L run.account) u acted h run.timeline.line
 
 -- one more step, after which the run is on its way still
 pub record StepsOn (N : Labels) (P : Problem) (u : Fraction) (old new : Progress) : Type 0 where

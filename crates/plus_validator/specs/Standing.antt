@@ -1,65 +1,39 @@
 -- How a run of a plan stands: its timeline and its report are those of one history of the lines read.
-use Rattle.std.specs.Prelude.{◌≡◌, ◌⊎◌, ℕ, zero, suc, ◌+◌, ◌-◌, ◌*◌, ◌<◌, ◌≤◌, Bool, true, false, List, [], ◌∷◌, ◌++◌, length, Option, Some, None, pos, All, if◌then◌else◌}
+use Rattle.std.specs.Prelude.{◌≡◌, ◌⊎◌, ℕ, ◌+◌, ◌<◌, Bool, true, false, List, [], ◌∷◌, ◌++◌, length, None, pos, All, if◌then◌else◌}
 use Rattle.plus_fraction.specs.Fraction.{Fraction, whole}
 use Rattle.plus_model.specs.Terms.{Problem}
-use Rattle.plus_model.specs.Firing.{is_in}
 use Rattle.plus_model.specs.Plan.{Called, Line, ActLine, EndLine, Plan}
 use Rattle.plus_model.specs.History.{Part}
-use Rattle.plus_model.specs.Trajectory.{until, IsWorked, Prefix, view_of}
-use Rattle.plus_model.specs.Breach.{IsPresent}
+use Rattle.plus_model.specs.Trajectory.{IsWorked}
 use Rattle.plus_state.specs.View.{Labels}
 use Rattle.plus_timeline.specs.Timeline.{TimelineView}
 use Rattle.plus_indexed.specs.Indexed.{IndexedView}
 use Rattle.plus_indexed.specs.Knows.{Knows}
-use Rattle.plus_timeline.specs.Stops.{IsGoing}
-use Rattle.plus_timeline.specs.Advance.{IsAhead}
 use Rattle.plus_report.specs.Text.{entry_text, literals_text, round_text, run_text}
 use Rattle.plus_timeline.specs.declared.next.Next.{Next}
 use Rattle.plus_timeline.specs.declared.next.Next.TheVariants.{Round, Run, Entry, There}
 use Rattle.plus_number.specs.Frac.{IsFrac64}
 use Rattle.plus_stretch.specs.Tests.{Test, AllPass}
-use Rattle.plus_timeline.specs.Asked.{advance_tests, asked}
-use Rattle.plus_validator.specs.Asking.{entries_of, IsClear}
+use Rattle.plus_timeline.specs.Asked.{asked}
+use Rattle.plus_timeline.specs.Played as played
+use Rattle.plus_timeline.specs.StepsLeft as steps
 use Rattle.plus_validator.specs.Account.{Account, account_of}
 
+-- this is what is told of the history
+abbrev pub IsTold : Labels → Problem → Plan → Account → List Part → Type 0
+IsTold N P L account h = account ≡ account_of N P L h
+
 -- the timeline and the report are those of this history of the plan, and all that is asked before passes
-pub record IsPlayed (N : Labels) (P : Problem) (L : Plan) (instance : ℕ → List Test) (h : List Part) (t : TimelineView) (account : Account) : Type 0 where
-  pub prefix : Prefix P L h
-  pub now : t.now ≡ view_of P h
-  pub entries : t.entries ≡ entries_of h
-  pub written : account ≡ account_of N P L h
-  pub clear : IsClear P L t.most instance h
+abbrev pub IsPlayed : Labels → Problem → Plan → (ℕ → List Test) → List Part → TimelineView → Account → Type 0
+IsPlayed N P L instance h t account = played.IsPlayed IsFrac64 P L instance (IsTold N P L account) h t
 
 -- the timeline goes on, with this problem
-pub record CanGoOn (P : Problem) (t : IndexedView) : Type 0 where
-  pub knows : Knows IsFrac64 P t
-  pub going : IsGoing t.line
-  pub within : t.line.entries ≤ t.line.most
-
--- a further entry is allowed where a set runs
-abbrev pub HasRoom : Option (List ℕ) → ℕ → ℕ → Type 0
-HasRoom None entries most = Unit {0}
-HasRoom (Some running) entries most = entries < most
+abbrev pub CanGoOn : Problem → IndexedView → Type 0
+CanGoOn P t = steps.CanGoOn (Knows IsFrac64 P t) t.line
 
 -- the timeline may go on up to this time
-pub record CanReach (P : Problem) (until : Fraction) (t : IndexedView) : Type 0 where
-  pub goes : CanGoOn P t
-  pub ahead : IsAhead t.line.now.running t.line.now.time until
-  pub room : HasRoom t.line.now.running t.line.entries t.line.most
-
--- the parts that an entry has left: one that closes it, and none where a set runs
-abbrev pub pending : Option (List ℕ) → ℕ
-pending None = 1
-pending (Some running) = 0
-
--- how many of the events below this number are not among those that fired
-abbrev pub unfired : ℕ → List ℕ → ℕ
-unfired zero fired = 0
-unfired (suc n) fired = (if is_in fired n then 0 else 1) + unfired n fired
-
--- how many steps are left at most: behind each that closes or begins an entry, a round for each event
-unfoldable pub steps_left : TimelineView → ℕ
-steps_left t = (2 * (t.most - t.entries) + pending t.now.running) * (t.event_count + 1) + unfired t.event_count t.now.fired
+abbrev pub CanReach : Problem → Fraction → IndexedView → Type 0
+CanReach P until t = steps.CanReach (Knows IsFrac64 P t) until t.line
 
 -- what a step adds to the report
 abbrev pub next_text : {Q : Type 0} → (Q → Fraction) → Labels → Problem → TimelineView → Next Q → List ℕ
@@ -119,20 +93,10 @@ pub record IsReady (N : Labels) (P : Problem) (L : Plan) (instance : ℕ → Lis
   pub worked : (L.lines ≡ []) ⊎ HasWorked P L instance t
 
 -- up to the time of the next line nothing is left to do
-pub record IsReached (N : Labels) (P : Problem) (L : Plan) (instance : ℕ → List Test) (acted : ℕ) (time : Fraction) (h : List Part) (t : TimelineView) (account : Account) : Type 0 where
-  pub played : IsPlayed N P L instance h t account
-  pub present : IsPresent P t.now
-  pub over : until P L t.now ≡ t.now.time
-  pub passed : AllPass IsFrac64 (advance_tests P t.most t.entries (until P L t.now) t.now)
-  pub acted_is : t.now.acted ≡ acted
-  pub time_is : t.now.time ≡ time
+abbrev pub IsReached : Labels → Problem → Plan → (ℕ → List Test) → ℕ → Fraction → List Part → TimelineView → Account → Type 0
+IsReached N P L instance acted time h t account = played.IsReached IsFrac64 P L instance (IsTold N P L account) time acted h t
 
--- the answer is not `There`
-pub data IsMore {Q : Type 0} : Next Q → Type 0 where
-  a_round : IsMore Round
-  a_run : IsMore Run
-  an_entry : (t : Q) → IsMore (Entry t)
-
+-- whether the answer is `There`
 abbrev pub is_there : {Q : Type 0} → Next Q → Bool
 is_there Round = false
 is_there Run = false

@@ -16,7 +16,8 @@ use Rattle.plus_report.specs.Report.{called_label}
 use Rattle.plus_validator.specs.declared.halt.Halt.{Halt}
 use Rattle.plus_validator.specs.declared.halt.Halt.TheVariants.{Refused, Memory, WriteFault}
 use Rattle.plus_stretch.specs.Tests.{Test}
-use Rattle.plus_validator.specs.Asking.{entries_of, call_tests, instances_of, IsClear}
+use Rattle.plus_timeline.specs.Played.{entries_of}
+use Rattle.plus_validator.specs.Asking.{call_tests, instances_of, IsClear}
 use Rattle.plus_validator.specs.Plans.{Pair, line_meant, plan_of, Reading, plan_in, HasTime, HasValue}
 use Rattle.plus_tree.specs.declared.trees.Call.{Call}
 use Rattle.plus_expansion.specs.Calls.{called_of}

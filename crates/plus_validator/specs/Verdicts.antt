@@ -14,7 +14,8 @@ use Rattle.plus_validator.specs.declared.judge.Judged.{Judged}
 use Rattle.plus_validator.specs.declared.judge.Outcome.{Outcome}
 use Rattle.plus_validator.specs.declared.judge.Outcome.TheVariants as outcomes
 use Rattle.plus_validator.specs.Accepted.{IsAccepted}
-use Rattle.plus_validator.specs.Asking.{entries_of, firings_of}
+use Rattle.plus_timeline.specs.Played.{entries_of}
+use Rattle.plus_validator.specs.Asking.{firings_of}
 use Rattle.plus_validator.specs.Outcomes.{outcome_of}
 use Rattle.plus_validator.specs.Refused.{IsRefused}
 use Rattle.plus_validator.specs.Validates.{fault_meant, IsUngrounded, IsRead, IsRefusal, IsWhole}

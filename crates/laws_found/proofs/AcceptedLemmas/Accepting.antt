@@ -29,7 +29,8 @@ use Rattle.plus_plan_command.specs.Planning.Planned.{task_of}
 use Rattle.plus_validator.specs.declared.judge.Outcome.{Outcome}
 use Rattle.plus_validator.specs.declared.judge.Outcome.TheVariants.{Valid}
 use Rattle.plus_validator.specs.Accepted.{IsAccepted}
-use Rattle.plus_validator.specs.Asking.{entries_of, instances_of, IsClear, NoneFails}
+use Rattle.plus_timeline.specs.Played.{entries_of}
+use Rattle.plus_validator.specs.Asking.{instances_of, IsClear, NoneFails}
 use Rattle.plus_validator.specs.Plans.{Pair, pair, lines_meant, plan_of, HasValue}
 use Rattle.plus_validator.specs.Laws as judged
 use Rattle.plus_validator.specs.Verdicts.{IsAnswered, for_pair, for_plan}

@@ -1,5 +1,5 @@
 -- A history whose shorter histories all pass enters no more moments than are allowed.
-use Rattle.std.proofs.Common.{◌≡◌, ◌≢◌, ℕ, suc, ◌+◌, ◌≤◌, ◌<◌, Bool, true, false, List, [], ◌∷◌, ◌++◌, refl, sym, ap, subst, ◌∙◌, arith, if◌then◌else◌}
+use Rattle.std.proofs.Common.{◌≡◌, ℕ, suc, ◌+◌, ◌≤◌, ◌<◌, Bool, true, false, List, [], ◌∷◌, ◌++◌, refl, sym, ap, subst, ◌∙◌, arith, if◌then◌else◌}
 use Rattle.std.specs.Prelude.{Option, Some, None}
 use Rattle.plus_fraction.specs.Fraction.{Fraction}
 use Rattle.plus_model.specs.Terms.{State, Problem}
@@ -12,23 +12,18 @@ use Rattle.plus_stretch.specs.Tests.{Passes, AllPass}
 use Rattle.plus_stretch.specs.StretchTests.{if_empty}
 use Rattle.plus_stretch.proofs.Rising.{to_below}
 use Rattle.plus_timeline.specs.Asked.{round_tests, closing_tests, line_tests, nothing_due, asked}
-use Rattle.plus_planner.specs.Grid.{entries_of, IsClearIn}
-use Rattle.plus_planner.specs.Standing.{HasRoom}
-use Rattle.plus_planner.proofs.Asking.{listed, asked_is}
+use Rattle.plus_timeline.specs.Played.{entries_of}
+use Rattle.plus_planner.specs.Grid.{IsClearIn}
+use Rattle.plus_timeline.specs.StepsLeft.{HasRoom}
+use Rattle.plus_timeline.proofs.Stays.{listed, asked_is}
+use Rattle.plus_planner.proofs.Ready.{begin_follow}
 use Rattle.laws_found.proofs.AcceptedLemmas.Lifting.{nothing, below_most, closing_count}
 
 -- ---- the first parts of a history
 
-pub follow_front : (P : Problem) (L : Plan) (v : View) (xs ys : List Part) → Follow P L v (xs ++ ys) → Follow P L v xs
-follow_front P L v [] ys f = tt
-follow_front P L v (x ∷ xs) ys f = (f.0, f.1, follow_front P L (view_after v x) xs ys f.2)
-
 pub next_behind : (P : Problem) (L : Plan) (v : View) (xs : List Part) (part : Part) (ys : List Part) → Follow P L v (xs ++ part ∷ ys) → Next P L (view_from v xs) part
 next_behind P L v [] part ys f = f.1
 next_behind P L v (x ∷ xs) part ys f = next_behind P L (view_after v x) xs part ys f.2
-
-pub some_left : (x : Part) (xs : List Part) → x ∷ xs ≢ []
-some_left x xs = λ e. (let f = e in cc)
 
 pub entries_front : (xs ys : List Part) → entries_of xs ≤ entries_of (xs ++ ys)
 entries_front [] ys = omega arith
@@ -83,8 +78,8 @@ module _ (fits : Fraction → Type 0) (P : Problem) (L : Plan) (most : ℕ) wher
   asked_before h p c = λ front part rest e m i.
       let n : suc (entries_of front) ≡ m = omega arith in
       subst (λ (k : ℕ). AllPass fits (asked P L most nothing k (view_from (first_view P) front))) n
-      (c (first_part P ∷ front) (part ∷ rest) (some_left part rest)
-      record { ordered = p.ordered; rest = front; begins = refl; follow = follow_front P L (first_view P) front (part ∷ rest) (subst (Follow P L (first_view P)) e p.follow) }
+      (c (first_part P ∷ front) part rest
+      record { ordered = p.ordered; rest = front; begins = refl; follow = begin_follow P L (first_view P) front (part ∷ rest) (subst (Follow P L (first_view P)) e p.follow) }
       (p.begins ∙ ap (λ xs. first_part P ∷ xs) e))
 
   pub few : (h : List Part) → 1 ≤ most → Prefix P L h → IsClearIn fits P L most h → entries_of h ≤ most

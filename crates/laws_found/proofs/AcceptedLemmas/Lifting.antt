@@ -15,7 +15,7 @@ use Rattle.plus_stretch.specs.Tests.{Test, full, of_settle, Passes, AllPass}
 use Rattle.plus_stretch.specs.StretchTests.{if_empty}
 use Rattle.plus_stretch.proofs.Rising.{to_below}
 use Rattle.plus_timeline.specs.Asked.{round_tests, act_tests, goal_tests, count_tests, closing_tests, line_tests, nothing_due, is_there, asked}
-use Rattle.plus_planner.proofs.Asking.{listed, asked_is}
+use Rattle.plus_timeline.proofs.Stays.{listed, asked_is}
 
 -- an action of a search asks nothing before its condition
 abbrev pub nothing : ℕ → List Test

@@ -8,12 +8,12 @@ use Rattle.plus_model.specs.Trajectory.{Next, Follow, Prefix, first_part, first_
 use Rattle.plus_model.proofs.Paths.{view_is}
 use Rattle.plus_stretch.specs.Tests.{Test, AllPass}
 use Rattle.plus_timeline.specs.Asked.{goal_tests, asked}
-use Rattle.plus_planner.specs.Grid.{entries_of, asked_in, IsClearIn}
+use Rattle.plus_timeline.proofs.Played.{tail_is}
+use Rattle.plus_timeline.specs.Played.{entries_of}
+use Rattle.plus_planner.specs.Grid.{asked_in, IsClearIn}
 use Rattle.laws_found.proofs.AcceptedLemmas.Lifting.{so_far, whole, asked_more, goes_on}
-use Rattle.laws_found.proofs.AcceptedLemmas.Few.{follow_front, next_behind, entries_front, some_left, few}
-
-tails : (x : Part) (xs ys : List Part) → x ∷ xs ≡ x ∷ ys → xs ≡ ys
-tails x xs ys e = cc e
+use Rattle.laws_found.proofs.AcceptedLemmas.Few.{next_behind, entries_front, few}
+use Rattle.plus_planner.proofs.Ready.{begin_follow}
 
 module _ (fits : Fraction → Type 0) (P : Problem) (lines : List Line) (most most' : ℕ) (instance : ℕ → List Test) (h : List Part) (some : 1 ≤ most) (more : most ≤ most') (clean : (i : ℕ) → AllPass fits (instance i)) (p : Prefix P (so_far lines) h) (c : IsClearIn fits P (so_far lines) most h) where
   pub within : entries_of h ≤ most
@@ -22,17 +22,17 @@ module _ (fits : Fraction → Type 0) (P : Problem) (lines : List Line) (most mo
   -- at each shorter history, from which a part comes next
   pub shorter : (g : List Part) (part : Part) (rest : List Part) → Prefix P (whole lines) g → h ≡ g ++ part ∷ rest → AllPass fits (asked P (whole lines) most' instance (entries_of g) (view_of P g))
   shorter g part rest q e =
-      let k : p.rest ≡ q.rest ++ part ∷ rest = tails (first_part P) p.rest (q.rest ++ part ∷ rest) (sym p.begins ∙ e ∙ ap (λ xs. xs ++ part ∷ rest) q.begins) in
+      let k : p.rest ≡ q.rest ++ part ∷ rest = tail_is (first_part P) (first_part P) p.rest (q.rest ++ part ∷ rest) (sym p.begins ∙ e ∙ ap (λ xs. xs ++ part ∷ rest) q.begins) in
       let f : Follow P (so_far lines) (first_view P) (q.rest ++ part ∷ rest) = subst (Follow P (so_far lines) (first_view P)) k p.follow in
       let n : Next P (so_far lines) (view_of P g) part =
       subst (λ v. Next P (so_far lines) v part) (sym (view_is P g q.rest q.begins)) (next_behind P (so_far lines) (first_view P) q.rest part rest f) in
       let o : Prefix P (so_far lines) g =
-      record { ordered = p.ordered; rest = q.rest; begins = q.begins; follow = follow_front P (so_far lines) (first_view P) q.rest (part ∷ rest) f } in
+      record { ordered = p.ordered; rest = q.rest; begins = q.begins; follow = begin_follow P (so_far lines) (first_view P) q.rest (part ∷ rest) f } in
       let b : entries_of g ≤ entries_of (g ++ part ∷ rest) = entries_front g (part ∷ rest) in
       let w : entries_of (g ++ part ∷ rest) ≤ most = subst (λ xs. entries_of xs ≤ most) e within in
       asked_more fits P lines most most' instance (entries_of g) (view_of P g) (omega arith) more clean
       (λ t d. absurd (goes_on P (so_far lines) (view_of P g) part n t d))
-      (c g (part ∷ rest) (some_left part rest) o e)
+      (c g part rest o e)
 
   -- and at its end, where the goal passes
   pub at_end : AllPass fits (asked_in P (so_far lines) most h) → AllPass fits (goal_tests P (view_of P h).state) → AllPass fits (asked P (whole lines) most' instance (entries_of h) (view_of P h))

@@ -1,5 +1,5 @@
 use Rattle.plus_state.specs.View.{problem_of}
-use Rattle.plus_planner.specs.Standing.{steps_left}
+use Rattle.plus_timeline.specs.StepsLeft.{steps_left}
 use Rattle.plus_planner.specs.Kin.{IsKin}
 use Rattle.plus_planner.proofs.Carries.{Along}
 use Rattle.plus_planner.proofs.carrying.carry.Given as goal

@@ -11,8 +11,9 @@ use Rattle.plus_planner.specs.Standing.{CanGoOn}
 use Rattle.plus_planner.specs.Places.{now_in}
 use Rattle.plus_planner.proofs.DecidingLemmas.{reach_done, act_told, refusal_told, act_goes}
 use Rattle.plus_planner.proofs.ForkLemmas.{can_forked, acts_forked}
-use Rattle.plus_planner.specs.Kin.{IsKin, AreKin}
-use Rattle.plus_planner.proofs.KinLemmas.{kin_now, kin_forked, kin_pop, kin_popped, kin_act, kin_ended, kin_spares, kin_ok}
+use Rattle.plus_planner.specs.Kin.{IsKin}
+use Rattle.plus_planner.proofs.KinLemmas.{kin_now, kin_forked, kin_pop, kin_popped, kin_act, kin_ended, kin_spares}
+use Rattle.plus_planner.proofs.WorldLemmas.{always}
 use Rattle.plus_planner.proofs.deciding.perform.Goals as goal
 
 pub fork-requires-clause-there : goal.fork-requires-clause-there
@@ -30,7 +31,7 @@ act-requires-clause-serves g c going =
     let P = problem_of g.Q.Exact.value c.args.ground.now in
     let t = now_in c.args.place.now.start c.args.place.now.taken.items in
     let moment : t.now.running ≡ None = subst (λ (x : TimelineView). x.now.running ≡ None) c.now.ensures c.in_ok-timeline.ensures.moment in
-    subst (Serves P) (sym (c.in_ok-timeline.ensures.forked ∙ ap forked c.now.ensures)) (can_forked P t moment c.requires.can.goes).serves
+    subst (Serves P) (sym (c.in_ok-timeline.ensures.forked ∙ ap forked c.now.ensures)) (can_forked P t moment c.requires.can.goes).knows
 
 pub act-requires-clause-paused : goal.act-requires-clause-paused
 act-requires-clause-paused g c going =
@@ -95,7 +96,7 @@ pub returns-in_ok-push-in-Err-clause-kin : goal.returns-in_ok-push-in-Err-clause
 returns-in_ok-push-in-Err-clause-kin g c =
     let P = problem_of g.Q.Exact.value c.args.ground.now in
     let t = now_in c.args.place.now.start c.args.place.now.taken.items in
-    kin_ok c.refused.result
+    always c.refused.result
     (kin_spares P c.act.new.self c.args.place.now.start c.args.place.now.taken.items c.args.place.now.tried.items c.pop-spare.new.self.items c.push.new.self.items
     (kin_ended P c.in_ok-timeline.timeline c.act.new.self c.in-Err.ensures.refused
     (subst (IsKin P) (sym (c.in_ok-timeline.ensures.forked ∙ ap forked c.now.ensures))

@@ -3,7 +3,7 @@ use Rattle.plus_number.specs.Frac.{fraction_of}
 use Rattle.plus_state.specs.View.{problem_of, labels_of}
 use Rattle.plus_validator.specs.Account.{progress}
 use Rattle.plus_validator.specs.Handing.{HandsOn}
-use Rattle.plus_validator.specs.Standing.{steps_left}
+use Rattle.plus_timeline.specs.StepsLeft.{steps_left}
 use Rattle.plus_validator.proofs.Runs.{Along}
 use Rattle.plus_validator.proofs.run.Run.reach.Given as goal
 

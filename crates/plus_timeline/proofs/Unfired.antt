@@ -1,6 +1,5 @@
--- With each round fewer events are left that have not fired, and with each other step fewer steps.
-use Rattle.std.proofs.Common.{◌≡◌, ◌≢◌, ℕ, zero, suc, ◌+◌, ◌*◌, ◌<◌, ◌≤◌, Bool, true, false, ◌||◌, List, [], ◌∷◌, ◌++◌, refl, ap, sym, subst, ◌∙◌, inl, inr, ◌⊎◌, arith}
-use Rattle.std.proofs.Math.Nat.{add-mul}
+-- With each round fewer events are left that have not fired.
+use Rattle.std.proofs.Common.{◌≡◌, ◌≢◌, ℕ, zero, suc, ◌+◌, ◌<◌, ◌≤◌, Bool, true, false, ◌||◌, List, [], ◌∷◌, ◌++◌, refl, ap, sym, subst, ◌∙◌, inl, inr, ◌⊎◌, arith}
 use Rattle.std.proofs.lemmas.Bool.{cases_lt}
 use Rattle.std.proofs.lemmas.List.Elements.{All-head, All-nil, All-cons}
 use Rattle.std.proofs.lemmas.List.Folds.{list_any-append}
@@ -9,9 +8,9 @@ use Rattle.plus_model.specs.Terms.{Event, State, Problem}
 use Rattle.plus_model.specs.Value.{holds}
 use Rattle.plus_model.specs.Firing.{firing, numbers_of, first_shared, is_in, IsRound}
 use Rattle.plus_model.proofs.Members.{in_first}
-use Rattle.plus_planner.specs.Standing.{unfired}
+use Rattle.plus_timeline.specs.StepsLeft.{unfired}
 
--- the numbers of members that pass a test are below how many there are
+-- the numbers of members that pass a test are below how many members there are
 choose : (n k : ℕ) (b : Bool) (es : List ℕ) → k < n → All (λ e. e < n) es → All (λ e. e < n) (if b then k ∷ es else es)
 choose n k true es h r = All-cons (λ e. e < n) k es h r
 choose n k false es h r = r
@@ -20,7 +19,7 @@ numbers_below : {A : Type 0} (test : A → Bool) (k n : ℕ) (xs : List A) → k
 numbers_below test k n [] h = All-nil (λ e. e < n)
 numbers_below test k n (x ∷ xs) h = choose n k (test x) (numbers_of test (suc k) xs) (omega arith) (numbers_below test (suc k) n xs (omega arith))
 
-firing_below : (P : Problem) (s : State) → All (λ e. e < length P.events) (firing P s)
+pub firing_below : (P : Problem) (s : State) → All (λ e. e < length P.events) (firing P s)
 unfolding firing
 firing_below P s = numbers_below (λ (e : Event). holds e.condition s) 0 (length P.events) P.events (omega arith)
 
@@ -83,16 +82,3 @@ fresh_less n fired (e ∷ es) some fresh a =
 pub round_less : (P : Problem) (fired : List ℕ) (s : State) (events : List ℕ) (after : State) → IsRound P fired s events after → unfired (length P.events) (fired ++ events) < unfired (length P.events) fired
 round_less P fired s events after r =
     fresh_less (length P.events) fired events r.some r.fresh (subst (All (λ e. e < length P.events)) (sym r.all) (firing_below P s))
-
--- ---- what is left, by how many entries and parts and by how many rounds
-
-pub rounds_lower : (k k' x y : ℕ) → k' ≡ k → x < y → k' + x < k + y
-rounds_lower k k' x y e h = omega arith
-
-pub parts_lower : (k k' n n' x y : ℕ) → n' ≡ n → k ≡ k' + 1 → x ≤ n' → k' * (n' + 1) + x < k * (n + 1) + y
-parts_lower k k' n n' x y e f h =
-    let g : k * (n + 1) ≡ k' * (n' + 1) + (n' + 1) = ap (λ (i : ℕ). i * (n + 1)) f ∙ add-mul k' 1 (n + 1) ∙ one_more k' n n' e in
-    omega arith
-  where
-    one_more : (k n n' : ℕ) → n' ≡ n → k * (n + 1) + 1 * (n + 1) ≡ k * (n' + 1) + (n' + 1)
-    one_more k n n' e = subst (λ (i : ℕ). k * (n + 1) + 1 * (n + 1) ≡ k * (i + 1) + (i + 1)) (sym e) (omega arith)
