@@ -1,4 +1,4 @@
 pub mod Playing
 pub mod Standing
-pub mod Unmet
+pub mod Failing
 pub mod Members

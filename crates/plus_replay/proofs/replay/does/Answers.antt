@@ -1,6 +1,6 @@
 use Rattle.plus_number.specs.Frac.{fraction_of}
 use Rattle.plus_state.specs.View.{problem_of, action_of}
-use Rattle.plus_replay.proofs.Unmet.{action_there, fits_there}
+use Rattle.plus_replay.proofs.Failing.{action_there, fits_there}
 use Rattle.plus_replay.proofs.replay.does.Goals as goal
 
 pub act-requires-clause-action : goal.act-requires-clause-action

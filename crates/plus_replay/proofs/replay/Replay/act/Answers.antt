@@ -3,7 +3,7 @@ use Rattle.plus_state.specs.View.{problem_of, action_of}
 use Rattle.plus_instances.proofs.Making.{made_here}
 use Rattle.plus_replay.specs.declared.replay.Replay.{Replay}
 use Rattle.plus_replay.proofs.Standing.{done}
-use Rattle.plus_replay.proofs.Unmet.{instance_fits}
+use Rattle.plus_replay.proofs.Failing.{instance_fits}
 use Rattle.plus_replay.proofs.replay.Replay.act.Goals as goal
 
 pub does-requires-clause-fits : goal.does-requires-clause-fits

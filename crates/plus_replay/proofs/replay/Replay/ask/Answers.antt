@@ -1,6 +1,6 @@
 use Rattle.plus_number.specs.Frac.{fraction_of}
 use Rattle.plus_state.specs.View.{problem_of}
-use Rattle.plus_replay.proofs.Unmet.{fits_there}
+use Rattle.plus_replay.proofs.Failing.{fits_there}
 use Rattle.plus_replay.proofs.replay.Replay.ask.Goals as goal
 
 pub append_failing-requires : goal.append_failing-requires
