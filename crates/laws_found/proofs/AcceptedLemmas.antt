@@ -1,5 +1,5 @@
-mod Lifting
-mod Few
-mod Passing
-mod Instances
-mod Accepting
+pub mod Lifting
+pub mod Few
+pub mod Passing
+pub mod Instances
+pub mod Accepting

@@ -1,4 +1,4 @@
-mod Steps
-mod Said
-mod Few
-mod Written
+pub mod Steps
+pub mod Said
+pub mod Few
+pub mod Written

@@ -1,9 +1,9 @@
-mod Digits
-mod Lexes
-mod Parts
-mod Entries
-mod Cuts
-mod Whole
-mod Room
-mod One
-mod Rows
+pub mod Digits
+pub mod Lexes
+pub mod Parts
+pub mod Entries
+pub mod Cuts
+pub mod Whole
+pub mod Room
+pub mod One
+pub mod Rows

@@ -1,2 +1,2 @@
-mod TrialLemmas
+pub mod TrialLemmas
 pub mod OneReply
