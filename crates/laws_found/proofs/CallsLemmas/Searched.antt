@@ -25,6 +25,7 @@ use Rattle.plus_expansion.specs.Calls.{bound_by, called_in, called_by, called_of
 use Rattle.plus_actions.specs.Actions.{choices_from, instance_in, named_by}
 use Rattle.plus_typing.specs.WellTyped.{NothingTwice, IsWellTyped}
 use Rattle.laws_found.specs.Calls.Searched.{CallName, calls_for, all_calls, Has, Differ, AreCallsOfGround}
+use Rattle.laws_found.proofs.CallsLemmas.Called.{same_bytes, first_named, name_at, below, is_there, first_some, same_names}
 
 -- no two of the names are the same
 abbrev IsDistinct : List (List ℕ) → Type 0
@@ -34,9 +35,6 @@ IsDistinct ns = (i j : ℕ) → i < length ns → j < length ns → get_or ns i 
 record NamesDiffer (d : Domain) (p : Problem) : Type 0 where
   objects : IsDistinct (bound_names (problem_context d p).objects)
   actions : IsDistinct (action_names d)
-
-same_bytes : (a b : List ℕ) → bytes_eq a b ≡ true → a ≡ b
-same_bytes a b e = (bytes_eq-Decides a b).0 e
 
 -- ---- a member of a list, by its place
 
@@ -64,51 +62,7 @@ has_number o (x ∷ xs) e = by (nat_eq o x) refl e (has_number o xs)
 
 -- ---- the action that has the name
 
-abbrev schema_names : List Schema → List (List ℕ)
-schema_names xs = map (λ a. a.name.name) xs
-
-first_named : (name : List ℕ) (xs : List Schema) (a : Schema) → slice_get xs (position_or_len (bytes_eq name) (schema_names xs)) ≡ Some a → name ≡ a.name.name
-first_named name [] a e = cc e
-first_named name (x ∷ xs) a e = by (bytes_eq name x.name.name) refl e (first_named name xs a)
-  where
-    by :
-        (b : Bool) → bytes_eq name x.name.name ≡ b → slice_get (x ∷ xs) (cond (not b) (1 + position_or_len (bytes_eq name) (schema_names xs)) 0) ≡ Some a
-        → (slice_get xs (position_or_len (bytes_eq name) (schema_names xs)) ≡ Some a → name ≡ a.name.name) → name ≡ a.name.name
-    by true h f more = same_bytes name x.name.name h ∙ ap (λ (y : Schema). y.name.name) (let s : x ≡ a = cc f in s)
-    by false h f more =
-        let next : 1 + position_or_len (bytes_eq name) (schema_names xs) ≡ suc (position_or_len (bytes_eq name) (schema_names xs)) = omega arith in
-        more (subst (λ (k : ℕ). slice_get (x ∷ xs) k ≡ Some a) next f)
-
 -- ---- the objects that have the names
-
-name_at : (name : List ℕ) (ns : List (List ℕ)) (d : List ℕ) → position_or_len (bytes_eq name) ns < length ns → get_or ns (position_or_len (bytes_eq name) ns) d ≡ name
-name_at name ns d h = sym (same_bytes name _ (passes_at_first (bytes_eq name) ns d h))
-
-below : (types : List Binding) (kind : List ℕ) (o n : ℕ) (os : List Binding) → list_any (nat_eq o) (places_from types kind n os) ≡ true → o < n + length os
-below types kind o n [] e = absurd (let f : false ≡ true = e in cc f)
-below types kind o n (x ∷ xs) e = by (is_under types x.1 kind) e (below types kind o (suc n) xs)
-  where
-    first :
-        (b : Bool) → nat_eq o n ≡ b → (b || list_any (nat_eq o) (places_from types kind (suc n) xs)) ≡ true
-        → (list_any (nat_eq o) (places_from types kind (suc n) xs) ≡ true → o < suc n + length xs) → o < n + length (x ∷ xs)
-    first true h f more = let s : o ≡ n = (Decides-eqb o n).0 h in omega arith
-    first false h f more = let l : o < suc n + length xs = more f in omega arith
-
-    by :
-        (b : Bool) → list_any (nat_eq o) (cond b (n ∷ places_from types kind (suc n) xs) (places_from types kind (suc n) xs)) ≡ true
-        → (list_any (nat_eq o) (places_from types kind (suc n) xs) ≡ true → o < suc n + length xs) → o < n + length (x ∷ xs)
-    by true f more = first (nat_eq o n) refl f more
-    by false f more = let l : o < suc n + length xs = more f in omega arith
-
-is_there : (c : Context) (kind name : List ℕ) → list_any (nat_eq (object_place c name)) (members_of c kind) ≡ true → object_place c name < length (bound_names c.objects)
-is_there c kind name e =
-    let b = below c.types kind (object_place c name) 0 c.objects e in
-    let l = length-map c.objects (λ (x : Binding). x.0) in
-    omega (arith, b, l)
-
-first_some : (b : Bool) (r : Option Environment) (x : Environment) → (if b then r else None) ≡ Some x → (b ≡ true) × (r ≡ Some x)
-first_some true r x e = (refl, e)
-first_some false r x e = cc e
 
 abbrev places : Context → List (List ℕ) → List ℕ
 places c args = map (object_place c) args
@@ -387,9 +341,6 @@ module _ (dom : Domain) (prob : Problem) (differ : NamesDiffer dom prob) where
 
   -- ---- one by one
 
-  instance_of : CallName → List Action
-  instance_of call = instance_in (called_of dom prob call.0 call.1)
-
   aligned_from : (xs : List Schema) → flat_map (named_by dom prob) xs ≡ flat_map (λ (call : CallName). instance_in (called_of dom prob call.0 call.1)) (flat_map (calls_for dom prob) xs)
   aligned_from [] = refl
   aligned_from (a ∷ xs) =
@@ -432,10 +383,6 @@ is_distinct ns h i j a b e = by (which i j)
     by (inl l) = absurd (h i j [] l b e)
     by (inr (inl s)) = s
     by (inr (inr l)) = absurd (h j i [] l a (sym e))
-
-same_names : (ts : List TypedName) → bound_names (bindings_of ts) ≡ names_of ts
-same_names [] = refl
-same_names (t ∷ ts) = ap (λ (ns : List (List ℕ)). t.name.name ∷ ns) (same_names ts)
 
 names_differ : (d : Domain) (p : Problem) → NothingTwice d p → NamesDiffer d p
 names_differ d p n = record {
