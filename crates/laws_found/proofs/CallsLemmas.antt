@@ -5,3 +5,4 @@ pub mod Plain
 pub mod Spelled
 pub mod Saying
 pub mod Deciding
+pub mod Searched

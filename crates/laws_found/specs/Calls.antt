@@ -1,3 +1,4 @@
 pub mod Calls
 pub mod Plans
 pub mod Decided
+pub mod Searched

@@ -10,6 +10,7 @@ ghost use Rattle.plus_model.specs.Plan.{Instance};
 ghost use Rattle.plus_tree.specs.declared.trees.Call.{Call};
 ghost use Rattle.plus_tree.specs.declared.trees.Domain.{Domain};
 ghost use Rattle.plus_tree.specs.declared.trees.Problem.{Problem};
+ghost use Rattle.plus_typing.specs.WellTyped.{IsWellTyped};
 ghost use Rattle.plus_expansion.specs.Calls.{called_of};
 ghost use Rattle.plus_report.specs.Plans.{plan_text};
 ghost use Rattle.plus_plan.specs.declared.forms.Line.{Line};
@@ -23,6 +24,7 @@ ghost use Rattle.plus_validator.specs.Plans.{pair, lines_meant};
 ghost use Rattle.plus_validator.specs.Asking.{call_tests, instances_of};
 ghost use Rattle.plus_grammar.specs.Texts.{IsDomainText, IsProblemText};
 ghost use Rattle.laws_found.specs.Calls.Calls.{IsCalledBy, HasPlainNames, IsPlain};
+ghost use Rattle.laws_found.specs.Calls.Searched.{AreCallsOfGround};
 ghost use Rattle.laws_found.specs.Calls.Plans.{TimedAction, AreGround, HavePlanTimes, AreCalledBy, plan_with, labelled};
 ghost use Rattle.laws_found.specs.Calls.Decided.{decided_from, AreCallsOf};
 
@@ -31,6 +33,12 @@ pub fn each_ground_action_is_called()
     ensures { (d : Domain) (p : Problem) (k : ℕ) (action : Action)
         → slice_get (ground_actions d p) k ≡ Some action
         → (call : Call) × IsCalledBy d p action call }
+{}
+
+/// The ground actions of a well-typed pair, which a search tries, are the instances of all calls that name one, and no call
+/// stands twice.
+pub fn all_calls_are_searched()
+    ensures { (d : Domain) (p : Problem) → IsWellTyped d p → AreCallsOfGround d p }
 {}
 
 /// Whatever call names an instance is shown as the instance's label says, by names that are declared.

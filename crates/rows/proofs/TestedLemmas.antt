@@ -1,3 +1,4 @@
 pub mod RoundRows
 pub mod ConditionRows
 pub mod SettleRows
+pub mod EntryRows

@@ -29,7 +29,7 @@ struct Row {
     output: &'static str,
 }
 
-static ROWS: [Row; 10] = [
+static ROWS: [Row; 11] = [
     Row {
         interval: "1",
         decisions: "2",
@@ -74,6 +74,16 @@ static ROWS: [Row; 10] = [
         problem: TIMETABLE,
         status: Status::Invalid,
         output: "none: 2 decisions, 0 beyond\n",
+    },
+    // After the valve was opened the event comes at 5/2, and what is left of the wait is no number. Two waits are none either.
+    Row {
+        interval: "9223372036854775807",
+        decisions: "2",
+        tries: "100",
+        domain: TANK,
+        problem: TANK1,
+        status: Status::Invalid,
+        output: "none: 2 decisions, 2 beyond\n",
     },
     // Times off the whole numbers.
     Row {

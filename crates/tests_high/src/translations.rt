@@ -7,6 +7,10 @@ use std::test::Fail;
 const TANK: &str =
     "(define (domain tank)\n (:predicates (open))\n (:functions (level))\n (:action open-valve :parameters () :precondition (not (open)) :effect (open))\n (:process fill :parameters () :precondition (open) :effect (increase (level) (* #t 2)))\n (:event full :parameters () :precondition (and (open) (>= (level) 5)) :effect (not (open))))\n";
 
+// An event whose condition has 60 forms, each in the one before it.
+const DEEP: &str =
+    "(define (domain d) (:predicates (p)) (:event e :precondition (not (not (not (not (not (not (not (not (not (not (not (not (not (not (not (not (not (not (not (not (not (not (not (not (not (not (not (not (not (not (not (not (not (not (not (not (not (not (not (not (not (not (not (not (not (not (not (not (not (not (not (not (not (not (not (not (not (not (not (p)))))))))))))))))))))))))))))))))))))))))))))))))))))))))))) :effect (p)))";
+
 // A row: the half, the length of a step, the domain, the problem, the status and what is written.
 #[derive(Clone, Copy)]
 struct Row {
@@ -18,7 +22,7 @@ struct Row {
     output: &'static str,
 }
 
-static ROWS: [Row; 6] = [
+static ROWS: [Row; 8] = [
     Row {
         half: "domain",
         interval: "1/2",
@@ -66,6 +70,24 @@ static ROWS: [Row; 6] = [
         problem: "(define (problem q) (:domain tank) (:init (= (level) 0) (at 3 (open))) (:goal (and)))",
         status: Status::BadText,
         output: "bad text: problem 60-61: off grid\n",
+    },
+    // A pair that is refused has no translation.
+    Row {
+        half: "problem",
+        interval: "1",
+        domain: "(define (domain d) (:predicates (p)))",
+        problem: "(define (problem q) (:domain d) (:init (p d)) (:goal (and)))",
+        status: Status::BadText,
+        output: "bad text: problem 39-44: arity\n",
+    },
+    // The condition of the event stands in five forms of `pp-fire`: 65 are open at once.
+    Row {
+        half: "domain",
+        interval: "1",
+        domain: DEEP,
+        problem: "(define (problem q) (:domain d) (:init) (:goal (and)))",
+        status: Status::Beyond,
+        output: "beyond: depth 64 in translation\n",
     },
 ];
 

@@ -24,7 +24,7 @@ use Rattle.plus_expansion.specs.Expansion.{action_meant}
 use Rattle.plus_expansion.specs.Calls.{bound_by, called_in, called_by, called_of}
 use Rattle.laws_found.specs.Calls.Calls.{IsCalledBy}
 
-same_bytes : (a b : List ℕ) → bytes_eq a b ≡ true → a ≡ b
+pub same_bytes : (a b : List ℕ) → bytes_eq a b ≡ true → a ≡ b
 same_bytes a b e = (bytes_eq-Decides a b).0 e
 
 -- ---- the action that has the name
@@ -33,7 +33,7 @@ abbrev schema_names : List Schema → List (List ℕ)
 schema_names xs = map (λ a. a.name.name) xs
 
 -- what stands at the first place of a name has it
-first_named : (name : List ℕ) (xs : List Schema) (a : Schema) → slice_get xs (position_or_len (bytes_eq name) (schema_names xs)) ≡ Some a → name ≡ a.name.name
+pub first_named : (name : List ℕ) (xs : List Schema) (a : Schema) → slice_get xs (position_or_len (bytes_eq name) (schema_names xs)) ≡ Some a → name ≡ a.name.name
 first_named name [] a e = cc e
 first_named name (x ∷ xs) a e = by (bytes_eq name x.name.name) refl e (first_named name xs a)
   where
@@ -53,11 +53,11 @@ held (x ∷ xs) (suc k) a e = let m = held xs k a e in (suc m.0, omega (arith, m
 -- ---- the objects that have the names
 
 -- what stands at the place of a name that is there
-name_at : (name : List ℕ) (ns : List (List ℕ)) (d : List ℕ) → position_or_len (bytes_eq name) ns < length ns → get_or ns (position_or_len (bytes_eq name) ns) d ≡ name
+pub name_at : (name : List ℕ) (ns : List (List ℕ)) (d : List ℕ) → position_or_len (bytes_eq name) ns < length ns → get_or ns (position_or_len (bytes_eq name) ns) d ≡ name
 name_at name ns d h = sym (same_bytes name _ (passes_at_first (bytes_eq name) ns d h))
 
 -- the places of the objects of a type are below how many objects there are
-below : (types : List Binding) (kind : List ℕ) (o n : ℕ) (os : List Binding) → list_any (nat_eq o) (places_from types kind n os) ≡ true → o < n + length os
+pub below : (types : List Binding) (kind : List ℕ) (o n : ℕ) (os : List Binding) → list_any (nat_eq o) (places_from types kind n os) ≡ true → o < n + length os
 below types kind o n [] e = absurd (let f : false ≡ true = e in cc f)
 below types kind o n (x ∷ xs) e = by (is_under types x.1 kind) e (below types kind o (suc n) xs)
   where
@@ -73,7 +73,7 @@ below types kind o n (x ∷ xs) e = by (is_under types x.1 kind) e (below types 
     by true f more = first (nat_eq o n) refl f more
     by false f more = let l : o < suc n + length xs = more f in omega arith
 
-is_there : (c : Context) (kind name : List ℕ) → list_any (nat_eq (object_place c name)) (members_of c kind) ≡ true → object_place c name < length (bound_names c.objects)
+pub is_there : (c : Context) (kind name : List ℕ) → list_any (nat_eq (object_place c name)) (members_of c kind) ≡ true → object_place c name < length (bound_names c.objects)
 is_there c kind name e =
     let b = below c.types kind (object_place c name) 0 c.objects e in
     let l = length-map c.objects (λ (x : Binding). x.0) in
@@ -89,7 +89,7 @@ one_more c env variable o =
     ap (object_names c) (map-append (λ (b : List ℕ × ℕ). b.1) env ((variable, o) ∷ []))
     ∙ map-append (λ (k : ℕ). get_or (bound_names c.objects) k []) (objects_in env) (o ∷ [])
 
-first_some : (b : Bool) (r : Option Environment) (x : Environment) → (if b then r else None) ≡ Some x → (b ≡ true) × (r ≡ Some x)
+pub first_some : (b : Bool) (r : Option Environment) (x : Environment) → (if b then r else None) ≡ Some x → (b ≡ true) × (r ≡ Some x)
 first_some true r x e = (refl, e)
 first_some false r x e = cc e
 
@@ -140,7 +140,7 @@ named c name args xs (Some a) action s e =
     let n = first_named name xs a s in
     (made c name args a (bound_by c a.params args []) action n refl e, subst (Contains (schema_names xs)) (sym n) (held xs (position_or_len (bytes_eq name) (schema_names xs)) a s))
 
-same_names : (ts : List TypedName) → bound_names (bindings_of ts) ≡ names_of ts
+pub same_names : (ts : List TypedName) → bound_names (bindings_of ts) ≡ names_of ts
 same_names [] = refl
 same_names (t ∷ ts) = ap (λ (ns : List (List ℕ)). t.name.name ∷ ns) (same_names ts)
 
