@@ -1,5 +1,5 @@
 -- What the number that the process ends with says of the words.
-use Rattle.std.proofs.Common.{◌≡◌, ◌⊎◌, ℕ, List, Option, None, ap, sym, ◌∙◌, inl, inr, arith}
+use Rattle.std.proofs.Common.{◌≡◌, ◌⊎◌, ℕ, List, Option, None, ap, refl, sym, ◌∙◌, inl, inr, arith}
 use Rattle.plus_report.specs.declared.status.Status.{Status}
 use Rattle.plus_report.specs.declared.status.Status.TheVariants as s
 use Rattle.plus_report.specs.Statuses.{exit_number}
