@@ -1,0 +1,4 @@
+pub mod Visits
+pub mod Constraint
+pub mod Found
+pub mod Laws
