@@ -1,13 +1,11 @@
 pub mod Counting
-pub mod Fronts
 pub mod PairTests
 pub mod CallTests
 pub mod StepTests
 pub mod Reaching
-pub mod FeedLemmas
 pub mod Meaning
 pub mod LevelLemmas
 pub mod PlayLemmas
 pub mod RunLemmas
-pub mod StreamLemmas
+pub mod PlayingLemmas
 pub mod Excluding

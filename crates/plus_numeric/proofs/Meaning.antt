@@ -37,10 +37,12 @@ use Rattle.plus_expansion.specs.Counting.{most_nodes}
 use Rattle.plus_io.specs.Limits.{text_limit}
 use Rattle.plus_numeric.specs.Calls.{calls_of, call_meant, PlanOf}
 use Rattle.plus_numeric.specs.Tests.{Test, no_line, too_long, beyond, count, literal, unknown_action, wrong_arguments, in_line, at_end, Passes, AllPass, FirstFailing, IsBreach}
-use Rattle.plus_numeric.specs.Asked.{in_text, pair_tests, call_tests, after_call, lines_tests, end_tests, text_lines, last_tests, text_tests, numeric_tests}
+use Rattle.plus_numeric.specs.Asked.{in_text, pair_tests, call_tests, after_call, lines_tests, end_tests, last_tests, text_tests, numeric_tests}
 use Rattle.plus_numeric.specs.Answers.{Reads, HasPlan}
 use Rattle.plus_numeric.proofs.Counting.{member_of}
-use Rattle.plus_numeric.proofs.Fronts.{lines_within}
+use Rattle.plus_plan.specs.declared.forms.PlanForm.TheVariants.{Untimed}
+use Rattle.plus_play.specs.Cut.{text_lines}
+use Rattle.plus_play.proofs.Fronts.{lines_within}
 use Rattle.plus_numeric.proofs.PairTests.{pair_no_breach}
 use Rattle.plus_numeric.proofs.CallTests.{line_carries, after_done}
 
@@ -246,7 +248,7 @@ module _ (d : Domain) (p : tree.Problem) (bytes : List ℕ) where
   whole_text : (lines : List Line) → Reads bytes lines → text_tests d p bytes ≡ asked d p (expanded d p).initial lines
   unfolding text_tests
   whole_text lines r =
-      ap (λ (rs : List (Result Line PlanFault)). lines_tests d p rs (expanded d p).initial (last_tests d p bytes)) (lines_within bytes (long_not bytes r.within) ∙ r.read)
+      ap (λ (rs : List (Result Line PlanFault)). lines_tests d p rs (expanded d p).initial (last_tests d p bytes)) (lines_within Untimed bytes (long_not bytes r.within) ∙ r.read)
       ∙ same_behind lines (expanded d p).initial (last_tests d p bytes) (end_tests d p) (last_is r.within)
 
   pub text_plan : (lines : List Line) → Reads bytes lines → AllPass (text_tests d p bytes) → PlanOf d p (calls_of lines)
@@ -274,7 +276,7 @@ module _ (d : Domain) (p : tree.Problem) (bytes : List ℕ) where
   unfolding numeric_tests text_tests
   text_passes h =
       let own : AllPass (text_tests d p bytes) = pass_right Passes (pair_tests d p) (text_tests d p bytes) h in
-      let all = all_lines d p (last_tests d p bytes) (text_lines bytes) (expanded d p).initial own in
+      let all = all_lines d p (last_tests d p bytes) (text_lines Untimed bytes) (expanded d p).initial own in
       let short = is_within (nat_lt text_limit (length bytes)) all.after refl all.pass in
-      let reads : Reads bytes all.lines = record { within = within_limit short; read = sym (lines_within bytes short) ∙ all.are } in
+      let reads : Reads bytes all.lines = record { within = within_limit short; read = sym (lines_within Untimed bytes short) ∙ all.are } in
       record { lines = all.lines; reads = reads; plan = text_plan all.lines reads own }

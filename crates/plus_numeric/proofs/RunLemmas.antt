@@ -32,21 +32,21 @@ use Rattle.plus_report.specs.Verdicts.{VerdictFits, breach_text, limit_text, ope
 use Rattle.plus_numeric.specs.declared.answer.Kind.{Kind}
 use Rattle.plus_numeric.specs.declared.answer.Stop.{Stop}
 use Rattle.plus_numeric.specs.declared.answer.Stop.TheVariants.{Refused, ReadFault, NoMemory}
+use Rattle.plus_numeric.specs.declared.halt.Halt.{Halt}
 use Rattle.plus_numeric.specs.declared.halt.Halt.TheVariants as halts
 use Rattle.plus_numeric.specs.declared.level.Place.{Place}
-use Rattle.plus_numeric.specs.declared.run.Pause.{Pause}
-use Rattle.plus_numeric.specs.declared.run.Pause.TheVariants as pauses
+use Rattle.plus_play.specs.declared.file.Pause.{Pause}
+use Rattle.plus_play.specs.declared.file.Pause.TheVariants as pauses
 use Rattle.plus_numbering.specs.declared.numbering.Numbering.{Numbering}
-use Rattle.plus_plan.specs.Pending.{Pending}
-use Rattle.plus_plan.specs.Pieces.{fresh}
 use Rattle.plus_plan.specs.declared.forms.PlanForm.TheVariants.{Untimed}
-use Rattle.plus_numeric.specs.Streaming.{IsFresh, PausesIn, PauseFits, PauseNames, TellsPause}
+use Rattle.plus_play.specs.Cut.{text_lines}
+use Rattle.plus_numeric.specs.Streaming.{PausesIn, PauseFits, PauseNames, TellsPause}
 use Rattle.plus_numeric.specs.declared.play.Play.{Play}
 use Rattle.plus_numeric.specs.declared.source.Source.{Source}
 use Rattle.plus_numeric.specs.Level.{beyond_level_two, IsFirstPlace}
 use Rattle.plus_numeric.specs.Calls.{calls_of}
 use Rattle.plus_numeric.specs.Tests.{Test, beyond, count, literal, Passes, AllPass, FirstFailing}
-use Rattle.plus_numeric.specs.Asked.{pair_tests, lines_tests, text_lines, last_tests, text_tests, numeric_tests}
+use Rattle.plus_numeric.specs.Asked.{pair_tests, lines_tests, last_tests, text_tests, numeric_tests}
 use Rattle.plus_numeric.specs.Verdicts.{text_in, kind_meant, verdict_of, line_of, kind_of, early_kind}
 use Rattle.plus_numeric.specs.Answers.{HasPlan, IsAccepted, IsRefused, Stops}
 use Rattle.plus_numeric.specs.Refusing.{StopsPair}
@@ -160,8 +160,8 @@ module _ (source : Source) (d : Domain) (p : tree.Problem) (level : beyond_level
       → IsRefused source d p text kind line
   unfolding numeric_tests text_tests line_of
   halted_at text first v kind line state same h k t =
-      let one : FirstFailing (lines_tests d p (text_lines text) (expanded d p).initial (last_tests d p text)) h.test =
-      subst (λ s. FirstFailing (lines_tests d p (text_lines text) s (last_tests d p text)) h.test) state (h.first (λ s. [])) in
+      let one : FirstFailing (lines_tests d p (text_lines Untimed text) (expanded d p).initial (last_tests d p text)) h.test =
+      subst (λ s. FirstFailing (lines_tests d p (text_lines Untimed text) s (last_tests d p text)) h.test) state (h.first (λ s. [])) in
       let all : FirstFailing (numeric_tests d p text) h.test = fail_right Passes (pair_tests d p) (text_tests d p text) h.test (pair_passes d p level groundable) one in
       let is : seen v ≡ verdict_of source h.test = h.is ∙ ap (λ s. verdict_of s h.test) same in
       record {
@@ -186,7 +186,7 @@ module _ (source : Source) (d : Domain) (p : tree.Problem) (level : beyond_level
       (text : List ℕ) (first now : Play) → first.numeric ≡ (expanded d p).initial → first.calls.items ≡ [] → IsPlayed d p text first now → IsAccepted d p text first.keep now.calls.items
   unfolding numeric_tests text_tests
   plan_accepted text first now state none h =
-      let pass : AllPass (text_tests d p text) = subst (λ s. AllPass (lines_tests d p (text_lines text) s (last_tests d p text))) state h.pass in
+      let pass : AllPass (text_tests d p text) = subst (λ s. AllPass (lines_tests d p (text_lines Untimed text) s (last_tests d p text))) state h.pass in
       record {
         has = record { lines = h.lines; reads = h.reads; plan = text_plan d p text h.lines h.reads pass };
         passed = pass_append Passes (pair_tests d p) (text_tests d p text) (pair_passes d p level groundable) pass;
@@ -228,7 +228,7 @@ module _ (n : Numbering) (source : Source) (keep : Bool) (play : Play) (b : IsBe
   begun_accepted level groundable None now calls c h = tt
   begun_accepted level groundable (Some text) now calls c h = accepted_at level groundable text now calls c h
 
-  pub begun_names : (P : Problem) (pause : Pause) → P ≡ expanded d p → PauseFits (domain_in play) (problem_in play) pause → PauseNames P pause
+  pub begun_names : (P : Problem) (pause : Pause Halt) → P ≡ expanded d p → PauseFits (domain_in play) (problem_in play) pause → PauseNames P pause
   begun_names P (pauses.Halt (halts.Refused v)) e f = subst (λ (x : Problem). VerdictFits x v) (sym (begun_expands P e)) f
   begun_names P (pauses.Halt halts.Memory) e f = tt
   begun_names P pauses.Failed e f = tt
@@ -244,7 +244,7 @@ module _ (n : Numbering) (source : Source) (keep : Bool) (play : Play) (b : IsBe
 
   pub begun_stops :
       beyond_level_two d p ≡ [] → IsGroundable IsFrac64 d p → (N : Labels) (P : Problem) → N ≡ labels_meant d p → P ≡ expanded d p
-      → (bytes : Option (List ℕ)) (before now : ℕ) (pause : Pause) (stop : Stop) → PausesIn (domain_in play) (problem_in play) bytes before now play pause
+      → (bytes : Option (List ℕ)) (before now : ℕ) (pause : Pause Halt) (stop : Stop) → PausesIn (domain_in play) (problem_in play) bytes before now play pause
       → TellsPause N P pause stop → Stops source d p bytes before now stop
   begun_stops level groundable N P en ep bytes before now (pauses.Halt (halts.Refused v)) stop h t =
       stops_at level groundable bytes v before now stop h

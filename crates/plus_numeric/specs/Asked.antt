@@ -1,6 +1,6 @@
 -- What is asked, in order, of a well-typed pair and a plan text without times: one list of tests. The first that fails is why
 -- the plan is refused; where all pass, it is a plan of the pair.
-use Rattle.std.specs.Prelude.{ℕ, ◌+◌, List, [], ◌∷◌, ◌++◌, map, length, take, nat_lt, if◌then◌else◌, Result, Ok, Err}
+use Rattle.std.specs.Prelude.{ℕ, List, [], ◌∷◌, ◌++◌, map, length, nat_lt, if◌then◌else◌, Result, Ok, Err}
 use Rattle.plus_model.specs.Terms.{State}
 use Rattle.plus_model.specs.Joint.{joint}
 use Rattle.plus_model.specs.Plan.{Called, Instance, UnknownAction, WrongArguments}
@@ -14,17 +14,13 @@ use Rattle.plus_plan.specs.declared.forms.Line.{Line}
 use Rattle.plus_plan.specs.declared.forms.Line.TheVariants.{Blank, Act, End, Step}
 use Rattle.plus_plan.specs.declared.forms.PlanForm.TheVariants.{Untimed}
 use Rattle.plus_plan.specs.declared.faults.PlanFault.{PlanFault}
-use Rattle.plus_plan.specs.declared.faults.PlanFault.TheVariants.{LineTooLong}
-use Rattle.plus_plan.specs.Spells.{line_limit}
-use Rattle.plus_plan.specs.Cut.{lines_of}
-use Rattle.plus_plan.specs.Lines.{plan_lines}
+use Rattle.plus_play.specs.Cut.{text_lines}
 use Rattle.plus_expansion.specs.Expansion.{expanded}
 use Rattle.plus_expansion.specs.Nodes.{action_nodes}
 use Rattle.plus_expansion.specs.Literals.{literals_of, call_literals}
 use Rattle.plus_expansion.specs.Counting.{counts_of, most_nodes}
 use Rattle.plus_stepped.specs.Asked.{where_ok, action_tests, goal_tests}
 use Rattle.plus_numeric.specs.Level.{beyond_level_two}
-use Rattle.plus_numeric.specs.Cut.{whole_lines, last_piece}
 use Rattle.plus_io.specs.Limits.{text_limit}
 use Rattle.plus_numeric.specs.Calls.{call_meant}
 use Rattle.plus_numeric.specs.Tests.{Test, beyond, count, literal, no_line, too_long, unknown_action, wrong_arguments, in_line, at_end}
@@ -71,24 +67,12 @@ end_tests d p s = map at_end (goal_tests (expanded d p).goal s)
 
 -- ---- the text
 
--- the piece of a line, which has this number, at which a text is cut off: it may be longer than a line may be already
-abbrev pub cut_piece : ℕ → List ℕ → List (Result Line PlanFault)
-cut_piece n piece = if nat_lt line_limit (length piece) then Err (LineTooLong n) ∷ [] else []
-
--- the whole lines of a text that goes on behind its limit, of which this is what is within
-abbrev pub long_lines : List ℕ → List (Result Line PlanFault)
-long_lines text = plan_lines Untimed (whole_lines text) ++ cut_piece (length (lines_of (whole_lines text)) + 1) (last_piece text)
-
--- what the lines of a text say, as far as it is within its limit
-unfoldable pub text_lines : List ℕ → List (Result Line PlanFault)
-text_lines bytes = if nat_lt text_limit (length bytes) then long_lines (take text_limit bytes) else plan_lines Untimed bytes
-
 -- at its end stands the goal, where it does not go on behind its limit
 unfoldable pub last_tests : Domain → tree.Problem → List ℕ → State → List Test
 last_tests d p bytes s = if nat_lt text_limit (length bytes) then too_long ∷ [] else end_tests d p s
 
 unfoldable pub text_tests : Domain → tree.Problem → List ℕ → List Test
-text_tests d p bytes = lines_tests d p (text_lines bytes) (expanded d p).initial (last_tests d p bytes)
+text_tests d p bytes = lines_tests d p (text_lines Untimed bytes) (expanded d p).initial (last_tests d p bytes)
 
 -- ---- all of it
 unfoldable pub numeric_tests : Domain → tree.Problem → List ℕ → List Test

@@ -1,6 +1,5 @@
 -- What the claim of `run` stands on.
 pub mod Level
-pub mod Cut
 pub mod Calls
 pub mod Tests
 pub mod Asked
@@ -8,6 +7,7 @@ pub mod Verdicts
 pub mod Answers
 -- Inner words.
 pub mod Playing
+pub mod PlayRules
 pub mod Telling
 pub mod Streaming
 pub mod Refusing

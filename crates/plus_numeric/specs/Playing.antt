@@ -1,5 +1,5 @@
 -- What playing a line, a text or its end tells.
-use Rattle.std.specs.Prelude.{◌≡◌, ℕ, ◌≤◌, Bool, true, false, List, [], ◌∷◌, ◌++◌, length, map, Result, Ok, Err, None, if◌then◌else◌}
+use Rattle.std.specs.Prelude.{◌≡◌, ℕ, Bool, List, [], ◌++◌, map, Result, Ok, if◌then◌else◌}
 use Rattle.plus_fraction.specs.Fraction.{Fraction}
 use Rattle.plus_model.specs.Terms.{State}
 use Rattle.plus_number.specs.declared.frac.Frac64.{Frac64}
@@ -33,15 +33,13 @@ use Rattle.plus_expansion.specs.Counting.{most_nodes}
 use Rattle.plus_numeric.specs.declared.halt.Halt.{Halt}
 use Rattle.plus_numeric.specs.declared.halt.Halt.TheVariants.{Refused, Memory}
 use Rattle.plus_numeric.specs.declared.play.Play.{Play}
-use Rattle.plus_numeric.specs.declared.feed.Feed.{Feed}
 use Rattle.plus_plan.specs.declared.forms.PlanForm.TheVariants.{Untimed}
-use Rattle.plus_plan.specs.Given.{HasGiven}
-use Rattle.plus_io.specs.Limits.{text_limit}
+use Rattle.plus_play.specs.Cut.{text_lines}
 use Rattle.plus_numeric.specs.Answers.{Reads}
 use Rattle.plus_numeric.specs.declared.source.Source.{Source}
 use Rattle.plus_numeric.specs.Calls.{calls_of, call_meant}
 use Rattle.plus_numeric.specs.Tests.{Test, AllPass, FirstFailing}
-use Rattle.plus_numeric.specs.Asked.{call_tests, after_call, line_tests, lines_tests, text_lines, last_tests}
+use Rattle.plus_numeric.specs.Asked.{call_tests, after_call, line_tests, lines_tests, last_tests}
 use Rattle.plus_numeric.specs.Verdicts.{text_in, verdict_of, node_overflow}
 
 -- ---- a verdict of the code, with fractions in place of its numbers
@@ -176,55 +174,15 @@ pub record Played (d : Domain) (p : tree.Problem) (lines : List Line) (first now
       → lines_tests d p (map Ok lines ++ rest) first.numeric more ≡ own ++ lines_tests d p rest now.numeric more
   pub kept : Keeps lines first now
 
--- ---- a text that is played as it comes
-
--- of what has come of this text these lines are played, since the play was so, and no line of it is refused
-pub record IsFed (text : List ℕ) (first : Play) (feed : Feed) : Type 0 where
-  pub lines : List Line
-  pub given : HasGiven Untimed text lines feed.reader
-  pub no_fault : feed.reader.fault ≡ None
-  pub played : Played (domain_in feed.play) (problem_in feed.play) lines first feed.play
-  pub source_is : first.source ≡ feed.play.source
-  pub keep_is : first.keep ≡ feed.play.keep
-
--- the text is read of these bytes, within the limit; where it has ended, they are all
-pub record IsReadOf (bytes text : List ℕ) (ended : Bool) : Type 0 where
-  pub behind : List ℕ
-  pub is : bytes ≡ text ++ behind
-  pub within : length text ≤ text_limit
-  pub all : ended ≡ true → behind ≡ []
-
--- the play halts in a text, whatever stands behind it
-pub record HaltsOn (d : Domain) (p : tree.Problem) (text : List ℕ) (ended : Bool) (first : Play) (halt : Halt) : Type 0 where
-  pub halts : (bytes : List ℕ) → IsReadOf bytes text ended → HaltsIn first.source (lines_tests d p (text_lines bytes) first.numeric) halt
-
--- this piece of a text is played, where the text with it is within the limit
-pub record Feeds (piece : List ℕ) (old new : Feed) : Type 0 where
-  pub fed : (text : List ℕ) (first : Play) → IsFed text first old → length (text ++ piece) ≤ text_limit → IsFed (text ++ piece) first new
-
--- the play halts in this piece
-pub record HaltsFeeding (piece : List ℕ) (old : Feed) (halt : Halt) : Type 0 where
-  pub halts :
-      (text : List ℕ) (first : Play) → IsFed text first old → length (text ++ piece) ≤ text_limit
-      → HaltsOn (domain_in old.play) (problem_in old.play) (text ++ piece) old.reader.closed first halt
+-- ---- a text that is played
 
 -- the text has these lines, all that is asked of it passes, and its calls are kept where they are to be
 pub record IsPlayed (d : Domain) (p : tree.Problem) (text : List ℕ) (first now : Play) : Type 0 where
   pub lines : List Line
   pub reads : Reads text lines
-  pub pass : AllPass (lines_tests d p (text_lines text) first.numeric (last_tests d p text))
+  pub pass : AllPass (lines_tests d p (text_lines Untimed text) first.numeric (last_tests d p text))
   pub kept : Keeps lines first now
 
--- the text has ended, and the goal holds; or the play halts
-pub record Ends (old new : Feed) : Type 0 where
-  pub ends :
-      (text : List ℕ) (first : Play) → IsFed text first old → length text ≤ text_limit
-      → IsPlayed (domain_in old.play) (problem_in old.play) text first new.play
-
+-- the play halts in the text
 abbrev pub HaltsWith : Domain → tree.Problem → List ℕ → Play → Halt → Type 0
-HaltsWith d p bytes first halt = HaltsAt first.source (lines_tests d p (text_lines bytes) first.numeric (last_tests d p bytes)) halt
-
-pub record HaltsEnding (old : Feed) (halt : Halt) : Type 0 where
-  pub halts :
-      (text : List ℕ) (first : Play) → IsFed text first old → length text ≤ text_limit
-      → HaltsWith (domain_in old.play) (problem_in old.play) text first halt
+HaltsWith d p bytes first halt = HaltsAt first.source (lines_tests d p (text_lines Untimed bytes) first.numeric (last_tests d p bytes)) halt

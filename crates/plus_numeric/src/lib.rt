@@ -3,11 +3,11 @@
 #![tactic(auto)]
 
 mod answer;
-mod feed;
 mod halt;
 pub mod laws;
 mod level;
 mod play;
+mod playing;
 mod run;
 mod source;
 mod told;

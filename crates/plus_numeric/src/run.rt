@@ -1,9 +1,7 @@
 //! From a pair and the name of a plan to its answer.
-ghost use Rattle.std.specs.Prelude.{◌≡◌, ◌≤◌, ◌+◌, [], ◌∷◌, length, take, Some, OnOk, OnErr, IfOk, IfErr, IfSome};
-ghost use Rattle.std.specs.Io.KnownBytes.{IsAtEnd};
-ghost use Rattle.plus_io.specs.Faults.{Rose};
-ghost use Rattle.plus_io.specs.Files.{KeepsFiles, Takes};
-ghost use Rattle.plus_io.specs.Picks.{ReadsOnce, ReadsInOrder, with_read};
+ghost use Rattle.std.specs.Prelude.{◌≡◌, ◌+◌, [], ◌∷◌, Some, IfOk, IfErr, IfSome};
+ghost use Rattle.plus_io.specs.Files.{KeepsFiles};
+ghost use Rattle.plus_io.specs.Picks.{ReadsInOrder};
 ghost use Rattle.plus_number.specs.Frac.{fraction_of, IsFrac64};
 ghost use Rattle.plus_state.specs.View.{problem_of, labels_of};
 ghost use Rattle.plus_tree.specs.declared.trees.Domain.{Domain};
@@ -11,51 +9,32 @@ ghost use Rattle.plus_tree.specs.declared.trees.Problem.{Problem};
 ghost use Rattle.plus_expansion.specs.Expansion.{expanded, labels_meant};
 ghost use Rattle.plus_expansion.specs.Counting.{IsGroundable};
 ghost use Rattle.plus_ground.specs.Refusals.{RefusesGround};
-ghost use Rattle.plus_io.specs.Limits.{text_limit, piece_size};
+ghost use Rattle.plus_io.specs.Limits.{text_limit};
 ghost use Rattle.plus_numeric.specs.Level.{beyond_level_two, IsFirstPlace};
 ghost use Rattle.plus_numeric.specs.Answers.{IsAccepted, Stops};
 ghost use Rattle.plus_numeric.specs.Refusing.{StopsPair};
-ghost use Rattle.plus_numeric.specs.Playing.{domain_in, problem_in, IsPlayed};
-ghost use Rattle.plus_numeric.specs.Streaming.{IsFresh, PausesIn, PauseFits, PauseNames, TellsPause};
+ghost use Rattle.plus_numeric.specs.Streaming.{PauseNames, TellsPause};
 ghost use Rattle.plus_numeric.specs.Verdicts.{kind_meant};
 
 use crate::answer::Stop;
-use crate::feed::Feed;
 use crate::halt::Halt;
 use crate::level::{Place, first_beyond};
 use crate::play::Play;
+use crate::playing::Playing;
 use crate::source::Source;
 use crate::told::{told, told_early};
 use plus_expansion::Count;
 use plus_ground::ground;
-use plus_io::{Failed, PIECE, Shelf, TEXT_LIMIT};
+use plus_io::Shelf;
 use plus_number::frac::Frac64;
 use plus_numbering::{GroundFault, Numbering};
 use plus_plan::{PlanForm, PlanReader};
-use plus_report::{Early, Kinds, Text, Verdict, Word};
+use plus_play::{Pause, play_file};
+use plus_report::{Early, Kinds, Word};
 use plus_state::problem::Ground;
 use plus_tree::Call;
 use plus_types::Typed;
 use std::alloc::Global;
-
-/// Why a plan is read no further.
-#[derive(Drop)]
-pub enum Pause {
-    /// It is played no further.
-    Halt(Halt),
-    /// The shelf failed.
-    Failed,
-}
-
-impl From<Failed> for Pause {
-    ghost use Rattle.plus_numeric.specs.declared.run.Pause.TheVariants as pauses;
-
-    ghost from_gives = { λ _ pause. pause ≡ pauses.Failed };
-
-    fn from(_failed: Failed) -> Pause {
-        Pause::Failed
-    }
-}
 
 fn kind_of(count: Count) -> Kinds
     ensures { result ≡ kind_meant count }
@@ -117,73 +96,8 @@ fn ungrounded(alloc: Global, source: Source, fault: GroundFault) -> Stop
     }
 }
 
-// A plan text that goes on behind its limit.
-fn too_long() -> Halt
-    ensures { result ≡ Halt.Refused (Verdict.Other (Early.TooLong Text.Plan)) }
-{
-    Halt::Refused(Verdict::Other(Early::TooLong { text: Text::Plan }))
-}
-
-// Reads a piece of a plan of which so many bytes have come: at most one byte past the limit.
-fn read_piece<S: Shelf>(shelf: &mut S, buffer: &mut [u8], total: usize) -> Result<usize, Failed>
-    requires within { total ≤ text_limit }
-    requires size { length buffer.old ≡ piece_size }
-    ensures fits { IfOk result (λ count. count ≤ length buffer.new) }
-    ensures most { IfOk result (λ count. total + count ≤ text_limit + 1) }
-    ensures piece { IfOk result (λ count. Takes (S.rest shelf.old) (S.rest shelf.new) (take count buffer.new)) }
-    ensures at_end { IfOk result (λ count. count ≡ 0 → IsAtEnd (S.rest shelf.old)) }
-    ensures cause { OnErr result (Rose (S.faults shelf.old) (S.faults shelf.new)) }
-    ensures stays { OnErr result (S.rest shelf.new ≡ S.rest shelf.old) }
-    ensures told { IfOk result (λ count. S.picks shelf.new ≡ with_read count (S.picks shelf.old)) }
-    ensures untold { OnErr result (S.picks shelf.new ≡ S.picks shelf.old) }
-    ensures keeps { KeepsFiles S.names S.bytes S.faults shelf.old shelf.new }
-{
-    let most = (TEXT_LIMIT - total).min(PIECE - 1) + 1;
-    shelf.read(&mut buffer[..most])
-}
-
-// Reads a plan, and plays it as it comes.
-fn play_plan<S: Shelf>(
-    feed: &mut Feed<'_>,
-    alloc: Global,
-    ground: &Ground<Frac64>,
-    shelf: &mut S,
-    plan: &str,
-) -> Result<(), Pause>
-    requires fresh { IsFresh feed.old }
-    requires expands { problem_of fraction_of ground.now ≡ expanded (domain_in feed.old.play) (problem_in feed.old.play) }
-    ensures plays { OnOk result (IfSome (S.bytes shelf.old plan.now) (λ text.
-        IsPlayed (domain_in feed.old.play) (problem_in feed.old.play) text feed.old.play feed.new.play)) }
-    ensures pauses { IfErr result (PausesIn (domain_in feed.old.play) (problem_in feed.old.play)
-        (S.bytes shelf.old plan.now) (S.faults shelf.old) (S.faults shelf.new) feed.old.play) }
-    ensures fits { IfErr result (PauseFits (domain_in feed.old.play) (problem_in feed.old.play)) }
-    ensures reads { ReadsOnce S.bytes S.picked S.rest S.picks (text_limit + 1) plan.now shelf.old shelf.new }
-    ensures keeps { KeepsFiles S.names S.bytes S.faults shelf.old shelf.new }
-{
-    shelf.pick(plan)?;
-    let mut buffer = [0u8; PIECE];
-    let mut total = 0;
-    'pieces: loop {
-        let count = read_piece(shelf, &mut buffer, total)?;
-        if count == 0 {
-            return match feed.end(alloc, ground) {
-                Ok(()) => Ok(()),
-                Err(halt) => Err(Pause::Halt(halt)),
-            };
-        }
-        let within = count.min(TEXT_LIMIT - total);
-        if let Err(halt) = feed.take(alloc, &buffer[..within]) {
-            return Err(Pause::Halt(halt));
-        }
-        if within < count {
-            return Err(Pause::Halt(too_long()));
-        }
-        total += count;
-    }
-}
-
 // Why the plan of a ground problem is read no further.
-fn paused(alloc: Global, ground: &Ground<Frac64>, pause: Pause) -> Stop
+fn paused(alloc: Global, ground: &Ground<Frac64>, pause: Pause<Halt>) -> Stop
     requires { PauseNames (problem_of fraction_of ground.now) pause }
     ensures { TellsPause (labels_of ground.now) (problem_of fraction_of ground.now) pause result }
 {
@@ -217,17 +131,15 @@ fn numeric_ground<S: Shelf>(
     ensures reads { ReadsInOrder S.bytes S.picked S.rest S.picks (text_limit + 1) (plan.now ∷ []) shelf.old shelf.new }
     ensures keeps { KeepsFiles S.names S.bytes S.faults shelf.old shelf.new }
 {
-    let play = match Play::begin(alloc, &*numbering, ground, source, keep) {
-        Ok(play) => play,
-        Err(_) => return Err(Stop::NoMemory),
+    let Ok(mut reader) = PlanReader::new(alloc, PlanForm::Untimed) else {
+        return Err(Stop::NoMemory);
     };
-    let reader = match PlanReader::new(alloc, PlanForm::Untimed) {
-        Ok(reader) => reader,
-        Err(_) => return Err(Stop::NoMemory),
+    let Ok(play) = Play::begin(alloc, &*numbering, ground, source, keep) else {
+        return Err(Stop::NoMemory);
     };
-    let mut feed = Feed { play, reader };
-    match play_plan(&mut feed, alloc, ground, shelf, plan) {
-        Ok(()) => Ok(feed.play.take_calls(alloc)),
+    let mut playing = Playing { play, ground };
+    match play_file(&mut playing, &mut reader, alloc, shelf, plan, &mut ()) {
+        Ok(()) => Ok(playing.play.take_calls(alloc)),
         Err(pause) => Err(paused(alloc, ground, pause)),
     }
 }

@@ -9,6 +9,7 @@ ghost use Rattle.plus_model.specs.Trajectory.{is_below};
 ghost use Rattle.plus_timeline.specs.Advance.{IsAhead};
 ghost use Rattle.plus_timeline.specs.Finish.{IsPaused};
 ghost use Rattle.plus_replay.specs.Replay.{Rests, Stands, IsGroundOf};
+ghost use Rattle.plus_replay.specs.ReplayRules.{replay_rules};
 
 use crate::call::append_wrong;
 use crate::unmet::append_failing;
@@ -19,7 +20,8 @@ use plus_io::MOST_HAPPENINGS;
 use plus_number::exact::Exact;
 use plus_number::frac::Frac64;
 use plus_numbering::Numbering;
-use plus_plan::{Line, PlanForm, Time, line_at, time_value};
+use plus_plan::{Line, PlanFault, PlanForm, PlanReader, Time, time_value};
+use plus_play::{Plays, play_bytes};
 use plus_state::{Action, Ground};
 use plus_timeline::Next;
 use plus_tree::Call;
@@ -184,52 +186,6 @@ impl<'a> Replay<'a> {
         }
     }
 
-    // Plays the lines of a text, and answers whether all are done.
-    fn lines(
-        &mut self,
-        alloc: Global,
-        ground: &Ground<Frac64>,
-        text: &[u8],
-        form: PlanForm,
-        into: &mut Vec<u8>,
-    ) -> Result<bool, AllocError>
-        requires { Stands ground.now self.old }
-        ensures { IfOk result (λ b. OnTrue b (Stands ground.now self.new)) }
-    {
-        let mut from = 0;
-        'lines: for number in 1..u32::MAX {
-            match line_at(alloc, text, from, number, form) {
-                Ok(Some((read, next))) => {
-                    if !self.line(alloc, ground, &read, into)? {
-                        return Ok(false);
-                    }
-                    from = next;
-                }
-                Ok(None) => return Ok(true),
-                Err(_) => return Ok(false),
-            }
-        }
-        Ok(false)
-    }
-
-    // Plays the text of a plan, and appends why it is refused.
-    fn text(
-        &mut self,
-        alloc: Global,
-        ground: &Ground<Frac64>,
-        plan: &[u8],
-        form: PlanForm,
-        into: &mut Vec<u8>,
-    ) -> Result<(), AllocError>
-        requires { Stands ground.now self.old }
-    {
-        let done = self.lines(alloc, ground, plan, form, into)?;
-        if done {
-            return self.close(ground, into);
-        }
-        Ok(())
-    }
-
     // Plays on at the end of the text, and appends what of the goal is not met.
     fn close(&mut self, ground: &Ground<Frac64>, into: &mut Vec<u8>) -> Result<(), AllocError>
         requires { Stands ground.now self.old }
@@ -254,6 +210,56 @@ impl<'a> Replay<'a> {
     }
 }
 
+// Why a plan is played again no further.
+#[derive(Drop)]
+enum Halt {
+    /// The plan is refused.
+    Refused,
+    /// Memory is wanting.
+    Memory,
+}
+
+impl From<AllocError> for Halt {
+    fn from(_: AllocError) -> Halt {
+        Halt::Memory
+    }
+}
+
+// A plan that is played again over a ground problem, as one who plays lines.
+#[derive(Drop)]
+struct Replaying<'n, 'g> {
+    replay: Replay<'n>,
+    ground: &'g Ground<Frac64>,
+}
+
+impl Plays<Vec<u8>> for Replaying<'_, '_> {
+    type Stop = Halt;
+
+    ghost rules = { replay_rules };
+
+    fn line(&mut self, alloc: Global, read: &mut Line, into: &mut Vec<u8>) -> Result<(), Halt> {
+        let done = self.replay.line(alloc, self.ground, read, into)?;
+        if done { Ok(()) } else { Err(Halt::Refused) }
+    }
+
+    fn end(&mut self, _alloc: Global, into: &mut Vec<u8>) -> Result<(), Halt> {
+        self.replay.close(self.ground, into)?;
+        Ok(())
+    }
+
+    fn hand_on(&mut self, _into: &mut Vec<u8>) -> Result<(), Halt> {
+        Ok(())
+    }
+
+    fn no_line(&self, _fault: PlanFault, _into: &Vec<u8>) -> Halt {
+        Halt::Refused
+    }
+
+    fn too_long(&self, _into: &Vec<u8>) -> Halt {
+        Halt::Refused
+    }
+}
+
 // Plays a plan of a pair again, over its ground form, and appends why it is refused.
 fn play(
     alloc: Global,
@@ -265,8 +271,16 @@ fn play(
 ) -> Result<(), AllocError>
     requires { IsGroundOf numbering.now.typed.now ground.now }
 {
-    let mut replay = Replay::begin(alloc, numbering, ground)?;
-    replay.text(alloc, ground, plan, form, into)
+    let mut reader = PlanReader::new(alloc, form)?;
+    let replay = Replay::begin(alloc, numbering, ground)?;
+    let mut replaying = Replaying { replay, ground };
+    let played = play_bytes(&mut replaying, &mut reader, alloc, plan, into);
+    // By a call: what drops a plan that is played is long, and its proof stands once.
+    drop(replaying);
+    match played {
+        Ok(()) | Err(Halt::Refused) => Ok(()),
+        Err(Halt::Memory) => Err(AllocError),
+    }
 }
 
 // Plays a plan of a pair again, and appends why it is refused.

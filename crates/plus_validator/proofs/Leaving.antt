@@ -2,8 +2,6 @@
 use Rattle.std.proofs.Common.{◌≡◌, ℕ, ◌<◌, ◌≤◌, Bool, true, false, List, [], ◌∷◌, ◌++◌, map, length, take, Option, Some, None, refl, subst, sym, ap, ◌∙◌, arith, append-nil, append_assoc, length-append, inl, inr}
 use Rattle.std.specs.Prelude.{All, IfSome, IfErr, Result, Ok, Err}
 use Rattle.std.proofs.lemmas.List.{take_at}
-use Rattle.plus_io.specs.Limits.{piece_size}
-use Rattle.plus_io.specs.Files.{Takes}
 use Rattle.plus_io.specs.Taken.{Took}
 use Rattle.plus_io.proofs.Pieces.{Takes-append}
 use Rattle.plus_model.specs.Terms.{Problem}
@@ -20,101 +18,58 @@ use Rattle.plus_plan.specs.declared.forms.Line.{Line}
 use Rattle.plus_plan.specs.declared.forms.PlanForm.TheVariants.{Timed}
 use Rattle.plus_plan.specs.declared.faults.PlanFault.{PlanFault}
 use Rattle.plus_plan.specs.Lines.{plan_lines}
+use Rattle.plus_plan.specs.Given.{HasGiven}
+use Rattle.plus_plan.specs.Pending.{Pending}
 use Rattle.plus_plan.specs.Pieces.{IsIdle}
 use Rattle.plus_report.specs.declared.verdicts.Verdict.{Verdict}
-use Rattle.plus_validator.specs.declared.feed.Feed.{Feed}
 use Rattle.plus_validator.specs.declared.halt.Halt.{Halt}
 use Rattle.plus_validator.specs.declared.halt.Halt.TheVariants.{Refused, Memory, WriteFault}
 use Rattle.plus_validator.specs.declared.run.Run.{Run}
 use Rattle.plus_validator.specs.Account.{Account, Progress, progress}
 use Rattle.plus_validator.specs.Asking.{instances_of}
 use Rattle.plus_validator.specs.Halts.{HaltFits}
-use Rattle.plus_validator.specs.Handing.{HandsOn, StaysSo, Left, left, IsPartOut}
+use Rattle.plus_validator.specs.Handing.{Left, left, IsPartOut}
 use Rattle.plus_validator.specs.Plans.{Pair, pair, plan_of, plan_in, Reading, reading_of, HasValue}
 use Rattle.plus_validator.specs.Playing.{Begins, ReadiedFor}
 use Rattle.plus_validator.specs.Refused.{IsWaiting, IsPlayedOn, IsCut, WholeLines, Cause}
 use Rattle.plus_validator.specs.Stopped.{IsCutShortInText, IsStoppedInText}
 use Rattle.plus_validator.specs.Validates.{IsRead}
-use Rattle.plus_validator.specs.Feeding.{Course, course, IsFed, HaltsWith, PlaysText, IsPlayedOut}
-use Rattle.plus_validator.specs.Streaming.{HasCome, IsOut}
-use Rattle.plus_validator.specs.Leaving.{IsToldSoFar, TellsSoFar, TellsOnWay, TookSoFar, LeavesReport, BreaksOffSoFar, StopsReading, reading, KeepsUp, unread, ahead}
+use Rattle.plus_validator.specs.Feeding.{HasPlayed, HaltsWith, PlaysText, IsPlayedOut}
+use Rattle.plus_validator.specs.Leaving.{IsToldSoFar, TellsSoFar, TellsOnWay, TookSoFar, LeavesReport, BreaksOffSoFar, KeepsUp, unread, ahead}
 use Rattle.plus_validator.proofs.Cutting.{cut_here, no_lf_from}
 use Rattle.plus_validator.proofs.Handing.{took_both, kept_behind}
 use Rattle.plus_validator.proofs.Played.{all_more}
 use Rattle.plus_validator.proofs.TextStops.{waiting_report, waiting_for, lines_then, end_cut}
 
--- ---- what is out
-
--- what is kept is handed on
-flushed : (sent gone : List ℕ) (feed now : Feed) → now.reader ≡ feed.reader → progress (sent ++ gone) now.run ≡ progress sent feed.run → course (sent ++ gone) now ≡ course sent feed
-flushed sent gone feed now r e = λ i. record { run = e i; reader = r i }
-
--- what a piece tells is out, too
-pub out_more : (d : Pair) (N : Labels) (P : Problem) (bytes rest : Option (List ℕ)) (total : ℕ) (first : Progress) (feed now : Feed) (old mid new : Option (List ℕ)) (sent : List ℕ) → now.reader ≡ feed.reader → now.run.report.bytes.items ≡ [] → HandsOn progress progress StaysSo feed.run now.run mid new → Took old mid sent → HasCome d N P bytes rest total first (course sent feed) → IsOut d N P bytes rest total first now old new
-out_more d N P bytes rest total first feed now old mid new sent same none k s come = record {
-  sent = sent ++ k.gone;
-  took = took_both old mid new sent k.gone s k.took;
-  none_kept = none;
-  come = subst (HasCome d N P bytes rest total first) (sym (flushed sent k.gone feed now same (k.goes sent))) come;
-}
-
--- all that is told is out
-pub all_out : (sent : List ℕ) (feed : Feed) (old new : Option (List ℕ)) → feed.run.report.bytes.items ≡ [] → Took old new sent → Took old new (course sent feed).run.account.report
-all_out sent feed old new e t = subst (Took old new) (sym (ap (λ z. sent ++ z) e ∙ append-nil sent)) t
-
 -- ---- the report of the lines read so far
 
-told_in : (d : Pair) (N : Labels) (P : Problem) (most : ℕ) (text : List ℕ) (first : Progress) (feed : Course) → IsGroundable IsFrac64 d.domain d.problem → Begins N P most first → IsIdle feed.reader → feed.reader.closed ≡ false → IsFed d N P text first feed → IsToldSoFar d N P most text feed.run.account.report
-told_in d N P most text first feed z b i o h =
+told_in : (d : Pair) (N : Labels) (P : Problem) (most : ℕ) (text : List ℕ) (first now : Progress) (lines : List Line) (reader : Pending) → IsGroundable IsFrac64 d.domain d.problem → Begins N P most first → IsIdle reader → reader.closed ≡ false → HasGiven Timed text lines reader → HasPlayed d N P lines first now → IsToldSoFar d N P most text now.account.report
+told_in d N P most text first now lines reader z b i o given played =
     let start = b.ready (plan_of d [] false) (instances_of d []) refl refl in
-    let now = h.played.ready start.0 start.1 in
-    let same : feed.run.timeline.line.most ≡ most = h.played.rests.most_is ∙ b.rests.most_is in
-    let reported = waiting_report d N P h.lines most now.0 feed.run h.played.rests.can same now.1 in
+    let there = played.ready start.0 start.1 in
+    let same : now.timeline.line.most ≡ most = played.rests.most_is ∙ b.rests.most_is in
+    let reported = waiting_report d N P lines most there.0 now played.rests.can same there.1 in
     record {
       groundable = z;
-      whole = h.given.given;
-      piece = feed.reader.rest;
-      cut = subst (λ (t : List ℕ). IsCut t h.given.given feed.reader.rest) (sym h.given.is) (cut_here h.given.given feed.reader.rest (h.given.at_line o) (no_lf_from feed.reader.rest i.no_lf));
-      lines = h.lines;
-      read = h.given.said;
-      times = h.played.times;
-      history = now.0;
+      whole = given.given;
+      piece = reader.rest;
+      cut = subst (λ (t : List ℕ). IsCut t given.given reader.rest) (sym given.is) (cut_here given.given reader.rest (given.at_line o) (no_lf_from reader.rest i.no_lf));
+      lines = lines;
+      read = given.said;
+      times = played.times;
+      history = there.0;
       prefix = reported.prefix;
       few = reported.few;
       clear = reported.clear;
-      waits = waiting_for d N P h.lines most now.0 feed.run same now.1;
+      waits = waiting_for d N P lines most there.0 now same there.1;
       written = ap (λ (a : Account). a.report) reported.written;
     }
 
-module _ (d : Domain) (p : tree.Problem) (N : Labels) (P : Problem) (most : ℕ) (first : Progress) (z : IsGroundable IsFrac64 d p) (e : P ≡ expanded d p) (n : N ≡ labels_meant d p) (b : Begins N P most first) where
-  pub told_so_far : (text : List ℕ) (feed : Course) → IsIdle feed.reader → feed.reader.closed ≡ false → IsFed (pair d p) N P text first feed → TellsSoFar d p most text feed.run.account.report
-  told_so_far text feed i o h =
-      subst (λ M. IsToldSoFar (pair d p) M (expanded d p) most text feed.run.account.report) n
-      (subst (λ Q. IsToldSoFar (pair d p) N Q most text feed.run.account.report) e
-      (told_in (pair d p) N P most text first feed z b i o h))
-
-  module _ (bytes rest : Option (List ℕ)) (total : ℕ) (feed : Course) (i : IsIdle feed.reader) (o : feed.reader.closed ≡ false) (come : HasCome (pair d p) N P bytes rest total first feed) where
-    pub told_come : TellsSoFar d p most come.text feed.run.account.report
-    told_come = told_so_far come.text feed i o come.fed
-
--- ---- before a piece is read, all that the lines tell is out
-
-module _ (d : Domain) (p : tree.Problem) (N : Labels) (P : Problem) (most : ℕ) (first : Progress) (z : IsGroundable IsFrac64 d p) (e : P ≡ expanded d p) (n : N ≡ labels_meant d p) (b : Begins N P most first)
-    (bytes rest : Option (List ℕ)) (total : ℕ) (feed : Feed) (old now : Option (List ℕ)) (i : IsIdle feed.reader) (o : feed.reader.closed ≡ false) (out : IsOut (pair d p) N P bytes rest total first feed old now) where
-  report_out : Took old now (course out.sent feed).run.account.report
-  report_out = all_out out.sent feed old now out.none_kept out.took
-
-  pub out_reading : (picked left : Option (List ℕ)) → left ≡ rest → StopsReading d p most bytes picked left old now
-  out_reading picked left same =
-      reading out.come.text (course out.sent feed).run.account.report (subst (λ (r : Option (List ℕ)). Takes bytes r out.come.text) (sym same) out.come.front)
-      (told_come d p N P most first z e n b bytes rest total (course out.sent feed) i o out.come) report_out
-
-  -- and so a piece that is read then is the one that it is ahead
-  pub keeps_up : (left new : Option (List ℕ)) (piece more : List ℕ) → Takes rest left piece → length piece ≤ piece_size → Took now new more → KeepsUp d p most bytes left old new
-  keeps_up left new piece more t l k =
-      ahead out.come.text piece (course out.sent feed).run.account.report more (Takes-append bytes rest left out.come.text piece out.come.front t) l
-      (told_come d p N P most first z e n b bytes rest total (course out.sent feed) i o out.come)
-      (took_both old now new (course out.sent feed).run.account.report more report_out k)
+pub told_so_far : (d : Domain) (p : tree.Problem) (N : Labels) (P : Problem) (most : ℕ) (text : List ℕ) (first now : Progress) (lines : List Line) (reader : Pending) → IsGroundable IsFrac64 d p → P ≡ expanded d p → N ≡ labels_meant d p → Begins N P most first → IsIdle reader → reader.closed ≡ false → HasGiven Timed text lines reader → HasPlayed (pair d p) N P lines first now → TellsSoFar d p most text now.account.report
+told_so_far d p N P most text first now lines reader z e n b i o given played =
+    subst (λ M. IsToldSoFar (pair d p) M (expanded d p) most text now.account.report) n
+    (subst (λ Q. IsToldSoFar (pair d p) N Q most text now.account.report) e
+    (told_in (pair d p) N P most text first now lines reader z b i o given played))
 
 -- what is written later changes nothing of that
 pub keeps_more : (d : Domain) (p : tree.Problem) (most : ℕ) (bytes rest old mid new : Option (List ℕ)) (later : List ℕ) → KeepsUp d p most bytes rest old mid → Took mid new later → KeepsUp d p most bytes rest old new

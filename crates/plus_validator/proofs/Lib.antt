@@ -19,10 +19,10 @@ pub mod Waiting
 pub mod LineStops
 pub mod TextStops
 pub mod Cutting
-pub mod FeedLemmas
-pub mod StreamLemmas
-pub mod KeepingUp
+pub mod PlayedText
 pub mod Leaving
+pub mod KeepingUp
+pub mod PlayingLemmas
 pub mod Endings
 pub mod Longer
 pub mod Telling

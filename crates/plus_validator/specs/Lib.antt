@@ -20,5 +20,6 @@ pub mod Stopped
 pub mod Judged
 pub mod KeepingUp
 pub mod Feeding
+pub mod PlayRules
 pub mod Streaming
 pub mod Laws

@@ -1,12 +1,12 @@
 -- A plan that is read from a shelf, and played as it comes, while its report goes to a sink.
-use Rattle.std.specs.Prelude.{◌≡◌, ℕ, List, [], length, take, Option, IfSome, Result, Ok, Err}
-use Rattle.plus_io.specs.Files.{Takes}
+use Rattle.std.specs.Prelude.{ℕ, List, Option, IfSome, Result, Ok, Err}
 use Rattle.plus_io.specs.Taken.{Took}
 use Rattle.plus_model.specs.Terms.{Problem}
 use Rattle.plus_state.specs.View.{Labels}
 use Rattle.plus_tree.specs.declared.trees.Domain.{Domain}
 use Rattle.plus_tree.specs.declared.trees.Problem as tree
-use Rattle.plus_validator.specs.declared.feed.Feed.{Feed}
+use Rattle.plus_play.specs.declared.file.Pause.{Pause}
+use Rattle.plus_play.specs.declared.file.Pause.TheVariants as pauses
 use Rattle.plus_validator.specs.declared.halt.Halt.{Halt}
 use Rattle.plus_validator.specs.declared.halt.Halt.TheVariants as halts
 use Rattle.plus_validator.specs.declared.run.Run.{Run}
@@ -14,21 +14,7 @@ use Rattle.plus_validator.specs.declared.stream.Ending.{Ending}
 use Rattle.plus_validator.specs.declared.stream.Ending.TheVariants.{Played, ReadFault, WriteFault}
 use Rattle.plus_validator.specs.Account.{Progress}
 use Rattle.plus_validator.specs.Plans.{Pair, pair}
-use Rattle.plus_validator.specs.Feeding.{Course, course, IsFed, IsPlayedOut}
-
--- of these bytes so many have come, and are played
-pub record HasCome (d : Pair) (N : Labels) (P : Problem) (bytes rest : Option (List ℕ)) (total : ℕ) (first : Progress) (feed : Course) : Type 0 where
-  pub text : List ℕ
-  pub front : Takes bytes rest text
-  pub size : length text ≡ total
-  pub fed : IsFed d N P text first feed
-
--- and all of the report is out
-pub record IsOut (d : Pair) (N : Labels) (P : Problem) (bytes rest : Option (List ℕ)) (total : ℕ) (first : Progress) (feed : Feed) (old now : Option (List ℕ)) : Type 0 where
-  pub sent : List ℕ
-  pub took : Took old now sent
-  pub none_kept : feed.run.report.bytes.items ≡ []
-  pub come : HasCome d N P bytes rest total first (course sent feed)
+use Rattle.plus_validator.specs.Feeding.{IsPlayedOut}
 
 -- The plan text is played, or the run halts in it. What the sink took is the beginning of the report, and the run keeps the rest.
 pub record IsPlayedFrom (d : Domain) (p : tree.Problem) (N : Labels) (P : Problem) (bytes : Option (List ℕ)) (first : Progress) (new : Run) (old now : Option (List ℕ)) (played : Result (Unit {0}) Halt) : Type 0 where
@@ -38,11 +24,6 @@ pub record IsPlayedFrom (d : Domain) (p : tree.Problem) (N : Labels) (P : Proble
 
 -- ---- a text that stands in memory
 
--- So many first bytes of these are played, and what they told before is let go.
-pub record HasGone (d : Pair) (N : Labels) (P : Problem) (bytes : List ℕ) (total : ℕ) (first : Progress) (feed : Feed) : Type 0 where
-  pub gone : List ℕ
-  pub fed : IsFed d N P (take total bytes) first (course gone feed)
-
 -- The plan text that stands in these bytes is played, or the run halts in it. The run keeps the end of the report.
 pub record IsPlayedThrough (d : Pair) (N : Labels) (P : Problem) (bytes : List ℕ) (first : Progress) (new : Run) (played : Result (Unit {0}) Halt) : Type 0 where
   pub gone : List ℕ
@@ -50,12 +31,13 @@ pub record IsPlayedThrough (d : Pair) (N : Labels) (P : Problem) (bytes : List �
 
 -- ---- by how the playing ends
 
--- the text is played so
-abbrev pub ended : Result (Unit {0}) Halt → Ending
+-- the text is played so, or the shelf failed
+abbrev pub ended : Result (Unit {0}) (Pause Halt) → Ending
 ended (Ok u) = Played (Ok u)
-ended (Err (halts.Refused v)) = Played (Err (halts.Refused v))
-ended (Err halts.Memory) = Played (Err halts.Memory)
-ended (Err halts.WriteFault) = WriteFault
+ended (Err (pauses.Halt (halts.Refused v))) = Played (Err (halts.Refused v))
+ended (Err (pauses.Halt halts.Memory)) = Played (Err halts.Memory)
+ended (Err (pauses.Halt halts.WriteFault)) = WriteFault
+ended (Err pauses.Failed) = ReadFault
 
 abbrev pub OnPlayed : Ending → (Result (Unit {0}) Halt → Type 0) → Type 0
 OnPlayed (Played played) Q = Q played

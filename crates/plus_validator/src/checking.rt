@@ -16,17 +16,19 @@ ghost use Rattle.plus_tree.specs.declared.trees.Problem.{Problem};
 ghost use Rattle.plus_number.specs.Frac.{fraction_of, IsFrac64};
 ghost use Rattle.plus_io.specs.Faults.{Rose};
 
-use crate::feed::Feed;
 use crate::halt::Halt;
 use crate::judge::Outcome;
 use crate::judgement::sum_up;
+use crate::playing::Playing;
 use crate::run::Run;
-use crate::stream::{Ending, play_file};
+use crate::stream::{Ending, play_plan};
 use crate::ungrounded::early_of;
 use plus_ground::ground;
+use plus_instances::Instances;
 use plus_io::{Freeing, Shelf, Sink, write_all};
 use plus_number::frac::Frac64;
 use plus_numbering::{GroundFault, Numbering};
+use plus_plan::{PlanForm, PlanReader};
 use plus_report::write_early;
 use plus_state::problem::Ground;
 use plus_types::Typed;
@@ -109,22 +111,39 @@ fn validate_ground<S: Shelf, O: Sink>(
     ensures keeps { KeepsFiles S.names S.bytes S.faults shelf.old shelf.new }
     ensures no_fall { O.faults out.old ≤ O.faults out.new }
 {
-    let Ok(mut feed) = Feed::begin(alloc, &*numbering, ground, happenings) else {
+    let Ok(mut reader) = PlanReader::new(alloc, PlanForm::Timed) else {
         return Outcome::NoMemory;
     };
+    let Ok(run) = Run::begin(alloc, ground, happenings) else {
+        return Outcome::NoMemory;
+    };
+    let instances = Instances::new(alloc, &*numbering);
+    let mut playing = Playing {
+        run,
+        instances,
+        ground,
+    };
     // What is played is let go by a call: what drops it is long, and would stand here at each way out.
-    match play_file(&mut feed, alloc, ground, shelf, plan, out, happenings) {
+    match play_plan(
+        &mut playing,
+        &mut reader,
+        alloc,
+        shelf,
+        plan,
+        out,
+        happenings,
+    ) {
         Ending::ReadFault => {
-            freeing.let_go(feed);
+            freeing.let_go(playing);
             Outcome::ReadFault
         }
         Ending::WriteFault => {
-            freeing.let_go(feed);
+            freeing.let_go(playing);
             Outcome::WriteFault
         }
         Ending::Played(played) => {
-            let outcome = conclude(alloc, ground, &mut feed.run, played, out);
-            freeing.let_go(feed);
+            let outcome = conclude(alloc, ground, &mut playing.run, played, out);
+            freeing.let_go(playing);
             outcome
         }
     }

@@ -10,16 +10,19 @@ ghost use Rattle.plus_validator.specs.Outcomes.{outcome_of, status_of};
 ghost use Rattle.plus_validator.specs.Playing.{IsGroundOf};
 ghost use Rattle.plus_validator.specs.Verdicts.{RefusesPairWith, JudgesText};
 
-use crate::feed::Feed;
 use crate::halt::Halt;
 use crate::judgement::{Judgement, sum_up};
 use crate::memory::Report;
-use crate::stream::play_bytes;
+use crate::playing::Playing;
+use crate::run::Run;
+use crate::stream::play_text;
 use crate::ungrounded::early_of;
 use plus_ground::ground;
+use plus_instances::Instances;
 use plus_io::Freeing;
 use plus_number::frac::Frac64;
 use plus_numbering::{GroundFault, Numbering};
+use plus_plan::{PlanForm, PlanReader};
 use plus_report::{Early, Status, Verdict, write_early};
 use plus_state::problem::Ground;
 use plus_types::Typed;
@@ -130,11 +133,18 @@ fn judge_ground(
     requires some { 1 ≤ happenings }
     ensures judged { IfOk result (λ j. JudgesText numbering.now.typed.now.domain numbering.now.typed.now.problem happenings bytes.now j.judged) }
 {
-    let mut feed = Feed::begin(alloc, &*numbering, ground, happenings)?;
-    let played = play_bytes(&mut feed, alloc, ground, bytes, happenings);
-    let judgement = sum_up(alloc, ground, &mut feed.run, played);
+    let mut reader = PlanReader::new(alloc, PlanForm::Timed)?;
+    let run = Run::begin(alloc, ground, happenings)?;
+    let instances = Instances::new(alloc, &*numbering);
+    let mut playing = Playing {
+        run,
+        instances,
+        ground,
+    };
+    let played = play_text(&mut playing, &mut reader, alloc, bytes, happenings);
+    let judgement = sum_up(alloc, ground, &mut playing.run, played);
     // By a call: what drops a plan that is played is long, and its proof stands once.
-    freeing.let_go(feed);
+    freeing.let_go(playing);
     judgement
 }
 

@@ -2,13 +2,13 @@
 #![tactic(auto)]
 
 mod checking;
-mod feed;
 mod halt;
 pub mod judge;
 mod judgement;
 pub mod laws;
 mod memory;
 mod play;
+mod playing;
 mod run;
 mod stream;
 mod ungrounded;

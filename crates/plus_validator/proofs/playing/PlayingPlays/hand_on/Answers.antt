@@ -1,0 +1,23 @@
+use Rattle.std.proofs.Common.{◌≡◌, [], refl, ap}
+use Rattle.plus_validator.specs.declared.playing.Playing.{Playing}
+use Rattle.plus_validator.specs.Account.{Progress}
+use Rattle.plus_validator.proofs.PlayingLemmas.{can_flush, flush_hands, flush_halts}
+use Rattle.plus_validator.proofs.playing.PlayingPlays.hand_on.Goals as goal
+
+pub returns-in-Ok-clause-can : goal.returns-in-Ok-clause-can
+returns-in-Ok-clause-can g c =
+    let old = c.args.self.now in
+    let new : Playing = record { run = c.flush.new.self; instances = old.instances; ground = old.ground } in
+    can_flush old new refl refl (ap (λ (r : Progress). r.timeline) (c.in-Ok.ensures.goes.goes [])) c.requires.can
+
+pub returns-in-Ok-clause-hands : goal.returns-in-Ok-clause-hands
+returns-in-Ok-clause-hands g c =
+    let old = c.args.self.now in
+    let new : Playing = record { run = c.flush.new.self; instances = old.instances; ground = old.ground } in
+    flush_hands g.O.Sink.taken g.O.Sink.faults old c.args.out.now new c.flush.new.out refl refl c.flush.ensures.no_fall c.in-Ok.ensures.goes
+
+pub returns-in-Err-clause-stops : goal.returns-in-Err-clause-stops
+returns-in-Err-clause-stops g c =
+    let old = c.args.self.now in
+    let new : Playing = record { run = c.flush.new.self; instances = old.instances; ground = old.ground } in
+    flush_halts g.O.Sink.taken g.O.Sink.faults old c.args.out.now new c.flush.new.out refl refl c.flush.ensures.no_fall c.in-Err.ensures.cause c.in-Err.ensures.breaks
