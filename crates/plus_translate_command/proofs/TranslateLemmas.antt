@@ -1,6 +1,6 @@
 -- What `translate` replies, put together from what its calls answer.
 use Rattle.std.proofs.Common.{◌≡◌, ℕ, List, Option, subst, sym, ap, ◌∙◌, refl, IsTrue}
-use Rattle.std.specs.Prelude.{IfSome, IfOk, IfErr, Result, Ok, Err}
+use Rattle.std.specs.Prelude.{IfSome, IfOk, IfErr, MatchResult, Result, Ok, Err}
 use Rattle.plus_fraction.specs.Fraction.{Fraction}
 use Rattle.plus_tree.specs.declared.trees.Domain.{Domain}
 use Rattle.plus_tree.specs.declared.trees.Problem.{Problem}
@@ -22,6 +22,9 @@ use Rattle.plus_reply.specs.Reply.{IsPlain, HasCause}
 use Rattle.plus_reply.specs.Reply as replies
 use Rattle.plus_translate_command.specs.HalfReply.{TellsRefusal}
 use Rattle.plus_io.specs.Faults.{Rose}
+use Rattle.plus_io.specs.MemSink.{sink_state}
+use Rattle.plus_io.specs.declared.mem_sink.MemSink.{MemSink}
+use Rattle.plus_translate_command.specs.Printer.Printed.{IsTextOfHalf}
 use Rattle.plus_report.specs.Refusals.{early_text}
 use Rattle.plus_reply.specs.Pair.Pair.{PairRefused}
 use Rattle.plus_reply.proofs.PairLemmas.SpelledLemmas.{told}
@@ -38,6 +41,13 @@ never_read Memory i = cc i
 
 pub translated_or_read : (q : Fraction) (d : Domain) (p : Problem) → IsUntranslated q d p refusals.ReadFault → ⊥
 translated_or_read q d p h = never_read h.fault h.refusal_is
+
+-- a half that is kept in memory
+pub kept_text : (file : File) (q : Fraction) (d : Domain) (p : Problem) (text : List ℕ) (r : Result MemSink Refusal) → IsTextOfHalf file q d p text
+    → MatchResult r (λ kept. (sink_state kept).bytes ≡ text) (λ refusal. refusal ≡ refusals.NoMemory)
+    → MatchResult r (λ kept. IsTextOfHalf file q d p (sink_state kept).bytes) (IsUntranslated q d p)
+kept_text file q d p text (Ok kept) h e = subst (IsTextOfHalf file q d p) (sym e) h
+kept_text file q d p text (Err refusal) h e = record { fault = Memory; cause = tt; refusal_is = e }
 
 -- ---- a refusal as a reply
 

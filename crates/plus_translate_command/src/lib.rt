@@ -5,4 +5,4 @@ pub mod laws;
 pub mod printer;
 pub mod translate;
 
-pub use translate::{answer, give, translated};
+pub use translate::{answer, give, translated_text};

@@ -5,18 +5,18 @@ ghost use Rattle.plus_io.specs.Files.{KeepsFiles};
 ghost use Rattle.plus_io.specs.Picks.{ReadsInOrder};
 ghost use Rattle.plus_number.specs.Frac.{fraction_of};
 ghost use Rattle.plus_io.specs.Limits.{text_limit};
+ghost use Rattle.plus_io.specs.MemSink.{sink_state};
 ghost use Rattle.plus_reply.specs.Reply.{IsPlain, HasCause};
-ghost use Rattle.plus_translate.specs.Translates.{IsTranslation};
+ghost use Rattle.plus_translate_command.specs.Printer.Printed.{IsTextOfHalf};
 ghost use Rattle.plus_translate_command.specs.HalfReply.{TellsRefusal, Gives};
 ghost use Rattle.plus_translate_command.specs.Translate.{trans_refusal, IsUntranslated, TranslatesPair, Translates};
 
 use crate::printer::{HalfText, translated_half};
-use plus_io::{Freeing, Shelf, Sink};
+use plus_io::{Freeing, MemSink, Shelf, Sink};
 use plus_reply::pair::pair::{Refusal, bad_text, pair, release, text_for};
 use plus_reply::reply::{Fault, refused};
 use plus_report::{Early, Status, Text, Word};
-use plus_translate::{TransFault, translate};
-use plus_tree::{Domain, Problem};
+use plus_translate::TransFault;
 use plus_types::{File, Typed};
 use plus_words::interval::Interval;
 use std::alloc::Global;
@@ -33,19 +33,33 @@ fn refuse_translation(fault: TransFault) -> Refusal
     }
 }
 
-/// The translation of a well-typed pair in steps of this length.
-#[tactic(none)]
-pub fn translated(
-    alloc: Global,
-    typed: &Typed,
-    interval: Interval,
-) -> Result<(Domain, Problem), Refusal>
+// A text, in memory.
+fn in_memory(alloc: Global, half: &HalfText) -> Result<MemSink, Refusal>
     ensures { MatchResult result
-        (λ t. IsTranslation (fraction_of interval.value) typed.now.domain typed.now.problem t.0 t.1)
+        (λ text. (sink_state text).bytes ≡ half.now)
+        (λ refusal. refusal ≡ Refusal.NoMemory) }
+{
+    let mut text = MemSink::new(alloc, usize::MAX);
+    match half.write(&mut text) {
+        Ok(()) => Ok(text),
+        Err(_) => Err(Refusal::NoMemory),
+    }
+}
+
+/// The canonical text of one half of the translation of a well-typed pair in steps of this length, in memory.
+#[tactic(none)]
+pub fn translated_text(
+    alloc: Global,
+    file: File,
+    interval: Interval,
+    typed: &Typed,
+) -> Result<MemSink, Refusal>
+    ensures { MatchResult result
+        (λ text. IsTextOfHalf file (fraction_of interval.value) typed.now.domain typed.now.problem (sink_state text).bytes)
         (IsUntranslated (fraction_of interval.value) typed.now.domain typed.now.problem) }
 {
-    match translate(alloc, typed, interval.value) {
-        Ok(trees) => Ok(trees),
+    match translated_half(alloc, file, typed, interval.value) {
+        Ok(half) => in_memory(alloc, &half),
         Err(fault) => Err(refuse_translation(fault)),
     }
 }

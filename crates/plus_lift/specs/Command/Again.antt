@@ -1,5 +1,5 @@
 -- The translation of a pair, printed and read again.
-use Rattle.std.specs.Prelude.{◌≡◌}
+use Rattle.std.specs.Prelude.{◌≡◌, ℕ, List, Result, Ok, Err}
 use Rattle.plus_fraction.specs.Fraction.{Fraction}
 use Rattle.plus_tree.specs.declared.trees.Domain.{Domain}
 use Rattle.plus_tree.specs.declared.trees.Problem.{Problem}
@@ -7,6 +7,7 @@ use Rattle.plus_report.specs.declared.refusals.Early.{Early}
 use Rattle.plus_report.specs.declared.refusals.Early.TheVariants.{BadText, BadLine, TooLong, Depth, DepthOut, LineTooLong, Literal, TooMany}
 use Rattle.plus_report.specs.declared.refusals.Text.{Text}
 use Rattle.plus_report.specs.declared.refusals.Text.TheVariants as texts
+use Rattle.plus_types.specs.declared.typed.Typed.{Typed}
 use Rattle.plus_printer.specs.Canon.{domain_text, problem_text}
 use Rattle.plus_translate.specs.Translates.{IsTranslation}
 use Rattle.plus_reply.specs.declared.pair.pair.Refusal.{Refusal}
@@ -49,11 +50,12 @@ pub data NotAgain (q : Fraction) (d : Domain) (p : Problem) (e : Early) : Type 0
   unread : (d' : Domain) (p' : Problem) (f : Early) → IsTranslation q d p d' p' → PairRefused (domain_text d') (problem_text p') f
       → e ≡ line_printed f → NotAgain q d p e
 
--- the canonical texts of two trees spell no pair, and this line says why; want of memory is free
-abbrev pub NotPrinted : Domain → Problem → Refusal → Type 0
-NotPrinted d p (refusals.Early e) = (f : Early) × PairRefused (domain_text d) (problem_text p) f × (e ≡ line_printed f)
-NotPrinted d p refusals.ReadFault = ⊥
-NotPrinted d p refusals.NoMemory = Unit {0}
+-- two printed texts spell this well-typed pair; or none, and this line says why; want of memory is free
+abbrev pub ReadAgain : List ℕ → List ℕ → Result Typed Refusal → Type 0
+ReadAgain domain problem (Ok typed) = SpellsWellTyped domain problem typed.domain typed.problem
+ReadAgain domain problem (Err (refusals.Early e)) = (f : Early) × PairRefused domain problem f × (e ≡ line_printed f)
+ReadAgain domain problem (Err refusals.ReadFault) = ⊥
+ReadAgain domain problem (Err refusals.NoMemory) = Unit {0}
 
 -- the same of the texts of a translation, or there is none
 abbrev pub NotReadAgain : Fraction → Domain → Problem → Refusal → Type 0

@@ -2,17 +2,13 @@
 
 ghost use Rattle.std.specs.Prelude.{◌≡◌, MatchResult};
 ghost use Rattle.plus_number.specs.Frac.{fraction_of};
-ghost use Rattle.plus_printer.specs.Canon.{domain_text, problem_text};
-ghost use Rattle.plus_reply.specs.Pair.Pair.{SpellsWellTyped};
-ghost use Rattle.plus_lift.specs.Command.Again.{text_printed, line_printed, refusal_printed, NotPrinted, SpellsAgain, NotReadAgain};
+ghost use Rattle.plus_lift.specs.Command.Again.{text_printed, line_printed, refusal_printed, ReadAgain, SpellsAgain, NotReadAgain};
 
-use plus_reply::canonical::{domain_text, problem_text};
-use plus_reply::pair::pair::{Refusal, release_trees};
+use plus_reply::pair::pair::Refusal;
 use plus_reply::pair::texts::pair_of;
 use plus_report::{Early, Text};
-use plus_translate_command::translated;
-use plus_tree::{Domain, Problem};
-use plus_types::Typed;
+use plus_translate_command::translated_text;
+use plus_types::{File, Typed};
 use plus_words::interval::Interval;
 use std::alloc::Global;
 
@@ -70,20 +66,12 @@ fn refusal_printed(refusal: Refusal) -> Refusal
     }
 }
 
-// The well-typed pair that the canonical texts of two trees spell.
+// The well-typed pair that two printed texts spell.
 #[tactic(none)]
-fn printed(alloc: Global, domain: &Domain, problem: &Problem) -> Result<Typed, Refusal>
-    ensures { MatchResult result
-        (λ t. SpellsWellTyped (domain_text domain.now) (problem_text problem.now) t.domain t.problem)
-        (NotPrinted domain.now problem.now) }
+fn read(alloc: Global, domain: &[u8], problem: &[u8]) -> Result<Typed, Refusal>
+    ensures { ReadAgain domain.now problem.now result }
 {
-    let Ok(domain_bytes) = domain_text(alloc, domain) else {
-        return Err(Refusal::NoMemory);
-    };
-    let Ok(problem_bytes) = problem_text(alloc, problem) else {
-        return Err(Refusal::NoMemory);
-    };
-    match pair_of(alloc, &domain_bytes, &problem_bytes) {
+    match pair_of(alloc, domain, problem) {
         Ok(typed) => Ok(typed),
         Err(refusal) => Err(refusal_printed(refusal)),
     }
@@ -96,12 +84,11 @@ pub fn again(alloc: Global, interval: Interval, typed: &Typed) -> Result<Typed, 
         (λ t. SpellsAgain (fraction_of interval.value) typed.now.domain typed.now.problem t.domain t.problem)
         (NotReadAgain (fraction_of interval.value) typed.now.domain typed.now.problem) }
 {
-    match translated(alloc, typed, interval) {
-        Ok((domain, problem)) => {
-            let read = printed(alloc, &domain, &problem);
-            release_trees(domain, problem);
-            read
-        }
+    match translated_text(alloc, File::Domain, interval, typed) {
+        Ok(domain) => match translated_text(alloc, File::Problem, interval, typed) {
+            Ok(problem) => read(alloc, domain.bytes(), problem.bytes()),
+            Err(refusal) => Err(refusal),
+        },
         Err(refusal) => Err(refusal),
     }
 }

@@ -199,6 +199,3 @@ pub fn release_domain(_domain: Domain) {}
 
 /// Lets the tree of a problem go, in the same way.
 pub fn release_problem(_problem: Problem) {}
-
-/// Lets two trees go, in the same way.
-pub fn release_trees(_domain: Domain, _problem: Problem) {}
