@@ -5,3 +5,4 @@ pub mod Nested
 pub mod Flows
 pub mod EventsTyped
 pub mod TypedLaws
+pub mod Apart

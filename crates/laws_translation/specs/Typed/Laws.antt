@@ -41,3 +41,9 @@ abbrev pub TranslationIsTyped : Type 0
 TranslationIsTyped =
     (d : Domain) (p : Problem) (q : Fraction)
     → CanBeTranslated d p q → All NoRateShadows d.processes → IsTrue (is_well_typed (translated_domain q d p) (translated_problem q d p))
+
+-- so it is only there: a process with such a list has no well-typed translation
+abbrev pub TypedIsApart : Type 0
+TypedIsApart =
+    (d : Domain) (p : Problem) (q : Fraction)
+    → IsTrue (is_well_typed (translated_domain q d p) (translated_problem q d p)) → All NoRateShadows d.processes
