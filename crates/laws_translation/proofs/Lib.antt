@@ -4,3 +4,4 @@ pub mod TypedLemmas
 pub mod PrintedLaws
 pub mod ReadLaws
 pub mod SameLemmas
+pub mod RunLemmas

@@ -4,3 +4,4 @@ pub mod Typed
 pub mod Plans
 pub mod Read
 pub mod Same
+pub mod Runs

@@ -5,6 +5,7 @@
 pub mod depth;
 pub mod plans;
 pub mod read;
+pub mod runs;
 pub mod same;
 pub mod text;
 pub mod typed;
