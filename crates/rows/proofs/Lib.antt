@@ -6,3 +6,4 @@ pub mod CountRows
 pub mod WalkRows
 pub mod TextsLemmas
 pub mod ReportsLemmas
+pub mod AcceptedLemmas

@@ -5,3 +5,4 @@ pub mod Expansion
 pub mod Walk
 pub mod Texts
 pub mod Reports
+pub mod Accepted

@@ -1,6 +1,7 @@
 //! Worked rows, each a proved fact: they show that the definitions say what they are meant to say.
 #![tactic(auto)]
 
+pub mod accepted;
 pub mod expansion;
 pub mod model;
 pub mod reports;

@@ -1,0 +1,3 @@
+pub mod FiresRows
+pub mod PairRow
+pub mod WorkedRows
