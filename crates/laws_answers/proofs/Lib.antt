@@ -1,0 +1,3 @@
+pub mod PairOrRefused
+pub mod Tested
+pub mod ExistingLemmas
