@@ -1,3 +1,6 @@
+pub mod Cuts
+pub mod Told
+pub mod BeginningLemmas
 pub mod PairOrRefused
 pub mod Tested
 pub mod ExistingLemmas

@@ -1,4 +1,5 @@
 //! Laws over whole answers of the program: there is one, what was cut short begins it, where no cause of a refusal stands it is valid, and what `plan` writes is accepted by `check`.
 #![tactic(auto)]
 
+pub mod beginnings;
 pub mod existing;
