@@ -2,4 +2,5 @@
 #![tactic(auto)]
 
 pub mod beginnings;
+pub mod complete;
 pub mod existing;
