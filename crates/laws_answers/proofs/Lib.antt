@@ -2,6 +2,8 @@ pub mod Cuts
 pub mod Told
 pub mod BeginningLemmas
 pub mod CompleteLemmas
+pub mod Room
+pub mod ChainLemmas
 pub mod PairOrRefused
 pub mod Tested
 pub mod ExistingLemmas

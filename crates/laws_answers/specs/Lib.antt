@@ -1,3 +1,4 @@
 pub mod Beginnings
 pub mod Complete
+pub mod Chained
 pub mod Existing

@@ -2,5 +2,6 @@
 #![tactic(auto)]
 
 pub mod beginnings;
+pub mod chained;
 pub mod complete;
 pub mod existing;
