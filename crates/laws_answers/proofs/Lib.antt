@@ -7,3 +7,4 @@ pub mod ChainLemmas
 pub mod PairOrRefused
 pub mod Tested
 pub mod ExistingLemmas
+pub mod LiftedLemmas

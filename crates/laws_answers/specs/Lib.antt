@@ -2,3 +2,4 @@ pub mod Beginnings
 pub mod Complete
 pub mod Chained
 pub mod Existing
+pub mod Lifted

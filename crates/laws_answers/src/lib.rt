@@ -5,3 +5,4 @@ pub mod beginnings;
 pub mod chained;
 pub mod complete;
 pub mod existing;
+pub mod lifted;

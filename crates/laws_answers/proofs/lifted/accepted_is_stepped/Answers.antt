@@ -1,0 +1,5 @@
+use Rattle.laws_answers.proofs.LiftedLemmas as laws
+use Rattle.laws_answers.proofs.lifted.accepted_is_stepped.Goals as goal
+
+pub returns : goal.returns
+returns c = laws.accepted_is_stepped
