@@ -8,3 +8,4 @@ pub mod PairOrRefused
 pub mod Tested
 pub mod ExistingLemmas
 pub mod LiftedLemmas
+pub mod NamedLemmas

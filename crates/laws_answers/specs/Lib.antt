@@ -3,3 +3,4 @@ pub mod Complete
 pub mod Chained
 pub mod Existing
 pub mod Lifted
+pub mod Named

@@ -6,3 +6,4 @@ pub mod chained;
 pub mod complete;
 pub mod existing;
 pub mod lifted;
+pub mod named;
