@@ -3,7 +3,9 @@
 
 mod explain;
 mod files;
+mod lifted;
 mod screen;
+mod unmet;
 
 ghost use Rattle.std.specs.Prelude.{◌≡◌, ◌⊎◌, ◌≤◌, ◌+◌, map, string_bytes, None};
 ghost use Rattle.std.specs.Process.{exit_status};

@@ -5,7 +5,7 @@ use Rattle.plus_number.specs.declared.exact.Exact.{Ghosts}
 use Rattle.plus_number.specs.declared.frac.Frac64.{Frac64}
 use Rattle.plus_number.specs.Frac.{fraction_of}
 use Rattle.plus_state.specs.declared.problem.Ground.{Ground}
-use Rattle.plus_state.specs.Fits.{Fits, StateFits, ActionFits}
+use Rattle.plus_state.specs.Fits.{Fits, StateFits, ActionFits, ProblemFits}
 use Rattle.plus_state.specs.View.{problem_of}
 use Rattle.plus_types.specs.declared.typed.Typed.{Typed}
 use Rattle.plus_numbering.specs.Tables.{context}
@@ -29,3 +29,7 @@ module _ (P : Problem) (v : TimelineView) (serves : Serves P v) where
       let atoms = i.atoms_fit ∙ ap (λ (u : TimelineView). u.atoms) e ∙ serves.atoms in
       let fluents = i.fluents_fit ∙ ap (λ (u : TimelineView). u.fluents) e ∙ serves.fluents in
       subst (λ n. Fits n (length s.fluents) c) (sym atoms) (subst (λ n. Fits P.atoms n c) (sym fluents) f)
+
+-- what the goal names is there in the first state
+pub fits_first : (P : Problem) → ProblemFits P → Fits (length P.initial.atoms) (length P.initial.fluents) P.goal
+fits_first P f = subst (λ n. Fits n (length P.initial.fluents) P.goal) (sym f.initial.atoms_fit) (subst (λ n. Fits P.atoms n P.goal) (sym f.initial.fluents_fit) f.goal)

@@ -26,6 +26,14 @@ fn append_counts(
     Ok(())
 }
 
+// Appends that an argument is no object.
+fn append_unknown(into: &mut Vec<u8>, argument: &Name) -> Result<(), AllocError> {
+    into.extend_from_slice(b"no object is named ")?;
+    into.extend_from_slice(argument.bytes())?;
+    into.push(b'\n')?;
+    Ok(())
+}
+
 // Appends that an argument is no object of its parameter's type.
 fn append_argument(
     into: &mut Vec<u8>,
@@ -62,6 +70,9 @@ pub fn append_wrong(
         return append_counts(into, &call.name, params.len(), arguments.len());
     }
     for (param, argument) in params.iter().zip(arguments) {
+        if numbering.typed.objects.number(argument.bytes()).is_none() {
+            return append_unknown(into, argument);
+        }
         let object = numbering.object(argument.bytes());
         if !numbering.members(param.kind.name.bytes()).contains(&object) {
             return append_argument(into, argument, param);

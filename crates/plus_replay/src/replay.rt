@@ -22,7 +22,7 @@ use plus_number::frac::Frac64;
 use plus_numbering::Numbering;
 use plus_plan::{Line, PlanFault, PlanForm, PlanReader, Time, time_value};
 use plus_play::{Plays, play_bytes};
-use plus_state::{Action, Ground};
+use plus_state::{Action, Ground, State};
 use plus_timeline::Next;
 use plus_tree::Call;
 use plus_types::Typed;
@@ -212,7 +212,7 @@ impl<'a> Replay<'a> {
 
 // Why a plan is played again no further.
 #[derive(Drop)]
-enum Halt {
+pub(crate) enum Halt {
     /// The plan is refused.
     Refused,
     /// Memory is wanting.
@@ -227,9 +227,46 @@ impl From<AllocError> for Halt {
 
 // A plan that is played again over a ground problem, as one who plays lines.
 #[derive(Drop)]
-struct Replaying<'n, 'g> {
+pub(crate) struct Replaying<'n, 'g> {
     replay: Replay<'n>,
-    ground: &'g Ground<Frac64>,
+    pub(crate) ground: &'g Ground<Frac64>,
+}
+
+impl<'n, 'g> Replaying<'n, 'g> {
+    // The plan of a pair over its ground form, of which nothing is played yet.
+    pub(crate) fn begin(
+        alloc: Global,
+        numbering: &'n Numbering<'n>,
+        ground: &'g Ground<Frac64>,
+    ) -> Result<Replaying<'n, 'g>, AllocError>
+        requires { IsGroundOf numbering.now.typed.now ground.now }
+        ensures { IfOk result (λ r. Stands r.ground.now r.replay) }
+    {
+        let replay = Replay::begin(alloc, numbering, ground)?;
+        Ok(Replaying { replay, ground })
+    }
+
+    // Plays the text of a plan, and appends why it is refused.
+    pub(crate) fn text(
+        &mut self,
+        alloc: Global,
+        plan: &[u8],
+        form: PlanForm,
+        into: &mut Vec<u8>,
+    ) -> Result<(), AllocError>
+        requires { Stands self.old.ground.now self.old.replay }
+    {
+        let mut reader = PlanReader::new(alloc, form)?;
+        match play_bytes(self, &mut reader, alloc, plan, into) {
+            Ok(()) | Err(Halt::Refused) => Ok(()),
+            Err(Halt::Memory) => Err(AllocError),
+        }
+    }
+
+    // The state that is come to.
+    pub(crate) fn state(&self) -> &State<Frac64> {
+        self.replay.timeline.state()
+    }
 }
 
 impl Plays<Vec<u8>> for Replaying<'_, '_> {
@@ -271,16 +308,11 @@ fn play(
 ) -> Result<(), AllocError>
     requires { IsGroundOf numbering.now.typed.now ground.now }
 {
-    let mut reader = PlanReader::new(alloc, form)?;
-    let replay = Replay::begin(alloc, numbering, ground)?;
-    let mut replaying = Replaying { replay, ground };
-    let played = play_bytes(&mut replaying, &mut reader, alloc, plan, into);
+    let mut replaying = Replaying::begin(alloc, numbering, ground)?;
+    let played = replaying.text(alloc, plan, form, into);
     // By a call: what drops a plan that is played is long, and its proof stands once.
     drop(replaying);
-    match played {
-        Ok(()) | Err(Halt::Refused) => Ok(()),
-        Err(Halt::Memory) => Err(AllocError),
-    }
+    played
 }
 
 // Plays a plan of a pair again, and appends why it is refused.

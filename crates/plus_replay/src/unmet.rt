@@ -5,5 +5,5 @@ mod text;
 mod unmet;
 
 pub use member::first_failing;
-pub use text::append_condition;
+pub use text::{append_condition, append_fraction};
 pub use unmet::append_failing;

@@ -1,0 +1,8 @@
+use Rattle.plus_play.proofs.StreamLemmas.{fresh_so}
+use Rattle.plus_replay.proofs.replay.Replaying.text.Goals as goal
+
+pub play_bytes-requires-clause-can : goal.play_bytes-requires-clause-can
+play_bytes-requires-clause-can c = c.requires
+
+pub play_bytes-requires-clause-fresh : goal.play_bytes-requires-clause-fresh
+play_bytes-requires-clause-fresh c = fresh_so _ _ c.in_ok-reader.ensures

@@ -1,0 +1,5 @@
+(define (problem town)
+ (:domain vans)
+ (:objects red - van north south - place)
+ (:init (at red north) (= (fuel red) 2) (= (clock) 0))
+ (:goal (at red south)))
