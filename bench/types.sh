@@ -1,6 +1,6 @@
 #!/usr/bin/env bash
 # Checks an empty plan over domains with many types with the built program, and prints time and peak memory: chains of
-# types, with one listed twice, with objects of the lowest, with uses of the lowest, and flat lists.
+# types, with one listed twice, with objects of the lowest, with uses of the lowest and of all, and flat lists.
 set -eu
 top=$(cd "$(dirname "$0")/.." && pwd)
 program=${PLANPLUS:-$top/planplus}
@@ -57,4 +57,26 @@ for size in 1000 10000 60000; do
     chain "$size" | domain "t$size" > "$work/d"
     problem 1000 "$(awk 'BEGIN { for (i = 0; i < 60000; i++) print "(p o" i % 1000 ")" }')" > "$work/p"
     measure "a chain of $size types, 60000 uses of the lowest"
+done
+
+# shuffled N: the members of a chain, in an order that goes neither up nor down
+shuffled() { awk -v n="$1" 'BEGIN { for (i = 0; i < n; i++) { k = i * 7919 % n; print "t" k " - t" k + 1 } }'; }
+
+# predicates TYPES N: N predicates over types all along a chain, the lowest first
+predicates() { awk -v t="$1" -v n="$2" 'BEGIN { for (i = 0; i < n; i++) print "(p" i " ?x - t" int(i * t / n) ")" }'; }
+
+# spread TYPES N: N objects of types all along a chain, the lowest first
+spread() { awk -v t="$1" -v n="$2" 'BEGIN { for (i = 0; i < n; i++) print "o" i " - t" int(i * t / n) }'; }
+
+# pairs N USES: uses of N predicates with N objects of types at or below theirs, and one of no predicate
+pairs() {
+    awk -v n="$1" -v u="$2" 'BEGIN { for (i = 0; i < u; i++) { k = i * 7919 % n; print "(p" int(k + (n - k) * (i % 97) / 97) " o" k ")" } print "(q)" }'
+}
+
+# most pairs of types are asked once; the last use is refused, so nothing but reading and typing is measured
+for size in 1000 10000 30000; do
+    count=$((size < 10000 ? size : 10000))
+    { echo "(define (domain d) (:types"; shuffled "$size"; echo ") (:predicates"; predicates "$size" "$count"; echo "))"; } > "$work/d"
+    { echo "(define (problem q) (:domain d) (:objects"; spread "$size" "$count"; echo ") (:init"; pairs "$count" 60000; echo ") (:goal (and)))"; } > "$work/p"
+    measure "a chain of $size types in no order, 60000 uses all along it, refused"
 done

@@ -9,13 +9,15 @@ use Rattle.plus_tokens.proofs.Found.{found}
 use Rattle.plus_tokens.proofs.Read.{none, read}
 use Rattle.plus_tree.specs.declared.trees.Domain.{Domain}
 use Rattle.plus_tree.specs.declared.trees.Problem.{Problem}
+use Rattle.plus_tree.specs.declared.trees.Constraint.{Constraint}
 use Rattle.plus_tokens.specs.Items.{Piece, tok, piece_of, items_at, items_of}
 use Rattle.plus_tokens.proofs.Items.{stands, at_token, at_none, at_fault}
 use Rattle.plus_parser.specs.SpellsDomain.{SpellsWithin}
 use Rattle.plus_parser.specs.SpellsProblem.{SpellsProblemWithin}
-use Rattle.plus_grammar.specs.Texts.{AreTokens, IsDomainText, IsProblemText}
+use Rattle.plus_parser.specs.SpellsConstraints.{SpellsConstraintsWithin}
+use Rattle.plus_grammar.specs.Texts.{AreTokens, IsDomainText, IsProblemText, IsConstraintsText}
 use Rattle.plus_grammar.proofs.Parentheses.{depth_by_counts}
-use Rattle.plus_grammar.proofs.Wholes.{domains_spelled, problems_spelled}
+use Rattle.plus_grammar.proofs.Wholes.{domains_spelled, problems_spelled, constraints_spelled}
 
 no_more : (text : List ℕ) (from : ℕ) → from ≤ length text → (r : Result (Option Token) LexFault) → first_token text from ≡ r → items_at text from ≡ [] → IsGapToEnd (drop from text)
 no_more text from le (Ok None) h e = (none text from).0 h
@@ -55,4 +57,10 @@ pub problem_texts : (depth : ℕ) (text : List ℕ) (p : Problem) → SpellsProb
 problem_texts depth text p = (
   λ h. (h.0, (tokens_spelled text h.0).0 h.1, (problems_spelled p h.0).0 h.2, (depth_by_counts depth h.0).0 h.3),
   λ h. (h.0, (tokens_spelled text h.0).1 h.1, (problems_spelled p h.0).1 h.2, (depth_by_counts depth h.0).1 h.3),
+)
+
+pub constraint_texts : (depth : ℕ) (text : List ℕ) (cs : List Constraint) → SpellsConstraintsWithin depth text cs ↔ IsConstraintsText depth text cs
+constraint_texts depth text cs = (
+  λ h. (h.0, (tokens_spelled text h.0).0 h.1, (constraints_spelled cs h.0).0 h.2, (depth_by_counts depth h.0).0 h.3),
+  λ h. (h.0, (tokens_spelled text h.0).1 h.1, (constraints_spelled cs h.0).1 h.2, (depth_by_counts depth h.0).1 h.3),
 )

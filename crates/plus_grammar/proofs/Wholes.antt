@@ -1,9 +1,10 @@
--- The tokens of a schema, of a domain and of a problem by groups and counts are those that a reader is held to.
-use Rattle.std.proofs.Common.{◌≡◌, List, [], ◌∷◌, refl, ap, sym, subst, ◌∙◌}
+-- The tokens of a schema, of a domain, of a problem and of constraints by groups and counts are those that a reader is held to.
+use Rattle.std.proofs.Common.{◌≡◌, List, [], ◌∷◌, refl, ap, sym, subst, ◌∙◌, inl, inr}
 use Rattle.std.specs.Prelude.{◌↔◌}
 use Rattle.plus_tree.specs.declared.trees.Schema.{Schema}
 use Rattle.plus_tree.specs.declared.trees.Domain.{Domain}
 use Rattle.plus_tree.specs.declared.trees.Problem.{Problem}
+use Rattle.plus_tree.specs.declared.trees.Constraint.{Constraint}
 use Rattle.plus_parser.specs.declared.phrases.words.Allowed.TheVariants.{Names}
 use Rattle.plus_tokens.specs.Items.{Piece}
 use Rattle.plus_parser.specs.Phrases.Grammar.{spelled_of}
@@ -11,8 +12,9 @@ use Rattle.plus_parser.specs.Phrases.Spells.{Wrapped}
 use Rattle.plus_parser.specs.ReadingDomain.{schema_made}
 use Rattle.plus_parser.specs.SpellsDomain.{SpellsHead, Key, k_parameters, k_condition, k_effect, SpellsKey, SpellsSchema, DomainPart, d_requirements, d_types, d_constants, d_predicates, d_functions, d_action, d_process, d_event, SpellsDomainPart, DomainTokens}
 use Rattle.plus_parser.specs.SpellsProblem.{ProblemPart, p_domain, p_requirements, p_objects, p_init, p_goal, p_metric, SpellsProblemPart, ProblemTokens}
+use Rattle.plus_parser.specs.SpellsConstraints.{SpellsConstraint, ConstraintTokens}
 use Rattle.plus_grammar.specs.Groups.{IsHead}
-use Rattle.plus_grammar.specs.Wholes.{IsKey, IsSchema, IsDomainPart, IsDomain, IsProblemPart, IsProblem}
+use Rattle.plus_grammar.specs.Wholes.{IsKey, IsSchema, IsDomainPart, IsDomain, IsProblemPart, IsProblem, IsConstraint, AreConstraints}
 use Rattle.plus_grammar.proofs.Chains.{chain_more}
 use Rattle.plus_grammar.proofs.Lists.{lists_by_groups, types_by_groups}
 use Rattle.plus_grammar.proofs.Functions.{head_to, head_from, functions_by_groups}
@@ -156,3 +158,22 @@ problem_from p ts h =
 
 pub problems_spelled : (p : Problem) (ts : List Piece) → ProblemTokens p ts ↔ IsProblem p ts
 problems_spelled p ts = (problem_to p ts, problem_from p ts)
+
+-- ---- constraints
+
+constraint_to : (c : Constraint) (ts : List Piece) → SpellsConstraint c ts → IsConstraint c ts
+constraint_to c ts h = (h.0, h.1, h.2, h.3, cond_to c.cond h.1 h.4)
+
+constraint_from : (c : Constraint) (ts : List Piece) → IsConstraint c ts → SpellsConstraint c ts
+constraint_from c ts h = (h.0, h.1, h.2, h.3, cond_from c.cond h.1 h.4)
+
+constraints_to : (cs : List Constraint) (ts : List Piece) → ConstraintTokens cs ts → AreConstraints cs ts
+constraints_to cs ts (inl m) = inl (m.0, (m.1, m.2, m.3, m.4, chain_more SpellsConstraint IsConstraint constraint_to cs m.2 m.5))
+constraints_to cs ts (inr o) = inr (o.0, o.1, constraint_to o.0 ts o.2)
+
+constraints_from : (cs : List Constraint) (ts : List Piece) → AreConstraints cs ts → ConstraintTokens cs ts
+constraints_from cs ts (inl m) = inl (m.0, m.1.0, m.1.1, m.1.2, m.1.3, chain_more IsConstraint SpellsConstraint constraint_from cs m.1.1 m.1.4)
+constraints_from cs ts (inr o) = inr (o.0, o.1, constraint_from o.0 ts o.2)
+
+pub constraints_spelled : (cs : List Constraint) (ts : List Piece) → ConstraintTokens cs ts ↔ AreConstraints cs ts
+constraints_spelled cs ts = (constraints_to cs ts, constraints_from cs ts)

@@ -5,6 +5,7 @@ use Rattle.plus_tree.specs.declared.trees.Head.{Head}
 use Rattle.plus_tree.specs.declared.trees.Schema.{Schema}
 use Rattle.plus_tree.specs.declared.trees.Domain.{Domain}
 use Rattle.plus_tree.specs.declared.trees.Problem.{Problem}
+use Rattle.plus_tree.specs.declared.trees.Constraint.{Constraint}
 use Rattle.plus_tree.specs.Cond.{Cond}
 use Rattle.plus_tree.specs.Effect.{Effect}
 use Rattle.plus_parser.specs.declared.phrases.words.Allowed.{Allowed}
@@ -19,12 +20,13 @@ use Rattle.plus_parser.specs.ReadingProblem.{no_problem_parts, problem_made}
 use Rattle.plus_parser.specs.Balanced.{IsBalanced}
 use Rattle.plus_parser.specs.SpellsDomain.{SpellsTypes, SpellsFunctions, Key, with_key, SpellsSchema, DomainPart, with_domain_part, DomainTokens, SpellsWithin}
 use Rattle.plus_parser.specs.SpellsProblem.{ProblemPart, with_problem_part, ProblemTokens, SpellsProblemWithin}
+use Rattle.plus_parser.specs.SpellsConstraints.{ConstraintTokens, SpellsConstraintsWithin}
 use Rattle.plus_grammar.specs.Groups.{IsList, AreTypes, AreFunctions}
 use Rattle.plus_grammar.specs.Forms.{IsCond, IsEffect}
 use Rattle.plus_grammar.specs.Parentheses.{IsWithin, ArePaired}
 use Rattle.plus_grammar.specs.Counts.{HasKeys, HasSections, HasSectionsOfProblem}
-use Rattle.plus_grammar.specs.Wholes.{IsSchema, IsDomain, IsProblem}
-use Rattle.plus_grammar.specs.Texts.{AreTokens, IsDomainText, IsProblemText}
+use Rattle.plus_grammar.specs.Wholes.{IsSchema, IsDomain, IsProblem, AreConstraints}
+use Rattle.plus_grammar.specs.Texts.{AreTokens, IsDomainText, IsProblemText, IsConstraintsText}
 
 -- ---- groups
 
@@ -72,6 +74,9 @@ DomainsSpelled = (d : Domain) (ts : List Piece) → DomainTokens d ts ↔ IsDoma
 abbrev pub ProblemsSpelled : Type 0
 ProblemsSpelled = (p : Problem) (ts : List Piece) → ProblemTokens p ts ↔ IsProblem p ts
 
+abbrev pub ConstraintsSpelled : Type 0
+ConstraintsSpelled = (cs : List Constraint) (ts : List Piece) → ConstraintTokens cs ts ↔ AreConstraints cs ts
+
 -- ---- texts
 
 -- the tokens that a reader is handed are those that stand one behind the other
@@ -91,3 +96,6 @@ DomainTexts = (depth : ℕ) (text : List ℕ) (d : Domain) → SpellsWithin dept
 
 abbrev pub ProblemTexts : Type 0
 ProblemTexts = (depth : ℕ) (text : List ℕ) (p : Problem) → SpellsProblemWithin depth text p ↔ IsProblemText depth text p
+
+abbrev pub ConstraintTexts : Type 0
+ConstraintTexts = (depth : ℕ) (text : List ℕ) (cs : List Constraint) → SpellsConstraintsWithin depth text cs ↔ IsConstraintsText depth text cs

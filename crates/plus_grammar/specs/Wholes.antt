@@ -1,13 +1,14 @@
--- Which tokens spell a schema, a domain and a problem: by groups and by counts.
-use Rattle.std.specs.Prelude.{◌≡◌, List, [], ◌∷◌, codes}
+-- Which tokens spell a schema, a domain, a problem and constraints: by groups and by counts.
+use Rattle.std.specs.Prelude.{◌≡◌, ◌⊎◌, List, [], ◌∷◌, ◌++◌, codes}
 use Rattle.plus_tokens.specs.declared.span.Span.{Span}
 use Rattle.plus_tree.specs.declared.trees.Schema.{Schema}
 use Rattle.plus_tree.specs.declared.trees.Domain.{Domain}
 use Rattle.plus_tree.specs.declared.trees.Problem.{Problem}
+use Rattle.plus_tree.specs.declared.trees.Constraint.{Constraint}
 use Rattle.plus_parser.specs.declared.phrases.words.Allowed.TheVariants.{Names}
 use Rattle.plus_tokens.specs.Items.{Piece}
 use Rattle.plus_parser.specs.Phrases.Grammar.{spelled_of}
-use Rattle.plus_parser.specs.Phrases.Spells.{IsName, Wrapped, Chain}
+use Rattle.plus_parser.specs.Phrases.Spells.{IsName, IsWord, Wrapped, Chain}
 use Rattle.plus_parser.specs.declared.keywords.KeyWord.{KeyWord}
 use Rattle.plus_parser.specs.declared.keywords.KeyWord.TheVariants as keys
 use Rattle.plus_parser.specs.declared.keywords.DomainWord.{DomainWord}
@@ -17,8 +18,9 @@ use Rattle.plus_parser.specs.declared.keywords.ProblemWord.TheVariants as proble
 use Rattle.plus_parser.specs.Keywords.{key_of, domain_part_of, problem_part_of}
 use Rattle.plus_parser.specs.SpellsDomain.{SpellsRequirement, Key, k_parameters, k_condition, k_effect, DomainPart, d_requirements, d_types, d_constants, d_predicates, d_functions, d_action, d_process, d_event, Framed}
 use Rattle.plus_parser.specs.SpellsProblem.{SpellsInit, ProblemPart, p_domain, p_requirements, p_objects, p_init, p_goal, p_metric}
+use Rattle.plus_parser.specs.SpellsConstraints.{SpellsRule}
 use Rattle.plus_grammar.specs.Groups.{IsList, AreTypes, AreVariables, IsHead, AreFunctions}
-use Rattle.plus_grammar.specs.Forms.{IsCond, IsEffect}
+use Rattle.plus_grammar.specs.Forms.{IsForm, IsCond, IsEffect}
 use Rattle.plus_grammar.specs.Parentheses.{ArePaired}
 use Rattle.plus_grammar.specs.Counts.{HasKeys, HasSections, HasSectionsOfProblem}
 
@@ -83,3 +85,13 @@ pub record IsProblem (p : Problem) (ts : List Piece) : Type 0 where
   pub frame : Framed (codes "problem") p.name p.span body ts
   pub spelled : Chain IsProblemPart parts body
   pub has : HasSectionsOfProblem parts p
+
+-- a rule, and behind it a condition, in parentheses
+abbrev pub IsConstraint : Constraint → List Piece → Type 0
+IsConstraint c ts =
+    (left : List Piece) × (right : List Piece) × Wrapped c.span (left ++ right) ts × SpellsRule c.rule left × IsCond c.cond right
+
+-- the tokens of constraints: a list, `(and ..)`, or a single one
+abbrev pub AreConstraints : List Constraint → List Piece → Type 0
+AreConstraints cs ts =
+    ((s : Span) × IsForm (IsWord (codes "and")) s (Chain IsConstraint cs) ts) ⊎ ((c : Constraint) × (cs ≡ c ∷ []) × IsConstraint c ts)

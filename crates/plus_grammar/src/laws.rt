@@ -1,5 +1,5 @@
 //! The laws, the contracts of functions with empty bodies.
-ghost use Rattle.plus_grammar.specs.Laws.{ListsByGroups, TypesByGroups, FunctionsByGroups, ConditionsByGroups, EffectsByGroups, KeysByCounts, SectionsByCounts, ProblemsByCounts, SchemasSpelled, DomainsSpelled, ProblemsSpelled, TokensSpelled, DepthByCounts, PairsByCounts, DomainTexts, ProblemTexts};
+ghost use Rattle.plus_grammar.specs.Laws.{ListsByGroups, TypesByGroups, FunctionsByGroups, ConditionsByGroups, EffectsByGroups, KeysByCounts, SectionsByCounts, ProblemsByCounts, SchemasSpelled, DomainsSpelled, ProblemsSpelled, ConstraintsSpelled, TokensSpelled, DepthByCounts, PairsByCounts, DomainTexts, ProblemTexts, ConstraintTexts};
 
 /// Tokens spell a list of names with their types exactly where they are groups of names.
 pub fn lists_by_groups()
@@ -56,6 +56,11 @@ pub fn problems_spelled()
     ensures { ProblemsSpelled }
 {}
 
+/// The tokens of constraints are those whose conditions have their variables by groups.
+pub fn constraints_spelled()
+    ensures { ConstraintsSpelled }
+{}
+
 /// The tokens of a text stand one behind the other, each the first behind the one before it.
 pub fn tokens_spelled()
     ensures { TokensSpelled }
@@ -79,4 +84,9 @@ pub fn domain_texts()
 /// And so are those of a problem.
 pub fn problem_texts()
     ensures { ProblemTexts }
+{}
+
+/// So the texts of constraints are those of such tokens.
+pub fn constraint_texts()
+    ensures { ConstraintTexts }
 {}

@@ -3,6 +3,7 @@ pub mod Sections
 pub mod DomainLaws
 pub mod TimedLaws
 pub mod ProblemLaws
+pub mod ConstraintLaws
 pub mod Wholes
 pub mod PhraseLemmas
 pub mod FormLemmas

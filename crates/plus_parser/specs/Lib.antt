@@ -6,5 +6,7 @@ pub mod ReadingDomain
 pub mod ReadingProblem
 pub mod SpellsDomain
 pub mod SpellsProblem
+pub mod ReadingConstraints
+pub mod SpellsConstraints
 pub mod Phrases
 pub mod Forms

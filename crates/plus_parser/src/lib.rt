@@ -1,6 +1,7 @@
-//! Reads domains and problems of PDDL+ from their text.
+//! Reads domains, problems and constraints of PDDL+ from their text.
 #![tactic(auto)]
 
+pub mod constraints;
 pub mod declarations;
 pub mod domains;
 pub mod forms;
@@ -12,4 +13,4 @@ pub mod problems;
 pub mod reading;
 pub mod schemas;
 
-pub use reading::{read_domain, read_problem};
+pub use reading::{read_constraints, read_domain, read_problem};

@@ -1,10 +1,12 @@
 //! Reads a problem.
 
-ghost use Rattle.std.specs.Prelude.{◌≡◌, true, ◌<◌, ◌≤◌, ◌-◌, ◌+◌, [], length, OnOk, Ok, MatchResult, codes};
+ghost use Rattle.std.specs.Prelude.{◌≡◌, true, ◌<◌, ◌≤◌, ◌-◌, ◌+◌, List, [], length, OnOk, Ok, MatchResult, codes};
+ghost use Rattle.plus_tokens.specs.Items.{Item};
+ghost use Rattle.plus_parser.specs.Phrases.Literals.{literal_of};
 ghost use Rattle.plus_parser.specs.Phrases.Reading.{Gives, Fails, is_open};
 ghost use Rattle.plus_parser.specs.Phrases.Grammar.{around, until_close, form_step};
 ghost use Rattle.plus_parser.specs.ReadingDomain.{section_step};
-ghost use Rattle.plus_parser.specs.ReadingProblem.{literal_next, timed_of, init_at, problem_part, all_found, problem_step, no_problem_parts, problem_made, or_early, problem_of, problem_in};
+ghost use Rattle.plus_parser.specs.ReadingProblem.{literal_or, literal_next, timed_of, init_at, problem_part, all_found, problem_step, no_problem_parts, problem_made, or_early, problem_of, problem_in};
 ghost use Rattle.plus_tokens.specs.Seen.{seen};
 
 use crate::declarations::requirements;
@@ -88,7 +90,16 @@ fn number(reader: &mut Reader<'_>, room: u8) -> Result<Literal, TextFault>
     ensures shorter { OnOk result (length reader.new < length reader.old) }
 {
     let token = reader.next(room)?;
-    match literal_of(&token) {
+    literal(&token)
+}
+
+/// The number that a token spells, where one is wanted.
+#[inline(always)]
+pub fn literal(token: &Seen<'_>) -> Result<Literal, TextFault>
+    ensures gives { (rest : List Item) → Gives (λ n. n) rest result
+        (literal_or (literal_of (seen token.now)) (seen token.now) rest) }
+{
+    match literal_of(token) {
         Some(literal) => Ok(literal),
         None => Err(TextFault::Form { span: token.span }),
     }

@@ -9,6 +9,9 @@ use Rattle.plus_parser.specs.declared.keywords.ProblemWord.TheVariants as proble
 use Rattle.plus_parser.specs.declared.keywords.DomainWord.{DomainWord}
 use Rattle.plus_parser.specs.declared.keywords.DomainWord.TheVariants as domains
 use Rattle.plus_parser.specs.Keywords.{problem_part_of, domain_part_of}
+use Rattle.plus_parser.specs.declared.constraints.RuleWord.{RuleWord}
+use Rattle.plus_parser.specs.declared.constraints.RuleWord.TheVariants as rules
+use Rattle.plus_parser.specs.ReadingConstraints.{rule_word_of}
 use Rattle.plus_tokens.specs.Items.{Piece}
 use Rattle.plus_parser.specs.Phrases.Reading.{is_open}
 use Rattle.plus_parser.specs.Phrases.Words.{is_close}
@@ -18,7 +21,7 @@ use Rattle.plus_places.specs.declared.symbols.Met.{Met}
 use Rattle.plus_places.specs.declared.symbols.DomainMet.{DomainMet}
 use Rattle.plus_places.specs.declared.symbols.Symbol.{Symbol}
 use Rattle.plus_places.specs.declared.symbols.Symbol.TheVariants as sy
-use Rattle.plus_places.specs.Table.{Wanted, accept, once, all_met, none_missing, section_of, domain_section_of, step, run_with, run}
+use Rattle.plus_places.specs.Table.{Wanted, accept, once, all_met, none_missing, section_of, domain_section_of, constraints_inside, step, run_with, run}
 use Rattle.plus_places.proofs.Runs.{some_is}
 
 abbrev pub is_bottom : Symbol → Bool
@@ -26,6 +29,10 @@ is_bottom (sy.Sections m) = true
 is_bottom (sy.Section m) = true
 is_bottom (sy.DomainSections m) = true
 is_bottom (sy.DomainSection m) = true
+is_bottom sy.Constraints = true
+is_bottom sy.ConstraintsInside = true
+is_bottom sy.ConstraintList = true
+is_bottom sy.Close = true
 is_bottom _ = false
 
 abbrev pub Grounded : List Symbol → Type 0
@@ -71,6 +78,18 @@ domain_section_keeps p m domains.Process = some_keeps p _ refl
 domain_section_keeps p m domains.Event = some_keeps p _ refl
 domain_section_keeps p m domains.Other = none_keeps p
 
+constraints_keep : (p : Piece) (w : RuleWord) → Keeps p (constraints_inside w)
+constraints_keep p rules.And = some_keeps p _ refl
+constraints_keep p rules.Always = some_keeps p _ refl
+constraints_keep p rules.Sometime = some_keeps p _ refl
+constraints_keep p rules.Within = some_keeps p _ refl
+constraints_keep p rules.HoldAfter = some_keeps p _ refl
+constraints_keep p rules.Other = none_keeps p
+
+close_keeps : (p : Piece) (b : Bool) → is_close p.kind ≡ b → Keeps p (accept b [])
+close_keeps p true c ks e = inl (sym (some_is [] ks e), close_kind p.kind c)
+close_keeps p false c ks e = absurd cc
+
 -- the closing parenthesis, or what goes on
 closes_or : (p : Piece) (w v : Wanted) → ((ks : List Symbol) → v ≡ Some ks → ks ≡ []) → Keeps p w → (b : Bool) → is_close p.kind ≡ b → Keeps p (cond b v w)
 closes_or p w v n h true c ks e = inl (n ks e, close_kind p.kind c)
@@ -95,6 +114,11 @@ keeps (sy.Section m) p b = full_keeps p (section_of m (problem_part_of p)) (Some
 keeps (sy.DomainSections m) p b =
     closes_or p (accept (is_open p.kind) (sy.DomainSection m ∷ [])) (Some []) (λ ks e. sym (some_is [] ks e)) (open_keeps p (Some (sy.DomainSection m ∷ [])) (some_keeps p (sy.DomainSection m ∷ []) refl) (is_open p.kind)) (is_close p.kind) refl
 keeps (sy.DomainSection m) p b = domain_section_keeps p m (domain_part_of p)
+keeps sy.Constraints p b = open_keeps p (Some (sy.ConstraintsInside ∷ [])) (some_keeps p (sy.ConstraintsInside ∷ []) refl) (is_open p.kind)
+keeps sy.ConstraintsInside p b = constraints_keep p (rule_word_of p)
+keeps sy.ConstraintList p b =
+    closes_or p (accept (is_open p.kind) (sy.ConstraintInside ∷ sy.ConstraintList ∷ [])) (Some []) (λ ks e. sym (some_is [] ks e)) (open_keeps p (Some (sy.ConstraintInside ∷ sy.ConstraintList ∷ [])) (some_keeps p (sy.ConstraintInside ∷ sy.ConstraintList ∷ []) refl) (is_open p.kind)) (is_close p.kind) refl
+keeps sy.Close p b = close_keeps p (is_close p.kind) refl
 keeps _ p b = absurd cc
 
 goes_on : (k : Kind) (room over : ℕ) (f : ℕ → Option ℕ) → room_step k room f ≡ Some over → (r : ℕ) × (f r ≡ Some over)

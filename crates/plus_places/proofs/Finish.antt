@@ -102,6 +102,11 @@ finish (sy.Functions untyped) = closing ∷ []
 finish (sy.Keys m) = closing ∷ []
 finish (sy.DomainSections m) = closing ∷ []
 finish (sy.DomainSection m) = keyword (codes ":action") ∷ name (codes "a") ∷ closing ∷ closing ∷ []
+finish sy.Time = one ∷ []
+finish sy.Constraints = opening ∷ name (codes "and") ∷ closing ∷ []
+finish sy.ConstraintsInside = name (codes "and") ∷ closing ∷ []
+finish sy.ConstraintList = closing ∷ []
+finish sy.ConstraintInside = name (codes "always") ∷ opening ∷ closing ∷ closing ∷ []
 
 -- ---- they do
 

@@ -71,6 +71,12 @@ is_domain = record { spelled = good_name (codes "domain") refl (lit≤ tt); smal
 is_number : IsGenuine (name (codes "number"))
 is_number = record { spelled = good_name (codes "number") refl (lit≤ tt); small = refl }
 
+is_and : IsGenuine (name (codes "and"))
+is_and = record { spelled = good_name (codes "and") refl (lit≤ tt); small = refl }
+
+is_always : IsGenuine (name (codes "always"))
+is_always = record { spelled = good_name (codes "always") refl (lit≤ tt); small = refl }
+
 is_requirements_key : IsGenuine (keyword (codes ":requirements"))
 is_requirements_key = record { spelled = (codes "requirements", good_name (codes "requirements") refl (lit≤ tt), refl); small = refl }
 
@@ -160,6 +166,11 @@ finish_tokens (sy.Functions untyped) = (is_closing, tt)
 finish_tokens (sy.Keys m) = (is_closing, tt)
 finish_tokens (sy.DomainSections m) = (is_closing, tt)
 finish_tokens (sy.DomainSection m) = (is_action_key, (is_a, (is_closing, (is_closing, tt))))
+finish_tokens sy.Time = (is_one, tt)
+finish_tokens sy.Constraints = (is_opening, (is_and, (is_closing, tt)))
+finish_tokens sy.ConstraintsInside = (is_and, (is_closing, tt))
+finish_tokens sy.ConstraintList = (is_closing, tt)
+finish_tokens sy.ConstraintInside = (is_always, (is_opening, (is_closing, (is_closing, tt))))
 finish_tokens (sy.Sections m) = sections_tokens m
 finish_tokens (sy.Section m) = section_tokens m.metric m.requirements m.objects m.domain m.init m.goal m
 

@@ -40,7 +40,7 @@ time_lit : (n : Option Numeral) (s : Span) → is_unsigned n ≡ true → (t : L
 time_lit (Some n) s e = (_, refl)
 time_lit None s e = absurd cc
 
-piece_lit : (p : Piece) → is_time p ≡ true → (n : Literal) × (literal_of p ≡ Some n)
+pub piece_lit : (p : Piece) → is_time p ≡ true → (n : Literal) × (literal_of p ≡ Some n)
 unfolding kind_literal
 piece_lit p e = time_lit (piece_numeral p) p.span e
 

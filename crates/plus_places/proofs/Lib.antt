@@ -15,4 +15,5 @@ pub mod Finished
 pub mod Bottom
 pub mod Places
 pub mod Problems
+pub mod Constraints
 pub mod Domains

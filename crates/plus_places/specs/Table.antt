@@ -23,6 +23,9 @@ use Rattle.plus_parser.specs.declared.keywords.KeyWord.TheVariants as keys
 use Rattle.plus_parser.specs.declared.keywords.DomainWord.{DomainWord}
 use Rattle.plus_parser.specs.declared.keywords.DomainWord.TheVariants as domains
 use Rattle.plus_parser.specs.Keywords.{problem_part_of, key_of, domain_part_of}
+use Rattle.plus_parser.specs.declared.constraints.RuleWord.{RuleWord}
+use Rattle.plus_parser.specs.declared.constraints.RuleWord.TheVariants as rules
+use Rattle.plus_parser.specs.ReadingConstraints.{rule_word_of}
 use Rattle.plus_places.specs.declared.symbols.KeysMet.{KeysMet}
 use Rattle.plus_places.specs.declared.symbols.DomainMet.{DomainMet}
 use Rattle.plus_places.specs.declared.symbols.Met.{Met}
@@ -168,6 +171,21 @@ domain_section_of m domains.Process = Some (sy.Name ∷ sy.Keys no_keys_met ∷ 
 domain_section_of m domains.Event = Some (sy.Name ∷ sy.Keys no_keys_met ∷ sy.DomainSections m ∷ [])
 domain_section_of m domains.Other = None
 
+-- ---- constraints
+
+-- a constraint
+abbrev pub constraint_inside : RuleWord → Wanted
+constraint_inside rules.Always = Some (sy.Cond ∷ sy.Close ∷ [])
+constraint_inside rules.Sometime = Some (sy.Cond ∷ sy.Close ∷ [])
+constraint_inside rules.Within = Some (sy.Time ∷ sy.Cond ∷ sy.Close ∷ [])
+constraint_inside rules.HoldAfter = Some (sy.Time ∷ sy.Cond ∷ sy.Close ∷ [])
+constraint_inside _ = None
+
+-- a list of them, or a single one
+abbrev pub constraints_inside : RuleWord → Wanted
+constraints_inside rules.And = Some (sy.ConstraintList ∷ [])
+constraints_inside w = constraint_inside w
+
 -- ---- the table
 
 -- the symbols that take the place of one, behind a token
@@ -225,6 +243,11 @@ step (sy.Functions untyped) p =
 step (sy.Keys m) p = close_or p.kind (key_with m (key_of p))
 step (sy.DomainSections m) p = close_or p.kind (accept (is_open p.kind) (sy.DomainSection m ∷ []))
 step (sy.DomainSection m) p = domain_section_of m (domain_part_of p)
+step sy.Time p = accept (is_time p) []
+step sy.Constraints p = accept (is_open p.kind) (sy.ConstraintsInside ∷ [])
+step sy.ConstraintsInside p = constraints_inside (rule_word_of p)
+step sy.ConstraintList p = close_or p.kind (accept (is_open p.kind) (sy.ConstraintInside ∷ sy.ConstraintList ∷ []))
+step sy.ConstraintInside p = constraint_inside (rule_word_of p)
 
 -- ---- several tokens
 
@@ -253,3 +276,7 @@ no_sections = record { requirements = false; types = false; constants = false; p
 -- a domain
 abbrev pub domain_symbols : List Symbol
 domain_symbols = sy.Open ∷ sy.Define ∷ sy.Open ∷ sy.DomainWord ∷ sy.Name ∷ sy.Close ∷ sy.DomainSections no_sections ∷ []
+
+-- constraints
+abbrev pub constraint_symbols : List Symbol
+constraint_symbols = sy.Constraints ∷ []

@@ -1,13 +1,15 @@
 //! The laws. Each is a function with an empty body, whose contract is the law.
 
 ghost use Rattle.std.specs.Prelude.{◌≡◌, ◌⊎◌, ℕ, List, [], ◌≤◌, Some};
+ghost use Rattle.plus_tree.specs.declared.trees.Constraint.{Constraint as ConstraintTree};
 ghost use Rattle.plus_tree.specs.declared.trees.Domain.{Domain as DomainTree};
 ghost use Rattle.plus_tree.specs.declared.trees.Problem.{Problem as ProblemTree};
 ghost use Rattle.plus_tree.specs.declared.faults.TextFault.{TextFault as Fault};
 ghost use Rattle.plus_tokens.specs.Items.{Piece};
+ghost use Rattle.plus_parser.specs.SpellsConstraints.{ConstraintTokens, SpellsConstraintsWithin};
 ghost use Rattle.plus_parser.specs.SpellsDomain.{DomainTokens, SpellsWithin};
 ghost use Rattle.plus_parser.specs.SpellsProblem.{ProblemTokens, SpellsProblemWithin};
-ghost use Rattle.plus_places.specs.Table.{run, domain_symbols, problem_symbols};
+ghost use Rattle.plus_places.specs.Table.{run, domain_symbols, problem_symbols, constraint_symbols};
 ghost use Rattle.plus_places.specs.Place.{IsPlace};
 
 /// Each text spells a domain, or is refused somewhere.
@@ -71,4 +73,36 @@ pub fn table_takes_problems()
 pub fn table_takes_only_problems()
     ensures { (ts : List Piece) →
         run problem_symbols ts ≡ Some [] → (p : ProblemTree) × ProblemTokens p ts }
+{}
+
+/// Each text spells constraints, or is refused somewhere.
+pub fn constraints_or_place()
+    ensures { (depth : ℕ) (text : List ℕ) → 2 ≤ depth →
+        ((cs : List ConstraintTree) × SpellsConstraintsWithin depth text cs)
+        ⊎ ((fault : Fault) × IsPlace ConstraintTokens depth text fault) }
+{}
+
+/// A text that is refused somewhere spells no constraints.
+pub fn refused_spells_no_constraints()
+    ensures { (depth : ℕ) (text : List ℕ) (fault : Fault) → 2 ≤ depth →
+        IsPlace ConstraintTokens depth text fault →
+        (cs : List ConstraintTree) → SpellsConstraintsWithin depth text cs → ⊥ }
+{}
+
+/// As constraints, no text is refused at two places.
+pub fn one_constraints_place()
+    ensures { (depth : ℕ) (text : List ℕ) (a b : Fault) → 2 ≤ depth →
+        IsPlace ConstraintTokens depth text a → IsPlace ConstraintTokens depth text b → a ≡ b }
+{}
+
+/// The table takes the tokens of constraints.
+pub fn table_takes_constraints()
+    ensures { (cs : List ConstraintTree) (ts : List Piece) →
+        ConstraintTokens cs ts → run constraint_symbols ts ≡ Some [] }
+{}
+
+/// From the symbol of constraints it takes no others.
+pub fn table_takes_only_constraints()
+    ensures { (ts : List Piece) →
+        run constraint_symbols ts ≡ Some [] → (cs : List ConstraintTree) × ConstraintTokens cs ts }
 {}

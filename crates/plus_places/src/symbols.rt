@@ -115,4 +115,12 @@ pub enum Symbol {
     DomainSections(DomainMet),
     /// A section of a domain behind its parenthesis, and the sections after it.
     DomainSection(DomainMet),
+    /// A number without a sign.
+    Time,
+    /// Constraints: a list or a single one.
+    Constraints,
+    ConstraintsInside,
+    /// A list of constraints.
+    ConstraintList,
+    ConstraintInside,
 }

@@ -239,6 +239,27 @@ pub struct Problem {
     pub span: Span,
 }
 
+/// When the condition of a constraint is to hold along a plan.
+#[derive(Clone, Copy, PartialEq, Eq)]
+pub enum Rule {
+    /// All the way: `(always ..)`.
+    Always,
+    /// At some moment: `(sometime ..)`.
+    Sometime,
+    /// At some moment up to this time: `(within 3 ..)`.
+    Within(Literal),
+    /// All the way from this time on: `(hold-after 3 ..)`.
+    HoldAfter(Literal),
+}
+
+/// A constraint on the way that a plan takes.
+#[derive(Drop)]
+pub struct Constraint {
+    pub rule: Rule,
+    pub cond: CondTree,
+    pub span: Span,
+}
+
 /// An action with its arguments, as a plan names it.
 #[derive(Drop)]
 pub struct Call {

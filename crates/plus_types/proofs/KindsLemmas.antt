@@ -1,5 +1,5 @@
 -- Searching a table of names with types is searching the list of these pairs.
-use Rattle.std.proofs.Common.{◌≡◌, ℕ, Bool, true, false, List, [], ◌∷◌, ◌++◌, ap, sym, refl, ◌∙◌, map, cond, ◌||◌, true≢false, Vec, Global, Some, is_some}
+use Rattle.std.proofs.Common.{◌≡◌, ℕ, Bool, true, false, List, [], ◌∷◌, ◌++◌, ap, sym, refl, ◌∙◌, map, cond, ◌||◌, true≢false, Vec, Global, Some, is_some, zero, suc, get_or, slice_get}
 use Rattle.std.specs.List.{list_any}
 use Rattle.std.specs.Str.{bytes_eq}
 use Rattle.std.specs.Map.{lookup, keys_of}
@@ -59,3 +59,15 @@ some-shown p (e ∷ es) = by (p e.0.items) (some-shown p es)
         → is_some (cond b (Some e.1) (lookup (λ k. p k.items) es)) ≡ (b || list_any p (bound_names (map shown es)))
     by true more = refl
     by false more = more
+
+pub name-shown : (es : List Entry) (i : ℕ) (e : Entry) → slice_get es i ≡ Some e → get_or (bound_names (map shown es)) i [] ≡ e.0.items
+name-shown [] i e q = cc
+name-shown (x ∷ xs) zero e q = let w : x ≡ e = cc in ap (λ (y : Entry). y.0.items) w
+name-shown (x ∷ xs) (suc i) e q = name-shown xs i e q
+
+-- the entry at a place holds what is found by its name
+pub kind-shown-at :
+    (es : List Entry) (i : ℕ) (k : Vec ℕ Global) (v : SmallVec ℕ) → slice_get es i ≡ Some (k, v) → lookup (λ key. bytes_eq k.items key.items) es ≡ Some v
+    → kind_of (map shown es) (get_or (bound_names (map shown es)) i []) ≡ Some v.items
+kind-shown-at es i k v q e =
+    ap (kind_of (map shown es)) (name-shown es i (k, v) q) ∙ kind-shown k.items es ∙ ap (option_map (λ (x : SmallVec ℕ). x.items)) e

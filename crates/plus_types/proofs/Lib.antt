@@ -6,3 +6,4 @@ pub mod RankLemmas
 pub mod PlaceLemmas
 pub mod ListLemmas
 pub mod WalkLemmas
+pub mod JumpLemmas

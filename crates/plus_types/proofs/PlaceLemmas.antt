@@ -1,10 +1,12 @@
 -- What the place of a name in a table says of the parts of the table.
-use Rattle.std.proofs.Common.{◌≡◌, ℕ, zero, suc, ◌+◌, ◌<◌, ◌≤◌, Bool, true, false, List, [], ◌∷◌, sym, refl, ◌∙◌, map, cond, ◌||◌, Option, Some, None, drop, get_or, take, position, arith}
+use Rattle.std.proofs.Common.{◌≡◌, ℕ, zero, suc, ◌+◌, ◌<◌, ◌≤◌, Bool, true, false, List, [], ◌∷◌, ap, sym, refl, ◌∙◌, map, cond, ◌||◌, true≢false, Option, Some, None, drop, get_or, length, take, position, arith}
 use Rattle.std.specs.List.{list_any, position_from}
 use Rattle.std.specs.Str.{bytes_eq}
 use Rattle.std.proofs.lemmas.Iterator.Adapters.{position_from-zero}
 use Rattle.plus_tree.specs.declared.trees.Head.{Head}
+use Rattle.plus_types.specs.Types.{is_among}
 use Rattle.plus_types.specs.Faults.{params_of}
+use Rattle.plus_types.proofs.TypesLemmas.{bytes-self}
 
 -- a place that is counted from i on is no less than i
 pub place-least : {X : Type 0} (t : X → Bool) (i j : ℕ) (xs : List X) → position_from t i xs ≡ Some j → i ≤ j
@@ -100,3 +102,23 @@ params-some name i j (suc m) d (h ∷ hs) e q = by (bytes_eq name h.name.name) e
 -- where a place is counted from 0
 pub from-zero : {X : Type 0} (t : X → Bool) (xs : List X) (o : Option ℕ) → position t xs ≡ o → position_from t 0 xs ≡ o
 from-zero t xs o e = sym (position_from-zero t xs) ∙ e
+
+-- a name that stands nowhere before has its own place
+place-fresh :
+    (p : List ℕ → Bool) (i j : ℕ) (xs : List (List ℕ)) → j < length xs → list_any p (take j xs) ≡ false → p (get_or xs j []) ≡ true
+    → position_from p i xs ≡ Some (i + j)
+place-fresh p i j [] h f t = absurd (omega arith)
+place-fresh p i zero (x ∷ xs) h f t = ap (λ b. cond b (Some i) (position_from p (i + 1) xs)) t ∙ ap Some (omega arith)
+place-fresh p i (suc j) (x ∷ xs) h f t = by (p x) f (place-fresh p (i + 1) j xs (omega arith))
+  where
+    by :
+        (b : Bool) → (b || list_any p (take j xs)) ≡ false
+        → (list_any p (take j xs) ≡ false → p (get_or xs j []) ≡ true → position_from p (i + 1) xs ≡ Some (i + 1 + j))
+        → cond b (Some i) (position_from p (i + 1) xs) ≡ Some (i + suc j)
+    by true f more = absurd (true≢false f)
+    by false f more = more f t ∙ ap Some (omega arith)
+
+pub own-place :
+    (xs : List (List ℕ)) (j : ℕ) → j < length xs → is_among (take j xs) (get_or xs j []) ≡ false → position (bytes_eq (get_or xs j [])) xs ≡ Some j
+own-place xs j h f =
+    position_from-zero (bytes_eq (get_or xs j [])) xs ∙ place-fresh (bytes_eq (get_or xs j [])) 0 j xs h f (bytes-self (get_or xs j [])) ∙ ap Some (omega arith)

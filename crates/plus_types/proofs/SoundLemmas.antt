@@ -1,9 +1,10 @@
 -- Types without a fault are well listed.
-use Rattle.std.proofs.Common.{◌≡◌, ℕ, suc, Bool, true, false, List, [], ◌∷◌, ◌++◌, ap, sym, refl, ◌∙◌, cond, ◌||◌, true≢false, Option, Some, None, length, ◌+◌, ◌<◌, get_or, take, add-one}
+use Rattle.std.proofs.Common.{◌≡◌, ℕ, zero, suc, Bool, true, false, List, [], ◌∷◌, ◌++◌, ap, sym, refl, ◌∙◌, cond, ◌||◌, true≢false, Option, Some, None, length, ◌+◌, ◌<◌, get_or, take, add-one, append_assoc, position, arith}
 use Rattle.std.proofs.Math.Seq.{take-suc}
 use Rattle.plus_types.proofs.KindsLemmas.{map-append}
 use Rattle.std.specs.List.{list_any}
 use Rattle.std.specs.Str.{bytes_eq}
+use Rattle.std.proofs.lemmas.List.{length-map}
 use Rattle.std.proofs.lemmas.List.Folds.{list_any-append}
 use Rattle.plus_tree.specs.declared.terms.TypedName.{TypedName}
 use Rattle.plus_types.specs.declared.faults.TypeFault.{TypeFault}
@@ -11,9 +12,11 @@ use Rattle.plus_types.specs.declared.faults.File.TheVariants as files
 use Rattle.plus_types.specs.declared.faults.Wrong.TheVariants.{Twice, TypeLoop}
 use Rattle.plus_types.specs.declared.faults.TypeFault.TheVariants.{At}
 use Rattle.plus_types.specs.Types.{is_among, Binding, bindings_of, bound_names, bound_kinds, kind_of, object_name, right_above, is_above_within, is_above}
-use Rattle.plus_types.specs.Listed.{under_object, one_above, IsListed}
+use Rattle.plus_types.specs.Listed.{under_object, one_above, name_at, IsListed}
 use Rattle.plus_types.specs.Faults.{listed_faults, types_faults}
-use Rattle.plus_types.proofs.TypesLemmas.{same-bytes, above-is, within-suc, object-above, or-right, bytes-swap}
+use Rattle.plus_types.proofs.TypesLemmas.{same-bytes, above-is, within-suc, object-above, or-right, or-false, bytes-swap}
+use Rattle.plus_types.proofs.ListLemmas.{length-names}
+use Rattle.plus_types.proofs.PlaceLemmas.{own-place}
 
 pub left-none : (xs ys : List TypeFault) → xs ++ ys ≡ [] → xs ≡ []
 left-none [] ys e = refl
@@ -106,12 +109,31 @@ object-loops (b ∷ bs) up chain e =
     by true w = ap (λ x. bytes_eq object_name x || is_above_within (b ∷ bs) (suc (length bs)) object_name x) (same-bytes up object_name w)
     by false w = or-right (bytes_eq object_name up) _ (object-above (b ∷ bs) (length bs) up chain w)
 
+-- no listed type stands before its place
+fresh-at :
+    (all : List Binding) (earlier : List (List ℕ)) (ts : List TypedName) (i : ℕ) → types_faults all earlier ts ≡ [] → i < length ts
+    → is_among (earlier ++ take i (bound_names (bindings_of ts))) (name_at (bindings_of ts) i) ≡ false
+fresh-at all earlier [] i e h = absurd (omega arith)
+fresh-at all earlier (t ∷ ts) zero e h =
+    list_any-append (bytes_eq t.name.name) earlier [] ∙ or-false (is_among earlier t.name.name) false refl
+    ∙ listed-new all earlier t (left-none (listed_faults all earlier t) _ e)
+fresh-at all earlier (t ∷ ts) (suc i) e h =
+    sym (ap (λ xs. is_among xs (name_at (bindings_of ts) i)) (append_assoc earlier (t.name.name ∷ []) (take i (bound_names (bindings_of ts)))))
+    ∙ fresh-at all (earlier ++ t.name.name ∷ []) ts i (right-none (listed_faults all earlier t) _ e) (omega arith)
+
+own-places :
+    (ts : List TypedName) → types_faults (bindings_of ts) [] ts ≡ [] → (i : ℕ) → i < length (bindings_of ts)
+    → position (bytes_eq (name_at (bindings_of ts) i)) (bound_names (bindings_of ts)) ≡ Some i
+own-places ts e i h =
+    let many : length (bindings_of ts) ≡ length ts = length-map ts (λ (t : TypedName). (t.name.name, t.kind.name)) in
+    own-place (bound_names (bindings_of ts)) i (omega (arith, h, length-names (bindings_of ts))) (fresh-at (bindings_of ts) [] ts i e (omega (arith, h, many)))
+
 pub well_listed :
     (ts : List TypedName) (above : List (List ℕ)) → types_faults (bindings_of ts) [] ts ≡ [] → ((k : List ℕ) → is_among above k ≡ is_among (bound_kinds (bindings_of ts)) k)
     → IsListed (bindings_of ts) above
 well_listed ts above e known =
     let chain = λ (k : List ℕ). one-chain (bindings_of ts) [] ts k e in
-    record { chain = chain; top = by (kind_of (bindings_of ts) object_name) refl chain; known = known }
+    record { chain = chain; top = by (kind_of (bindings_of ts) object_name) refl chain; known = known; places = own-places ts e }
   where
     by :
         (o : Option (List ℕ)) → kind_of (bindings_of ts) object_name ≡ o → ((k : List ℕ) → right_above (bindings_of ts) k ≡ one_above (kind_of (bindings_of ts) k) k)

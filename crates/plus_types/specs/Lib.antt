@@ -5,3 +5,4 @@ pub mod Faults
 pub mod Listed
 pub mod Known
 pub mod Ranks
+pub mod Jumps

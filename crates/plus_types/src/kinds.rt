@@ -3,6 +3,7 @@
 ghost use Rattle.std.specs.Prelude.{◌≡◌, ◌<◌, ◌^◌, [], ◌∷◌, ◌++◌, length, take, position, OnOk, IfSome, MatchOption, false};
 ghost use Rattle.std.specs.Str.{bytes_eq};
 ghost use Rattle.plus_types.specs.Types.{is_among, bound_names, kind_of};
+ghost use Rattle.plus_types.specs.Listed.{name_at};
 
 use indexmap::IndexMap;
 use smallvec::SmallVec;
@@ -65,6 +66,17 @@ impl Kinds {
         ensures within { IfSome result (λ i. i < length self.now) }
     {
         self.table.get_index_of(name)
+    }
+
+    /// The type of the name that has a number.
+    pub fn kind_at(&self, number: usize) -> Option<&[u8]>
+        ensures within { IfSome result (λ _. number < length self.now) }
+        ensures kind { IfSome result (λ k. kind_of self.now (name_at self.now number) ≡ Some k.now) }
+    {
+        match self.table.get_index(number) {
+            None => None,
+            Some((_, kind)) => Some(kind.as_slice()),
+        }
     }
 
     /// Whether a name is in the table.

@@ -1,11 +1,12 @@
 //! Which domains and problems are well typed.
 #![tactic(auto)]
 
-mod conditions;
+pub mod conditions;
 mod declarations;
 pub mod effects;
 pub mod faults;
 mod initial;
+mod jumps;
 pub mod kinds;
 pub mod known;
 mod loops;

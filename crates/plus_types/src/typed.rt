@@ -1,7 +1,7 @@
 //! A domain and a problem that are well typed.
 
 ghost use Rattle.std.specs.Prelude.{◌≡◌, [], ◌++◌, IsTrue, true, false, IfOk};
-ghost use Rattle.plus_types.specs.Faults.{Walks, type_faults, problem_faults, declaration_faults, rule_faults, types_faults, list_faults, heads_faults, schemas_faults, state_faults, domain_name_faults, is_well_typed, predicate_names, function_names, action_names, process_names, event_names};
+ghost use Rattle.plus_types.specs.Faults.{Walks, type_faults, problem_faults, declaration_faults, rule_faults, types_faults, list_faults, heads_faults, schemas_faults, state_faults, domain_name_faults, is_well_typed, predicate_names, function_names, action_names, process_names, event_names, problem_context};
 ghost use Rattle.plus_types.specs.Types.{bindings_of, objects_of};
 ghost use Rattle.plus_types.specs.Known.{context};
 
@@ -56,6 +56,26 @@ impl Typed {
         ensures { result.now ≡ self.now.problem }
     {
         &self.problem
+    }
+
+    /// What a form beside the problem may name: all types, objects, predicates and functions of the pair. Its faults are told as
+    /// the problem's.
+    pub fn known(&self) -> Known<'_>
+        ensures { context result ≡ problem_context self.now.domain self.now.problem }
+    {
+        Known {
+            types: &self.types,
+            objects: &self.objects,
+            predicates: Declared {
+                names: &self.predicates,
+                heads: self.domain.predicates.as_slice(),
+            },
+            functions: Declared {
+                names: &self.functions,
+                heads: self.domain.functions.as_slice(),
+            },
+            file: File::Problem,
+        }
     }
 }
 

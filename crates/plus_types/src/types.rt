@@ -8,6 +8,7 @@ ghost use Rattle.plus_types.specs.Faults.{Walks, listed_faults, types_faults};
 ghost use Rattle.plus_types.specs.Ranks.{AreSuspects};
 
 use crate::faults::{File, TypeFault, Wrong};
+use crate::jumps::Jumps;
 use crate::kinds::Kinds;
 use crate::loops::{finds_loop, suspects};
 use crate::names::{Names, is_name};
@@ -24,12 +25,13 @@ pub const OBJECT: &[u8; 6] = b"object";
 pub struct Types {
     listed: Kinds,
     above: Names,
+    jumps: Option<Jumps>,
 }
 
 impl Model for Types {
     ghost use Rattle.std.specs.Prelude.{List, ℕ};
     ghost use Rattle.std.specs.Coded.{coded_list, coded×, coded_ℕ};
-    ghost use Rattle.plus_types.specs.Listed.{IsListed};
+    ghost use Rattle.plus_types.specs.Jumps.{Holds};
 
     ghost Value = { List (List ℕ × List ℕ) };
 
@@ -37,7 +39,7 @@ impl Model for Types {
 
     ghost view = { λ t. t.listed };
 
-    ghost invariant = { λ t. IsListed t.listed t.above };
+    ghost invariant = { λ t. Holds t.listed t.above t.jumps };
 }
 
 impl Types {
@@ -61,7 +63,26 @@ impl Types {
         if is_name(high, low) {
             return true;
         }
+        if let Some(under) = self.is_under_by_jumps(low, high) {
+            return under;
+        }
         self.is_above(low, high)
+    }
+
+    // Whether a type is another, or is under it, where jumps tell.
+    fn is_under_by_jumps(&self, low: &[u8], high: &[u8]) -> Option<bool>
+        ensures { IfSome result (λ under. under ≡ is_under self.now low.now high.now) }
+    {
+        match &self.jumps {
+            None => None,
+            Some(jumps) => {
+                if high == OBJECT.as_slice() {
+                    None
+                } else {
+                    jumps.is_under(&self.listed, low, high)
+                }
+            }
+        }
     }
 
     /// All types that a type is, or is under, without repeats.
@@ -228,9 +249,8 @@ fn kinds(alloc: Global, types: &[TypedName]) -> Result<Names, AllocError>
     Ok(above)
 }
 
-/// Walks the types of a domain, and answers their table.
-#[tactic(auto, using(crate::proofs::SoundLemmas::well_listed))]
-pub fn walk(alloc: Global, types: &[TypedName]) -> Result<Types, TypeFault>
+// The listed types, each with the one above it.
+fn table(alloc: Global, types: &[TypedName]) -> Result<Kinds, TypeFault>
     ensures walks { Walks (types_faults (bindings_of types.now) [] types.now) result }
     ensures table { IfOk result (λ t. t ≡ bindings_of types.now) }
 {
@@ -239,9 +259,20 @@ pub fn walk(alloc: Global, types: &[TypedName]) -> Result<Types, TypeFault>
     'types: for member in types {
         listed(alloc, types, &suspects, &mut table, member)?;
     }
+    Ok(table)
+}
+
+/// Walks the types of a domain, and answers their table.
+pub fn walk(alloc: Global, types: &[TypedName]) -> Result<Types, TypeFault>
+    ensures walks { Walks (types_faults (bindings_of types.now) [] types.now) result }
+    ensures table { IfOk result (λ t. t ≡ bindings_of types.now) }
+{
+    let listed = table(alloc, types)?;
     let above = kinds(alloc, types)?;
+    let jumps = Jumps::build(alloc, types, &listed)?;
     Ok(Types {
-        listed: table,
+        listed,
         above,
+        jumps,
     })
 }

@@ -50,22 +50,24 @@ is_named (Compare sign) = false
 is_named Other = false
 is_named _ = true
 
-no_way : {A : Type 0} → false ≡ true → A
+pub no_way : {A : Type 0} → false ≡ true → A
 no_way e = absurd cc
 
 -- ---- tables
 
-abbrev Named : List (List ℕ × HeadWord) → Type 0
-Named [] = Unit {0}
-Named (x ∷ more) = (x.0 ≡ word_for x.1) × Named more
+module _ {A : Type 0} (word : A → List ℕ) where
+  -- a table in which each thing stands beside its word
+  abbrev pub Named : List (List ℕ × A) → Type 0
+  Named [] = Unit {0}
+  Named (x ∷ more) = (x.0 ≡ word x.1) × Named more
 
-look_word : (w : List ℕ) (table : List (List ℕ × HeadWord)) (rest h : HeadWord) → Named table → look w table rest ≡ h → (rest ≡ h) ⊎ (w ≡ word_for h)
-look_word w [] rest h n e = inl e
-look_word w (x ∷ more) rest h n e = at_test (look_word w more rest h n.1) (bytes_eq w x.0) refl e
-  where
-    at_test : (look w more rest ≡ h → (rest ≡ h) ⊎ (w ≡ word_for h)) → (b : Bool) → bytes_eq w x.0 ≡ b → cond b x.1 (look w more rest) ≡ h → (rest ≡ h) ⊎ (w ≡ word_for h)
-    at_test more true t e = inr ((bytes_eq-Decides w x.0).0 t ∙ n.0 ∙ ap word_for e)
-    at_test more false t e = more e
+  pub look_word : (w : List ℕ) (table : List (List ℕ × A)) (rest h : A) → Named table → look w table rest ≡ h → (rest ≡ h) ⊎ (w ≡ word h)
+  look_word w [] rest h n e = inl e
+  look_word w (x ∷ more) rest h n e = at_test (look_word w more rest h n.1) (bytes_eq w x.0) refl e
+    where
+      at_test : (look w more rest ≡ h → (rest ≡ h) ⊎ (w ≡ word h)) → (b : Bool) → bytes_eq w x.0 ≡ b → cond b x.1 (look w more rest) ≡ h → (rest ≡ h) ⊎ (w ≡ word h)
+      at_test more true t e = inr ((bytes_eq-Decides w x.0).0 t ∙ n.0 ∙ ap word e)
+      at_test more false t e = more e
 
 abbrev Passing : (HeadWord → Bool) → List (List ℕ × HeadWord) → Type 0
 Passing t [] = Unit {0}
@@ -79,10 +81,10 @@ look_passes t w (x ∷ more) rest p o = at_test (look_passes t w more rest p.1 o
     at_test q true = p.0
     at_test q false = q
 
-changes_named : Named changes
+changes_named : Named word_for changes
 changes_named = (refl, (refl, (refl, (refl, (refl, tt)))))
 
-connectives_named : Named connectives
+connectives_named : Named word_for connectives
 connectives_named = (refl, (refl, (refl, (refl, (refl, (refl, (refl, tt)))))))
 
 named_word : (w : List ℕ) → is_named (word_head w) ≡ true
@@ -92,7 +94,7 @@ named_word w =
 
 word_of : (w : List ℕ) (h : HeadWord) → word_head w ≡ h → (Plain ≡ h) ⊎ (w ≡ word_for h)
 word_of w h e =
-    ⊎_elim (λ o. look_word w changes Plain h changes_named o) (λ o. inr o) (look_word w connectives (look w changes Plain) h connectives_named e)
+    ⊎_elim (λ o. look_word word_for w changes Plain h changes_named o) (λ o. inr o) (look_word word_for w connectives (look w changes Plain) h connectives_named e)
 
 -- ---- what a head says
 

@@ -56,6 +56,10 @@ plain_of = token_of is_plain
 abbrev pub word_of : List ℕ → ℕ → List Item → Read Piece
 word_of w = token_of (is_word w)
 
+-- a number without a sign
+abbrev pub time_of : ℕ → List Item → Read Piece
+time_of = token_of is_time
+
 -- whether a time comes next, as in a timed literal
 abbrev pub is_time_read : Read Piece → Bool
 is_time_read (Ok p) = is_time p.0

@@ -195,9 +195,9 @@ pub fn next(alloc: Global, reader: &mut Reader<'_>, room: u8) -> Result<CondTree
     inside(alloc, reader, room, start.span)
 }
 
-// The condition that comes next, in a box.
+/// The condition that comes next, in a box.
 #[cycle(cond)]
-fn boxed(alloc: Global, reader: &mut Reader<'_>, room: u8) -> Result<Box<CondTree>, TextFault>
+pub fn boxed(alloc: Global, reader: &mut Reader<'_>, room: u8) -> Result<Box<CondTree>, TextFault>
     ensures gives { Gives (λ c. c.value) reader.new result
         (form_next room (cond_at room) reader.old) }
     ensures shorter { OnOk result (length reader.new < length reader.old) }

@@ -4,7 +4,7 @@ ghost use Rattle.std.specs.Prelude.{◌≡◌, ◌==◌, ◌&&◌, true, ◌<◌
 ghost use Rattle.plus_tokens.specs.Lowered.{lowered};
 ghost use Rattle.plus_tokens.specs.Items.{items_of};
 ghost use Rattle.plus_parser.specs.Phrases.Reading.{Gives, is_open, next_of};
-ghost use Rattle.plus_parser.specs.Phrases.Grammar.{time_ahead, token_of, open_of, close_of, name_of, plain_of, word_of};
+ghost use Rattle.plus_parser.specs.Phrases.Grammar.{time_of, time_ahead, token_of, open_of, close_of, name_of, plain_of, word_of};
 ghost use Rattle.plus_tokens.specs.Seen.{seen};
 
 use crate::phrases::words::{HeadWord, head_of, is_close, is_open, is_time, is_word};
@@ -120,6 +120,19 @@ impl<'a> Reader<'a> {
     {
         match self.next(room) {
             Ok(token) if matches!(head_of(&token), HeadWord::Plain) => Ok(token),
+            Ok(token) => Err(TextFault::Form { span: token.span }),
+            Err(fault) => Err(fault),
+        }
+    }
+
+    /// The number without a sign that comes next.
+    #[tactic(auto, unfolding(crate::specs::Phrases::Grammar::token_of))]
+    pub fn time(&mut self, room: u8) -> Result<Seen<'a>, TextFault>
+        ensures gives { Gives seen self.new result (time_of room self.old) }
+        ensures shorter { OnOk result (length self.new < length self.old) }
+    {
+        match self.next(room) {
+            Ok(token) if is_time(&token) => Ok(token),
             Ok(token) => Err(TextFault::Form { span: token.span }),
             Err(fault) => Err(fault),
         }

@@ -1,28 +1,15 @@
-use Rattle.std.proofs.Common.{refl, ◌++◌, [], ◌∷◌, ◌∙◌, ap}
-use Rattle.std.proofs.lemmas.Result.{err_from_is_err_and}
-use Rattle.plus_types.specs.Types.{bindings_of, bound_names}
-use Rattle.plus_types.specs.Faults.{listed_faults, types_faults}
-use Rattle.plus_types.proofs.WalkLemmas.{walk_err}
-use Rattle.plus_types.proofs.TypesLemmas.{take-past, drop-past}
+use Rattle.std.proofs.Common.{refl}
+use Rattle.plus_types.specs.Types.{bindings_of, bound_kinds}
 use Rattle.plus_types.proofs.SoundLemmas.{well_listed}
-use Rattle.plus_types.proofs.RankLemmas.{listed-here}
 use Rattle.plus_types.proofs.types.walk.Goals as goal
 
-pub returns-in_err-listed-clause-walks : goal.returns-in_err-listed-clause-walks
-returns-in_err-listed-clause-walks c =
-    let p = err_from_is_err_and c.from_residual-in_err-listed.result c.from_residual-in_err-listed.ensures.1 in
-    let bs = bindings_of c.args.types.now in
-    let before = bound_names c.types.table in
-    rw (p.1, p.2) (walk_err _ (types_faults bs before) (listed_faults bs before) (λ t ts. types_faults bs (before ++ t.name.name ∷ []) ts) (λ t ts. refl)
-    c.args.types.now c.types.member-index c.member-item.result _ c.types-test.true c.member-item.is c.types.invariant.walked c.in_err-listed.ensures.walks)
+pub build-requires-clause-listed : goal.build-requires-clause-listed
+build-requires-clause-listed c =
+    let types = c.args.types.now in
+    rw c.in_ok-listed.ensures.table (well_listed types (bound_kinds (bindings_of types)) c.in_ok-listed.ensures.walks (λ k. refl))
 
 pub invariant_of-result : goal.invariant_of-result
-invariant_of-result c =
-    let past = take-past c.args.types.now c.types.member-index c.types-test.false in
-    let t = rw past at c.types.invariant.table in
-    let bs = bindings_of c.args.types.now in
-    let done = c.types.invariant.walked ∙ ap (types_faults bs (bound_names c.types.table)) (drop-past c.args.types.now c.types.member-index c.types-test.false) in
-    rw t (well_listed c.args.types.now c.in_ok-above.above done c.in_ok-above.ensures)
-
-pub listed-requires-clause-listed : goal.listed-requires-clause-listed
-listed-requires-clause-listed c = listed-here c.args.types.now c.types.member-index c.member-item.result c.types-test.true c.member-item.is
+invariant_of-result c = record {
+  listed = rw c.in_ok-listed.ensures.table (well_listed c.args.types.now c.in_ok-above.above c.in_ok-listed.ensures.walks c.in_ok-above.ensures);
+  jumps = c.in_ok-jumps.ensures;
+}

@@ -3,7 +3,7 @@ use Rattle.std.proofs.Common.{◌≡◌, [], take, drop}
 use Rattle.plus_types.specs.Types.{bindings_of, bound_names}
 use Rattle.plus_types.specs.Ranks.{AreSuspects}
 use Rattle.plus_types.specs.Faults.{types_faults}
-use Rattle.plus_types.proofs.types.walk.Given as goal
+use Rattle.plus_types.proofs.types.table.Given as goal
 
 -- a listed type that is no suspect is not above itself; those walked so far have no fault, and are in the table
 abbrev pub invariant-types : goal.invariant-types
