@@ -23,9 +23,9 @@ use Rattle.plus_state.specs.Stops.{StopIs}
 use Rattle.plus_state.specs.declared.walk.WalkStop.{WalkStop}
 use Rattle.plus_state.specs.declared.walk.WalkStop.TheVariants as walk_stop
 use Rattle.plus_state.specs.declared.term.EventId.{EventId}
-use Rattle.plus_state.specs.Numbers.{AreMembers, event_numbers}
-use Rattle.plus_state.specs.Walk.{event_conditions, held_among, OthersFalse, WalkStops}
-use Rattle.plus_state.proofs.LookLemmas.{look_finds}
+use Rattle.plus_state.specs.Numbers.{event_numbers}
+use Rattle.plus_state.specs.Walk.{event_conditions}
+use Rattle.plus_state.specs.Looked.{WalkStops}
 use Rattle.plus_state.proofs.LookingLemmas.{numbers_by}
 use Rattle.plus_state.proofs.Testing.{pass_none, pass_append, fail_left, fail_right}
 use Rattle.plus_state.proofs.ApplyLemmas.{add_steps-append, dues-append}
@@ -53,13 +53,6 @@ module _ {Q : Type 0} (v : Q → Fraction) where
 pub firing_found : (P : Problem) (s : State) (found : List ℕ) → found ≡ numbers_of (λ c. holds c s) 0 (event_conditions P) → found ≡ firing P s
 unfolding firing
 firing_found P s found h = h ∙ numbers_by (λ (e : Event). e.condition) s 0 P.events
-
--- the events that a look at some of them finds, where no other holds
-pub firing_among : (P : Problem) (s : State) (looked found : List ℕ) → AreMembers (length (event_conditions P)) looked → OthersFalse (event_conditions P) s looked → found ≡ held_among (event_conditions P) looked s → found ≡ firing P s
-firing_among P s looked found m o e = firing_found P s found (e ∙ look_finds (event_conditions P) s looked m o)
-
-pub all_conditions : {Q : Type 0} {E : Ghosts Q} (v : Q → Fraction) (g : Ground Q E) → length (event_conditions (problem_of v g)) ≡ length g.events.items
-all_conditions v g = length-map (problem_of v g).events (λ (e : Event). e.condition) ∙ length-map g.events.items (event_of v)
 
 pub walk_stops : {Q : Type 0} (v : Q → Fraction) (fits : Fraction → Type 0) (ns : List Node) (stop : WalkStop Q) → WalkStops v fits ns stop → ConditionStops v fits ns (of_walk stop)
 walk_stops v fits ns (walk_stop.Number o) u = u

@@ -64,11 +64,11 @@ from_all : (n : ℕ) (es : List ℕ) → All (λ e. e < n) es → Below n es
 from_all n [] h = tt
 from_all n (e ∷ es) h = (All-head (λ e. e < n) e es h, from_all n es (All-tail (λ e. e < n) e es h))
 
-in_append : (xs ys : List ℕ) (k : ℕ) → is_in (xs ++ ys) k ≡ is_in xs k || is_in ys k
+pub in_append : (xs ys : List ℕ) (k : ℕ) → is_in (xs ++ ys) k ≡ is_in xs k || is_in ys k
 in_append [] ys k = refl
 in_append (x ∷ xs) ys k = ap (λ (b : Bool). nat_eq k x || b) (in_append xs ys k) ∙ sym (or_assoc (nat_eq k x) (is_in xs k) (is_in ys k))
 
-find_same : (f g : ℕ → Bool) (xs : List ℕ) → ((k : ℕ) → f k ≡ g k) → find f xs ≡ find g xs
+pub find_same : (f g : ℕ → Bool) (xs : List ℕ) → ((k : ℕ) → f k ≡ g k) → find f xs ≡ find g xs
 find_same f g [] h = refl
 find_same f g (x ∷ xs) h = ap₂ (λ (b : Bool) (o : Option ℕ). cond b (Some x) o) (h x) (find_same f g xs h)
 

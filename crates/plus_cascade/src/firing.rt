@@ -6,8 +6,9 @@ ghost use Rattle.plus_state.specs.Fits.{StateFits};
 ghost use Rattle.plus_state.specs.Changes.{RisesIn};
 ghost use Rattle.plus_state.specs.Asked.{AllFit};
 ghost use Rattle.plus_state.specs.Applies.{ChangesJointly, LeavesJointly};
-ghost use Rattle.plus_state.specs.Numbers.{AreMembers, event_numbers};
-ghost use Rattle.plus_state.specs.Walk.{event_conditions, OthersFalse, OthersPass};
+ghost use Rattle.plus_state.specs.Numbers.{event_numbers};
+ghost use Rattle.plus_state.specs.Walk.{event_conditions};
+ghost use Rattle.plus_state.specs.Looked.{events_looked, AreKnown};
 ghost use Rattle.plus_cascade.specs.Steps.{condition_nodes};
 ghost use Rattle.plus_cascade.specs.Rounds.{ConditionStops, of_walk};
 
@@ -15,11 +16,12 @@ use crate::rounds::CascadeStop;
 use plus_number::exact::Exact;
 use plus_state::changes::Changes;
 use plus_state::joint_effect::{add_dues, changes_by, joint_changes_in};
+use plus_state::looked::Looked;
 use plus_state::outcome::JointStop;
 use plus_state::problem::Ground;
 use plus_state::states::State;
 use plus_state::term::EventId;
-use plus_state::walk::{WalkStop, holding_in, holding_of_all};
+use plus_state::walk::{WalkStop, holding_in};
 use std::alloc::Global;
 
 // The stop of a walk as that of a round.
@@ -32,43 +34,23 @@ fn walk_stop<Q: Exact>(stop: WalkStop<Q>) -> CascadeStop<Q>
     }
 }
 
-// The events whose condition holds, in ground order.
-pub fn firing<Q: Exact>(
-    alloc: Global,
-    ground: &Ground<Q>,
-    state: &State<Q>,
-) -> Result<Vec<EventId>, CascadeStop<Q>>
-    requires state { StateFits (length (ground.now.atoms.items)) (length (ground.now.fluents.items)) state.now }
-    ensures { MatchResult result
-        (λ events. AllFit Q.fits (condition_nodes ((problem_of Q.value ground.now).events) state.now)
-        × (event_numbers events.items ≡ firing_of (problem_of Q.value ground.now) state.now))
-        (λ stop. ConditionStops Q.value Q.fits (condition_nodes ((problem_of Q.value ground.now).events) state.now) stop) }
-{
-    match holding_of_all(alloc, ground, state) {
-        Ok(events) => Ok(events),
-        Err(stop) => Err(walk_stop(stop)),
-    }
-}
-
 // Puts the events whose condition holds, in ground order, in place of those found before, whose memory it
-// takes, by a look at some events, where of all others it is known that they do not hold and that what
-// they ask passes. After a refusal what is found is not to be used.
-pub fn firing_among<Q: Exact>(
+// takes. Only some are looked at: of all others it is known that they do not hold and that what they ask
+// passes. After a refusal what is found is not to be used.
+pub fn firing<Q: Exact>(
     ground: &Ground<Q>,
     state: &State<Q>,
-    looked_at: &[EventId],
+    looked: Looked<'_, EventId>,
     found: &mut Vec<EventId>,
 ) -> Result<(), CascadeStop<Q>>
     requires state { StateFits (length (ground.now.atoms.items)) (length (ground.now.fluents.items)) state.now }
-    requires members { AreMembers (length (ground.now.events.items)) (event_numbers looked_at.now) }
-    requires pass { OthersPass Q.fits (event_conditions (problem_of Q.value ground.now)) state.now (event_numbers looked_at.now) }
-    requires silent { OthersFalse (event_conditions (problem_of Q.value ground.now)) state.now (event_numbers looked_at.now) }
+    requires known { AreKnown Q.fits (event_conditions (problem_of Q.value ground.now)) state.now (events_looked looked) }
     ensures { MatchResult result
         (λ _. AllFit Q.fits (condition_nodes ((problem_of Q.value ground.now).events) state.now)
         × (event_numbers found.new.items ≡ firing_of (problem_of Q.value ground.now) state.now))
         (λ stop. ConditionStops Q.value Q.fits (condition_nodes ((problem_of Q.value ground.now).events) state.now) stop) }
 {
-    match holding_in(ground, state, looked_at, found) {
+    match holding_in(ground, state, looked, found) {
         Ok(()) => Ok(()),
         Err(stop) => Err(walk_stop(stop)),
     }

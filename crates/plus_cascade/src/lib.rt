@@ -11,4 +11,4 @@ pub mod laws;
 pub mod rounds;
 
 pub use cascade::{Cascade, begin};
-pub use rounds::{CascadeStop, DueRound, FiredRound, round, round_changes, round_changes_among};
+pub use rounds::{CascadeStop, DueRound, FiredRound, due_round, round, round_changes};

@@ -5,15 +5,17 @@ ghost use Rattle.plus_state.specs.Fits.{StateFits};
 ghost use Rattle.plus_model.specs.Firing.{firing as firing_of};
 ghost use Rattle.plus_state.specs.Asked.{AllFit};
 ghost use Rattle.plus_state.specs.Changes.{RisesIn};
-ghost use Rattle.plus_state.specs.Numbers.{AreMembers, event_numbers};
-ghost use Rattle.plus_state.specs.Walk.{event_conditions, OthersFalse, OthersPass};
+ghost use Rattle.plus_state.specs.Numbers.{event_numbers};
+ghost use Rattle.plus_state.specs.Walk.{event_conditions};
+ghost use Rattle.plus_state.specs.Looked.{events_looked, AreKnown};
 ghost use Rattle.plus_cascade.specs.Steps.{condition_nodes};
 ghost use Rattle.plus_cascade.specs.Rounds.{Rounds, RoundChanges, if_due, of_joint, set_after};
 
 use crate::cascade::Cascade;
-use crate::firing::{changed_together_in, firing, firing_among};
+use crate::firing::{changed_together_in, firing};
 use plus_number::exact::Exact;
 use plus_state::changes::Changes;
+use plus_state::looked::Looked;
 use plus_state::outcome::JointStop;
 use plus_state::problem::Ground;
 use plus_state::states::State;
@@ -120,43 +122,40 @@ pub fn round_changes<Q: Exact>(
     ensures told { RoundChanges Q.value Q.fits (problem_of Q.value ground.now) cascade.now state.now result }
     ensures rises { IfOk result (λ o. IfSome o (λ r. RisesIn state.now r.changes)) }
 {
-    match firing(alloc, ground, state) {
+    let mut round = DueRound::none(alloc);
+    match due_round(
+        alloc,
+        cascade,
+        ground,
+        state,
+        Looked::all(ground),
+        &mut round,
+    ) {
         Err(stop) => Err(stop),
-        Ok(events) => {
-            let mut round = DueRound {
-                events,
-                changes: Changes::none(alloc),
-            };
-            match fire(alloc, cascade, ground, state, &mut round) {
-                Err(stop) => Err(stop),
-                Ok(true) => Ok(Some(round)),
-                Ok(false) => Ok(None),
-            }
-        }
+        Ok(true) => Ok(Some(round)),
+        Ok(false) => Ok(None),
     }
 }
 
-/// Whether a round is due, by a look at some of the events, in ground order: of all others it is known
-/// that they do not hold and that what they ask passes. Then the round stands in what was lent, in place
-/// of another one, whose memory it takes. But for want of memory the answer is that of `round_changes`,
-/// whatever was lent. Where no round is due, and after a refusal, what stands there tells nothing.
-pub fn round_changes_among<Q: Exact>(
+/// Whether a round is due, by a look at some of the events: of all others it is known that they do not hold
+/// and that what they ask passes. Then the round stands in what was lent, in place of another one, whose
+/// memory it takes. But for want of memory the answer is that of `round_changes`, whatever was lent. Where no
+/// round is due, and after a refusal, what stands there tells nothing.
+pub fn due_round<Q: Exact>(
     alloc: Global,
     cascade: &Cascade,
     ground: &Ground<Q>,
     state: &State<Q>,
-    looked_at: &[EventId],
+    looked: Looked<'_, EventId>,
     round: &mut DueRound<Q>,
 ) -> Result<bool, CascadeStop<Q>>
     requires state { StateFits (length (ground.now.atoms.items)) (length (ground.now.fluents.items)) state.now }
     requires events { length cascade.now ≡ length (ground.now.events.items) }
-    requires members { AreMembers (length (ground.now.events.items)) (event_numbers looked_at.now) }
-    requires pass { OthersPass Q.fits (event_conditions (problem_of Q.value ground.now)) state.now (event_numbers looked_at.now) }
-    requires silent { OthersFalse (event_conditions (problem_of Q.value ground.now)) state.now (event_numbers looked_at.now) }
+    requires known { AreKnown Q.fits (event_conditions (problem_of Q.value ground.now)) state.now (events_looked looked) }
     ensures told { RoundChanges Q.value Q.fits (problem_of Q.value ground.now) cascade.now state.now (if_due round.new result) }
     ensures rises { IfOk (if_due round.new result) (λ o. IfSome o (λ r. RisesIn state.now r.changes)) }
 {
-    match firing_among(ground, state, looked_at, &mut round.events) {
+    match firing(ground, state, looked, &mut round.events) {
         Err(stop) => Err(stop),
         Ok(()) => fire(alloc, cascade, ground, state, round),
     }

@@ -1,24 +1,21 @@
 -- What is known after each accepted call.
-use Rattle.std.proofs.Common.{◌≡◌, ℕ, ◌<◌, false, List, [], refl, ap, sym, subst, ◌∙◌, length}
+use Rattle.std.proofs.Common.{◌≡◌, ℕ, ◌<◌, List, [], refl, ap, sym, subst, ◌∙◌, length}
 use Rattle.std.proofs.lemmas.List.{length-map}
 use Rattle.std.proofs.lemmas.List.Elements.{All-nil}
 use Rattle.std.specs.Prelude.{Option, Some, None, Ok, IfSome, IsSomeAnd, option_map, Vec}
 use Rattle.std.specs.declared.alloc.Global.{Global}
 use Rattle.plus_state.specs.declared.term.EventId.{EventId}
-use Rattle.plus_model.specs.History.{view_after, Round as Rounds}
-use Rattle.plus_cascade.specs.declared.rounds.DueRound.{DueRound}
-use Rattle.plus_timeline.specs.Due.{DueTold}
-use Rattle.plus_timeline.proofs.Advancing.{fires}
 use Rattle.plus_fraction.specs.Fraction.{Fraction}
-use Rattle.plus_model.specs.Terms.{Action, Event, Process, State, Problem}
+use Rattle.plus_model.specs.Terms.{Action, Event, State, Problem}
 use Rattle.plus_model.specs.Value.{holds}
 use Rattle.plus_model.specs.Firing.{firing}
 use Rattle.plus_model.specs.Running.{IsRising}
 use Rattle.plus_model.proofs.Decide.{rising-numbers}
 use Rattle.plus_model.specs.Trajectory.{least}
-use Rattle.plus_state.specs.Changes.{Changes, patched, LeadsTo}
+use Rattle.plus_state.specs.Changes.{Changes, LeadsTo}
 use Rattle.plus_state.specs.Numbers.{AreMembers}
-use Rattle.plus_state.specs.Walk.{event_conditions, process_conditions, OthersFalse}
+use Rattle.plus_state.specs.Walk.{event_conditions, process_conditions}
+use Rattle.plus_state.specs.Looked.{OthersFalse}
 use Rattle.plus_reads.specs.Tables.{ReadAny}
 use Rattle.plus_crossing.specs.Rated.{moving_of}
 use Rattle.plus_settle.specs.Still.Others.{OthersStill}
@@ -31,14 +28,10 @@ use Rattle.plus_reads.proofs.Unchanged.{quiet_stays}
 use Rattle.plus_cascade.proofs.SetLemmas.{firing_all}
 use Rattle.plus_timeline.specs.declared.next.Next.{Next}
 use Rattle.plus_timeline.specs.declared.next.Next.TheVariants.{Round, Run, Entry, There}
-use Rattle.plus_timeline.specs.Timeline.{TimelineView, begun, event_numbers}
-use Rattle.plus_number.specs.declared.exact.Exact.{Ghosts}
-use Rattle.plus_state.specs.declared.problem.Ground.{Ground}
-use Rattle.plus_state.specs.View.{process_of, problem_of}
-use Rattle.plus_timeline.specs.Serving.{Serves}
+use Rattle.plus_timeline.specs.Timeline.{TimelineView, event_numbers}
 use Rattle.plus_timeline.specs.Act.{DoesAct}
 use Rattle.plus_timeline.specs.Advance.{AdvanceTold}
-use Rattle.plus_timeline.proofs.Serving.{begun_serves, advance_serves, act_serves}
+use Rattle.plus_timeline.proofs.Serving.{advance_serves, act_serves}
 use Rattle.plus_indexed.specs.Indexed.{IndexedView, Kept}
 use Rattle.plus_indexed.specs.Woken.{AreWoken, AddsReaders}
 use Rattle.plus_indexed.specs.Waking.{WokenBy, StillWoken, EventsAfter, ProcessesWoken, ProcessesAfter}
@@ -183,11 +176,6 @@ still_so line kept i j (Some b) (Some v) c m n e l h w k = record {
   by = woken_so line kept i j (Some v) c (event_numbers b.items) m e l h w k;
 }
 
-pub fires_as : {Q : Type 0} (value : Q → Fraction) (fits : Fraction → Type 0) (P : Problem) (u : Fraction) (T L new : TimelineView) → T ≡ L → L.ended ≡ false → T.now.running ≡ None → (r : DueRound Q) → DueTold value fits P L.now.fired L.now.state (Ok (Some r)) → new ≡ record T { now = view_after T.now (Rounds (event_numbers r.events.items) (patched T.now.state r.changes)); before = T.now.state; events = event_numbers r.events.items; answer = Some Round; acted = false } → AdvanceTold value fits P u L new (Ok Round)
-fires_as value fits P u T L new e g m r d n =
-    fires value fits P u L g new (subst (λ (t : TimelineView). t.now.running ≡ None) e m) r d
-    (subst (λ (t : TimelineView). new ≡ record t { now = view_after t.now (Rounds (event_numbers r.events.items) (patched t.now.state r.changes)); before = t.now.state; events = event_numbers r.events.items; answer = Some Round; acted = false }) e n)
-
 -- what stands still along a running set
 pub events_still : (fits : Fraction → Type 0) (P : Problem) (s : State) (rs : List Fraction) (i : Index) (listed : List ℕ) → Indexes P i → IsAtRest fits P s → ReadAny i.events (moving_of rs) listed → OthersStill fits (event_conditions P) s rs listed
 events_still fits P s rs i listed x q r = record { stand = stands_by (event_conditions P) i.events rs listed x.events r; pass = λ k c g n. q.events.pass k c g refl }
@@ -197,9 +185,6 @@ events_silent fits P s listed q k c g n = q.events.silent k c g refl
 
 pub processes_still : (fits : Fraction → Type 0) (P : Problem) (s : State) (rs : List Fraction) (i : Index) (listed : List ℕ) → Indexes P i → IsAtRest fits P s → ReadAny i.processes (moving_of rs) listed → OthersStill fits (process_conditions P) s rs listed
 processes_still fits P s rs i listed x q r = record { stand = stands_by (process_conditions P) i.processes rs listed x.processes r; pass = λ k c g n. q.processes k c g refl }
-
-pub all_process_conditions : {Q : Type 0} {E : Ghosts Q} (v : Q → Fraction) (g : Ground Q E) → length (process_conditions (problem_of v g)) ≡ length g.processes.items
-all_process_conditions v g = length-map (problem_of v g).processes (λ (p : Process). p.condition) ∙ length-map g.processes.items (process_of v)
 
 -- the processes that wait after a step, by the code's fields
 pub woken_by : (v : IndexedView) (waiting result : Option (List ℕ)) (t : Readers) (c : Changes) → waiting ≡ v.kept.processes → t ≡ v.kept.index.processes → LeadsTo v.line.before c v.line.now.state → IfSome result (λ after. IsSomeAnd waiting (λ before. AddsReaders t c before after)) → (w : List ℕ) → result ≡ Some w → ProcessesWoken v w

@@ -1,5 +1,5 @@
 pub mod Quieting
 pub mod Present
 pub mod Knowing
-pub mod Resting
 pub mod Beginning
+pub mod MovingLemmas

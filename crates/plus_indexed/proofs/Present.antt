@@ -10,10 +10,10 @@ use Rattle.plus_model.specs.Running.{IsRising, holding}
 use Rattle.plus_model.proofs.Members.{in_first, in_later, in_cases}
 use Rattle.plus_state.specs.Asked.{AllFit}
 use Rattle.plus_state.specs.Changes.{Changes, LeadsTo}
-use Rattle.plus_state.specs.Numbers.{AreMembers, process_numbers}
+use Rattle.plus_state.specs.Numbers.{process_numbers}
 use Rattle.plus_state.specs.declared.term.ProcessId.{ProcessId}
-use Rattle.plus_state.specs.Walk.{process_conditions, held_among, OthersFalse, OthersPass}
-use Rattle.plus_state.proofs.LookLemmas.{look_finds}
+use Rattle.plus_state.specs.Walk.{process_conditions}
+use Rattle.plus_state.specs.Looked.{AreKnown}
 use Rattle.plus_state.proofs.LookingLemmas.{numbers_by}
 use Rattle.plus_reads.specs.Tables.{AreBelow, atoms_changed, fluents_changed}
 use Rattle.plus_reads.specs.Quiet.{OthersQuiet}
@@ -24,10 +24,11 @@ use Rattle.plus_reads.proofs.Sets.{false_unless}
 use Rattle.plus_reads.proofs.Unchanged.{quiet_stays}
 use Rattle.plus_reads.proofs.Waking.{Gathers, wakes}
 use Rattle.plus_settle.specs.Settles.{condition_nodes}
-use Rattle.plus_settle.proofs.ChoicesLemmas.{holding_found, holding_members}
+use Rattle.plus_settle.proofs.ChoicesLemmas.{holding_members}
 use Rattle.plus_indexed.specs.Woken.{AddsReaders}
 use Rattle.plus_indexed.specs.Knows.{MayHold}
-use Rattle.plus_indexed.proofs.Quieting.{collected, asked_one}
+use Rattle.plus_settle.proofs.ShortLemmas.{collected}
+use Rattle.plus_indexed.proofs.Quieting.{asked_one}
 
 -- each member of a list is in it
 in_at : (xs : List ℕ) (i d : ℕ) → i < length xs → is_in xs (get_or xs i d) ≡ true
@@ -41,10 +42,6 @@ at_in T (x ∷ xs) k a h = elim (in_cases k x xs h) [
   | inl e ↦ subst T (sym e) (a 0 x (omega arith))
   | inr i ↦ at_in T xs k (λ j d l. a (suc j) d (omega arith)) i
 ]
-
--- the processes that a look at some of them finds, where no other holds
-pub present_found : (P : Problem) (s : State) (looked found : List ℕ) → AreMembers (length (process_conditions P)) looked → OthersFalse (process_conditions P) s looked → found ≡ held_among (process_conditions P) looked s → found ≡ holding P s
-present_found P s looked found m o e = holding_found P s found (e ∙ look_finds (process_conditions P) s looked m o)
 
 holds_where : (P : Problem) (s : State) (k : ℕ) (c : Condition) → slice_get (process_conditions P) k ≡ Some c → is_in (holding P s) k ≡ holds c s
 holds_where P s k c g =
@@ -64,20 +61,18 @@ those_hold fits P s present a e = record {
 
 -- the same in order
 module _ (fits : Fraction → Type 0) (P : Problem) (s : State) (waiting listed : List ℕ) (m : MayHold fits P s waiting) (same : (k : ℕ) → is_in listed k ≡ true ↔ is_in waiting k ≡ true) where
-  pub in_order_members : IsRising 0 listed → AreMembers (length (process_conditions P)) listed
-  in_order_members r = record {
-    inside = λ i d l. at_in (λ k. k < length (process_conditions P)) waiting (get_or listed i d) m.inside ((same (get_or listed i d)).0 (in_at listed i d l));
-    rising = r;
-  }
-
   unlisted : (k : ℕ) → is_in listed k ≡ false → is_in waiting k ≡ false
   unlisted k n = false_unless (is_in waiting k) (is_in listed k) ((same k).1) n
 
-  pub in_order_pass : OthersPass fits (process_conditions P) s listed
-  in_order_pass k c g n = m.quiet.pass k c g (unlisted k n)
-
-  pub in_order_silent : OthersFalse (process_conditions P) s listed
-  in_order_silent k c g n = m.quiet.silent k c g (unlisted k n)
+  pub in_order_known : IsRising 0 listed → AreKnown fits (process_conditions P) s listed
+  in_order_known r = record {
+    members = record {
+      inside = λ i d l. at_in (λ k. k < length (process_conditions P)) waiting (get_or listed i d) m.inside ((same (get_or listed i d)).0 (in_at listed i d l));
+      rising = r;
+    };
+    pass = λ k c g n. m.quiet.pass k c g (unlisted k n);
+    silent = λ k c g n. m.quiet.silent k c g (unlisted k n);
+  }
 
 -- after changes the readers of what is changed may hold too
 pub may_hold_after : (fits : Fraction → Type 0) (P : Problem) (i : Index) (s t : State) (c : Changes) (before after : List ℕ) → Indexes P i → LeadsTo s c t → AddsReaders i.processes c before after → MayHold fits P s before → MayHold fits P t after

@@ -1,20 +1,18 @@
 -- What the tests of a moment tell of all events: those that fire aside, each is known not to hold.
-use Rattle.std.proofs.Common.{◌≡◌, ℕ, ◌+◌, zero, suc, Bool, true, false, List, [], ◌∷◌, refl, ap, sym, subst, ◌∙◌, arith}
+use Rattle.std.proofs.Common.{◌≡◌, ℕ, ◌+◌, zero, suc, Bool, List, [], ◌∷◌, refl, ap, sym, subst, ◌∙◌, arith}
 use Rattle.std.specs.Prelude.{Some, None, slice_get, if◌then◌else◌}
 use Rattle.plus_fraction.specs.Fraction.{Fraction, ◌<ℚ◌}
 use Rattle.plus_model.specs.Terms.{Condition, Event, State, Problem}
 use Rattle.plus_model.specs.Value.{holds}
 use Rattle.plus_model.specs.Firing.{numbers_of, firing, is_in}
 use Rattle.plus_model.specs.History.{View}
-use Rattle.plus_model.proofs.Members.{in_first}
-use Rattle.plus_model.proofs.Decide.{rising-numbers}
 use Rattle.plus_state.specs.Asked.{NodeFits, AllFit}
 use Rattle.plus_state.specs.Tests.{tests_of}
-use Rattle.plus_state.specs.Walk.{event_conditions, process_conditions, all_asked, OthersPass}
+use Rattle.plus_state.specs.Walk.{event_conditions, process_conditions, all_asked}
+use Rattle.plus_state.specs.Looked.{OthersPass}
 use Rattle.plus_state.proofs.Testing.{pass_left, pass_right, carry_back}
 use Rattle.plus_state.proofs.LookingLemmas.{numbers_by}
 use Rattle.plus_reads.specs.Quiet.{OthersQuiet}
-use Rattle.plus_reads.proofs.Sets.{none_below, not_first}
 use Rattle.plus_cascade.specs.Steps.{condition_nodes}
 use Rattle.plus_stretch.specs.Tests.{Passes, AllPass}
 use Rattle.plus_stretch.proofs.Layers.{nodes_carry}
@@ -27,28 +25,9 @@ use Rattle.plus_settle.specs.Settles as settle
 use Rattle.plus_settle.specs.Steps as settle_steps
 use Rattle.plus_settle.proofs.StepsLemmas.{nodes_carry as node_steps_carry}
 use Rattle.plus_timeline.proofs.Rounds.{at_moment}
+use Rattle.plus_settle.proofs.ShortLemmas.{collected}
 
 -- a number is collected where its member passes
-in_if : (b : Bool) (k : ℕ) (ns : List ℕ) → is_in ns k ≡ false → is_in (if b then k ∷ ns else ns) k ≡ b
-in_if true k ns h = in_first k ns
-in_if false k ns h = h
-
-later_if : (b : Bool) (j k : ℕ) (ns : List ℕ) → (k ≡ j → ⊥) → is_in (if b then j ∷ ns else ns) k ≡ is_in ns k
-later_if true j k ns h = not_first k j ns h
-later_if false j k ns h = refl
-
-pub collected : {A : Type 0} (test : A → Bool) (j : ℕ) (xs : List A) (i : ℕ) (x : A) → slice_get xs i ≡ Some x → is_in (numbers_of test j xs) (j + i) ≡ test x
-collected test j [] i x e = cc
-collected test j (y ∷ xs) zero x e =
-    let n : j + 0 ≡ j = omega arith in
-    let same : y ≡ x = cc in
-    subst (λ k. is_in (numbers_of test j (y ∷ xs)) k ≡ test x) (sym n)
-    (in_if (test y) j (numbers_of test (suc j) xs) (none_below (suc j) j (numbers_of test (suc j) xs) (rising-numbers test (suc j) xs) (omega arith)) ∙ ap test same)
-collected test j (y ∷ xs) (suc i) x e =
-    let n : j + suc i ≡ suc j + i = omega arith in
-    later_if (test y) j (j + suc i) (numbers_of test (suc j) xs) (λ q. omega arith)
-    ∙ ap (is_in (numbers_of test (suc j) xs)) n ∙ collected test (suc j) xs i x e
-
 pub fires_where : (P : Problem) (s : State) (k : ℕ) (c : Condition) → slice_get (event_conditions P) k ≡ Some c → is_in (firing P s) k ≡ holds c s
 unfolding firing
 fires_where P s k c g =
@@ -76,6 +55,9 @@ module _ (fits : Fraction → Type 0) where
   pub moment_quiet : (P : Problem) (most entries : ℕ) (u : Fraction) (v : View) (fired : List ℕ) → v.running ≡ None → AllPass fits (advance_tests P most entries u v) → fired ≡ firing P v.state → OthersQuiet fits (event_conditions P) v.state fired
   moment_quiet P most entries u v fired m a e =
       quiet_but_fired P v.state fired (asked_fit P v.fired v.state (pass_left (Passes fits) (round_tests P v.fired v.state) _ (subst (AllPass fits) (at_moment P most entries u v m) a))) e
+
+  pub rest_quiet : (P : Problem) (fired : List ℕ) (s : State) → AllPass fits (round_tests P fired s) → firing P s ≡ [] → OthersQuiet fits (event_conditions P) s []
+  rest_quiet P fired s a e = quiet_but_fired P s [] (asked_fit P fired s a) (sym e)
 
   -- where the entry is closed, what the conditions of all processes ask passes
   unit_empty : (es : List ℕ) (ts : List Test) → es ≡ [] → if_empty es ts ≡ ts

@@ -3,3 +3,4 @@ pub mod Indexed
 pub mod IndexedCode
 pub mod Waking
 pub mod Knows
+pub mod Moving

@@ -1,30 +1,22 @@
 //! A timeline, and what is kept between its calls.
-ghost use Rattle.std.specs.Prelude.{◌≡◌, ◌≤◌, ◌<◌, [], ℕ, true, false, List, Some, None, IfOk, OnOk, OnErr};
-ghost use Rattle.plus_fraction.specs.Fraction.{◌≤ℚ◌};
-ghost use Rattle.plus_model.specs.Firing.{firing};
+ghost use Rattle.std.specs.Prelude.{◌≡◌, ◌≤◌, true, IfOk, OnOk, OnErr};
 ghost use Rattle.plus_state.specs.View.{problem_of, action_of};
 ghost use Rattle.plus_state.specs.Changes.{LeadsTo};
 ghost use Rattle.plus_state.specs.Fits.{StateFits, ActionFits};
-ghost use Rattle.plus_stretch.specs.Tests.{AllPass};
-ghost use Rattle.plus_timeline.specs.Asked.{round_tests};
 ghost use Rattle.plus_timeline.specs.Timeline.{begun, event_numbers, process_numbers};
 ghost use Rattle.plus_timeline.specs.Stops.{IsGoing};
 ghost use Rattle.plus_timeline.specs.Act.{ActTold};
 ghost use Rattle.plus_timeline.specs.Finish.{IsPaused, FinishTold, TakesNoMemory};
 ghost use Rattle.plus_timeline.specs.Advance.{IsAhead, AdvanceTold};
-ghost use Rattle.plus_indexed.specs.Knows.{MayHold, Knows};
+ghost use Rattle.plus_indexed.specs.Knows.{Knows};
 
-use crate::kept::Kept;
-use plus_cascade::DueRound;
-use plus_crossing::rates::Rates;
+use crate::stepper::Stepper;
 use plus_number::exact::Exact;
 use plus_reads::Index;
-use plus_settle::Running;
 use plus_state::changes::Changes;
 use plus_state::problem::{Action, Ground};
 use plus_state::states::State;
 use plus_state::term::{EventId, ProcessId};
-use plus_timeline::stop::{cascade_stop, settle_stop};
 use plus_timeline::{Next, Stop, Timeline};
 use std::alloc::{AllocError, Global};
 use std::marker::Model;
@@ -35,10 +27,7 @@ use std::rc::Rc;
 #[derive(Drop)]
 pub struct Indexed<Q: Exact> {
     timeline: Timeline<Q>,
-    kept: Kept,
-    // a running set and a round that are needed no more, whose memory the next ones take
-    room: Running<Q>,
-    spare: DueRound<Q>,
+    stepper: Stepper<Q>,
 }
 
 impl<Q: Exact> Model for Indexed<Q> {
@@ -49,15 +38,7 @@ impl<Q: Exact> Model for Indexed<Q> {
 
     ghost coded = { coded_indexed };
 
-    ghost view = { λ i. record { line = i.timeline; kept = i.kept } };
-}
-
-// A running set that has no memory.
-fn no_room<Q: Exact>(alloc: Global) -> Running<Q> {
-    Running {
-        members: Vec::new(alloc),
-        rates: Rates::zero(alloc, 0),
-    }
+    ghost view = { λ i. record { line = i.timeline; kept = i.stepper } };
 }
 
 impl<Q: Exact> Indexed<Q> {
@@ -77,16 +58,12 @@ impl<Q: Exact> Indexed<Q> {
         let timeline = Timeline::begin(alloc, ground, happenings)?;
         Ok(Indexed {
             timeline,
-            kept: Kept::new(alloc, shared),
-            room: no_room(alloc),
-            spare: DueRound::none(alloc),
+            stepper: Stepper::new(alloc, shared),
         })
     }
 
-    /// Does one thing, and says which, as `Timeline::advance` does. Where a round may be due only the
-    /// events are looked at that fired in the last one, and those that read something that was changed
-    /// since they were looked at; where the entry is closed only the processes that held, and those that
-    /// read something that was changed or that moves; along a running set only the readers of what moves.
+    /// Does one thing, and says which, as `Timeline::advance` does, by a look at those alone who may tell
+    /// something new (`Stepper`).
     #[inline(always)]
     pub fn advance(&mut self, ground: &Ground<Q>, until: Q) -> Result<Next<Q>, Stop<Q>>
         requires knows { IsGoing self.old.line → Knows Q.fits (problem_of Q.value ground.now) self.old }
@@ -97,19 +74,7 @@ impl<Q: Exact> Indexed<Q> {
         ensures refused { OnErr result (self.new.line ≡ record (self.old.line) { ended = true }) }
         ensures knows { OnOk result (Knows Q.fits (problem_of Q.value ground.now) self.new) }
     {
-        if self.timeline.has_ended() {
-            return Err(Stop::Ended);
-        }
-        match self.next(ground, until) {
-            Ok(next) => {
-                self.kept.wake(&self.timeline, next);
-                Ok(next)
-            }
-            Err(stop) => {
-                self.timeline.end();
-                Err(stop)
-            }
-        }
+        self.stepper.advance(&mut self.timeline, ground, until)
     }
 
     /// Does an action that is due at the present time, as `Timeline::act` does.
@@ -124,13 +89,7 @@ impl<Q: Exact> Indexed<Q> {
         ensures refused { OnErr result (self.new.line ≡ record (self.old.line) { ended = true }) }
         ensures knows { OnOk result (Knows Q.fits (problem_of Q.value ground.now) self.new) }
     {
-        match self.timeline.act(ground, action, line) {
-            Ok(()) => {
-                self.kept.wake_by_step(&self.timeline);
-                Ok(())
-            }
-            Err(stop) => Err(stop),
-        }
+        self.stepper.act(&mut self.timeline, ground, action, line)
     }
 
     /// Whether the goal holds. Afterwards the timeline has ended.
@@ -207,71 +166,8 @@ impl<Q: Exact> Indexed<Q> {
     pub fn copy(&self, alloc: Global) -> Result<Indexed<Q>, AllocError>
         ensures { IfOk result (λ t. t ≡ self.now) }
     {
-        let kept = self.kept.copy(alloc)?;
+        let stepper = self.stepper.copy(alloc)?;
         let timeline = self.timeline.copy(alloc)?;
-        Ok(Indexed {
-            timeline,
-            kept,
-            room: no_room(alloc),
-            spare: DueRound::none(alloc),
-        })
-    }
-}
-
-impl<Q: Exact> Indexed<Q> {
-    // Does one thing. A refusal changes nothing.
-    fn next(&mut self, ground: &Ground<Q>, until: Q) -> Result<Next<Q>, Stop<Q>>
-        requires going { IsGoing self.old.line }
-        requires knows { Knows Q.fits (problem_of Q.value ground.now) self.old }
-        requires ahead { IsAhead (self.old.line.now.running) (self.old.line.now.time) (Q.value until) }
-        ensures told { AdvanceTold Q.value Q.fits (problem_of Q.value ground.now) (Q.value until)
-            self.old.line self.new.line result }
-        ensures line { OnErr result (self.new.line ≡ self.old.line) }
-        ensures kept { self.new.kept ≡ record (self.old.kept) { processes = self.new.kept.processes } }
-        ensures processes { (w : List ℕ) → self.new.kept.processes ≡ Some w →
-            MayHold Q.fits (problem_of Q.value ground.now) self.old.line.now.state w }
-    {
-        if self.timeline.is_running() {
-            return self.kept.pass(ground, &mut self.timeline, until);
-        }
-        match self.kept.due(ground, &self.timeline, &mut self.spare) {
-            Err(stop) => Err(cascade_stop(stop)),
-            Ok(true) => match self.timeline.put_round(&mut self.spare) {
-                Err(_) => Err(Stop::Memory),
-                Ok(()) => Ok(Next::Round),
-            },
-            Ok(false) => self.rest(ground, until),
-        }
-    }
-
-    // Where no event holds: the time is reached, or the entry is closed.
-    fn rest(&mut self, ground: &Ground<Q>, until: Q) -> Result<Next<Q>, Stop<Q>>
-        requires going { IsGoing self.old.line }
-        requires knows { Knows Q.fits (problem_of Q.value ground.now) self.old }
-        requires moment { self.old.line.now.running ≡ None }
-        requires still { firing (problem_of Q.value ground.now) self.old.line.now.state ≡ [] }
-        requires passed { AllPass Q.fits (round_tests (problem_of Q.value ground.now) self.old.line.now.fired self.old.line.now.state) }
-        requires ahead { self.old.line.now.time ≤ℚ Q.value until }
-        ensures told { AdvanceTold Q.value Q.fits (problem_of Q.value ground.now) (Q.value until)
-            self.old.line self.new.line result }
-        ensures line { OnErr result (self.new.line ≡ self.old.line) }
-        ensures kept { self.new.kept ≡ record (self.old.kept) { processes = self.new.kept.processes } }
-        ensures processes { (w : List ℕ) → self.new.kept.processes ≡ Some w →
-            MayHold Q.fits (problem_of Q.value ground.now) self.old.line.now.state w }
-    {
-        match self.timeline.must_close(ground, until) {
-            Err(stop) => Err(stop),
-            Ok(false) => {
-                self.timeline.arrive();
-                Ok(Next::There)
-            }
-            Ok(true) => match self.kept.settled(ground, &self.timeline, &mut self.room) {
-                Err(stop) => Err(settle_stop(stop)),
-                Ok(()) => {
-                    self.timeline.run(&mut self.room);
-                    Ok(Next::Run)
-                }
-            },
-        }
+        Ok(Indexed { timeline, stepper })
     }
 }

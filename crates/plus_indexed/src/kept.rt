@@ -15,13 +15,15 @@ ghost use Rattle.plus_timeline.specs.Advance.{AdvanceTold};
 ghost use Rattle.plus_indexed.specs.Knows.{MayHold, Knows};
 ghost use Rattle.plus_indexed.specs.Waking.{WokenBy, StillWoken, EventsAfter, ProcessesWoken, ProcessesAfter};
 
-use crate::settled::present_among;
+use crate::moving::MovingReaders;
+use crate::settled::settle_by;
 use crate::waiting::{Waiting, put_waiting, still_waiting};
 use crate::waking::{none_woken, put_woken, still_woken};
 use plus_cascade::{CascadeStop, DueRound};
 use plus_number::exact::Exact;
 use plus_reads::Index;
-use plus_settle::{MovingReaders, Running, SettleStop, holding, settle_among};
+use plus_settle::{Running, SettleStop, holding};
+use plus_state::looked::Looked;
 use plus_state::problem::Ground;
 use plus_state::term::{EventId, ProcessId};
 use plus_timeline::{Next, Stop, Timeline};
@@ -143,15 +145,8 @@ impl Kept {
         ensures rises { IfOk (if_due round.new result) (λ o. IfSome o (λ r. RisesIn timeline.now.now.state r.changes)) }
     {
         match &self.events {
-            Some(events) => timeline.due_among(ground, events, round),
-            None => match timeline.due(ground) {
-                Err(stop) => Err(stop),
-                Ok(None) => Ok(false),
-                Ok(Some(found)) => {
-                    *round = found;
-                    Ok(true)
-                }
-            },
+            Some(events) => timeline.due(ground, Looked::These(events), round),
+            None => timeline.due(ground, Looked::all(ground), round),
         }
     }
 
@@ -172,15 +167,12 @@ impl Kept {
         match &self.processes {
             Some(waiting) => match waiting.in_order(&mut self.numbers, &mut self.listed) {
                 Err(_) => Err(SettleStop::Memory),
-                Ok(()) => present_among(ground, timeline.state(), &self.listed, members),
-            },
-            None => match holding(self.alloc, ground, timeline.state()) {
-                Err(stop) => Err(stop),
-                Ok(all) => {
-                    *members = all;
-                    Ok(())
+                Ok(()) => {
+                    let looked = Looked::These(&self.listed);
+                    holding(ground, timeline.state(), looked, members)
                 }
             },
+            None => holding(ground, timeline.state(), Looked::all(ground), members),
         }
     }
 
@@ -202,7 +194,7 @@ impl Kept {
             Err(stop) => Err(stop),
             Ok(()) => {
                 put_waiting(self.alloc, &running.members, &mut self.processes);
-                settle_among(
+                settle_by(
                     self.alloc,
                     ground,
                     timeline.state(),
@@ -232,12 +224,11 @@ impl Kept {
     {
         match self.readers.refresh(timeline.rates()) {
             Err(_) => Err(Stop::Memory),
-            Ok(()) => timeline.pass_among(
-                ground,
-                until,
-                self.readers.events(),
-                self.readers.processes(),
-            ),
+            Ok(()) => {
+                let events = Looked::These(self.readers.events());
+                let processes = Looked::These(self.readers.processes());
+                timeline.pass(ground, until, events, processes)
+            }
         }
     }
 
@@ -281,6 +272,22 @@ impl Kept {
             timeline.changes(),
             &mut self.processes,
         );
+    }
+
+    /// All events and all processes are to be looked at.
+    pub fn forget(&mut self)
+        ensures { self.new ≡ record (self.old) { events = None; processes = None } }
+    {
+        self.events = None;
+        self.processes = None;
+    }
+
+    /// No event is to be looked at, and each process.
+    pub fn stay(&mut self)
+        ensures { self.new ≡ record (self.old) { events = Some []; processes = None } }
+    {
+        self.none_waits();
+        self.processes = None;
     }
 
     // No event waits.

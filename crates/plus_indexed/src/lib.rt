@@ -10,8 +10,11 @@
 
 pub mod indexed;
 mod kept;
+mod moving;
 mod settled;
+pub mod stepper;
 mod waiting;
 mod waking;
 
 pub use indexed::Indexed;
+pub use stepper::Stepper;

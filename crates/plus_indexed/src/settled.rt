@@ -1,49 +1,49 @@
-//! The processes that hold in a state, where it is known which may hold in it.
-ghost use Rattle.std.specs.Prelude.{◌≡◌, length, MatchResult};
+//! Settling, where it is known which processes hold and who reads what.
+ghost use Rattle.std.specs.Prelude.{◌≡◌, length, OnOk};
 ghost use Rattle.plus_model.specs.Running.{holding as holding_of};
 ghost use Rattle.plus_state.specs.View.{problem_of};
 ghost use Rattle.plus_state.specs.Fits.{StateFits};
 ghost use Rattle.plus_state.specs.Asked.{AllFit};
-ghost use Rattle.plus_state.specs.Numbers.{AreMembers, process_numbers};
-ghost use Rattle.plus_state.specs.Walk.{process_conditions, OthersFalse, OthersPass};
-ghost use Rattle.plus_settle.specs.Settles.{condition_nodes, ConditionStops, of_walk};
+ghost use Rattle.plus_state.specs.Walk.{process_conditions};
+ghost use Rattle.plus_reads.specs.Tables.{AreBelow, Covers};
+ghost use Rattle.plus_settle.specs.Members.{process_numbers, AreMembers};
+ghost use Rattle.plus_settle.specs.Rates.{as_given};
+ghost use Rattle.plus_settle.specs.Settles.{condition_nodes, SettleAnswers};
 
+use crate::moving::MovingReaders;
 use plus_number::exact::Exact;
-use plus_settle::SettleStop;
+use plus_settle::{Running, SettleStop, own_rates, settle_rated};
+use plus_state::looked::Looked;
 use plus_state::problem::Ground;
 use plus_state::states::State;
-use plus_state::term::ProcessId;
-use plus_state::walk::{WalkStop, holding_in};
+use std::alloc::Global;
 
-// The stop of a walk as that of the whole.
-fn walk_stop<Q: Exact>(stop: WalkStop<Q>) -> SettleStop<Q>
-    ensures { result ≡ of_walk stop }
-{
-    match stop {
-        WalkStop::Number(overflow) => SettleStop::Number(overflow),
-        WalkStop::Memory => SettleStop::Memory,
-    }
-}
-
-/// Puts the processes whose condition holds, as `plus_settle::holding` tells them, in place of others, by a
-/// look at some of them. Of all others it is known that they do not hold and that what they ask passes.
-pub fn present_among<Q: Exact>(
+/// Makes these the running set of a state and its net rates, as `plus_settle::settle`, where the members are the
+/// processes that hold in it and what their conditions ask is known to pass. Only the processes are looked at
+/// that read a fluent that moves. The rates take the place of others. After a refusal the set says nothing.
+pub fn settle_by<Q: Exact>(
+    alloc: Global,
     ground: &Ground<Q>,
     state: &State<Q>,
-    looked_at: &[ProcessId],
-    members: &mut Vec<ProcessId>,
+    readers: &mut MovingReaders,
+    running: &mut Running<Q>,
 ) -> Result<(), SettleStop<Q>>
     requires state { StateFits (length (ground.now.atoms.items)) (length (ground.now.fluents.items)) state.now }
-    requires members { AreMembers (length (process_conditions (problem_of Q.value ground.now))) (process_numbers looked_at.now) }
-    requires pass { OthersPass Q.fits (process_conditions (problem_of Q.value ground.now)) state.now (process_numbers looked_at.now) }
-    requires silent { OthersFalse (process_conditions (problem_of Q.value ground.now)) state.now (process_numbers looked_at.now) }
-    ensures { MatchResult result
-        (λ _. AllFit Q.fits (condition_nodes ((problem_of Q.value ground.now).processes) state.now)
-        × (process_numbers members.new.items ≡ holding_of (problem_of Q.value ground.now) state.now))
-        (λ stop. ConditionStops Q.value Q.fits (condition_nodes ((problem_of Q.value ground.now).processes) state.now) stop) }
+    requires pass { AllFit Q.fits (condition_nodes ((problem_of Q.value ground.now).processes) state.now) }
+    requires present { process_numbers running.old.members.items ≡ holding_of (problem_of Q.value ground.now) state.now }
+    requires readers { Covers (process_conditions (problem_of Q.value ground.now)) readers.old.index.processes }
+    requires below { AreBelow (length (process_conditions (problem_of Q.value ground.now))) readers.old.index.processes }
+    ensures told { SettleAnswers Q.value Q.fits (problem_of Q.value ground.now) state.now (as_given running.new result) }
+    ensures members { OnOk result (AreMembers (length (ground.now.processes.items)) (process_numbers running.new.members.items)) }
+    ensures size { OnOk result (length running.new.rates ≡ length (ground.now.fluents.items)) }
+    ensures index { readers.new.index ≡ readers.old.index }
 {
-    match holding_in(ground, state, looked_at, members) {
-        Ok(()) => Ok(()),
-        Err(stop) => Err(walk_stop(stop)),
+    own_rates(alloc, ground, &running.members, state, &mut running.rates)?;
+    match readers.refresh(&running.rates) {
+        Err(_) => Err(SettleStop::Memory),
+        Ok(()) => {
+            let looked = Looked::These(readers.processes());
+            settle_rated(alloc, ground, state, looked, running)
+        }
     }
 }

@@ -17,6 +17,8 @@ use Rattle.plus_planner.specs.Standing.{CanReach, IsOnWay, Carried}
 use Rattle.plus_planner.specs.Places.{StandsAt, CanSearch, uncut}
 use Rattle.plus_planner.specs.Searches.{HasNone}
 use Rattle.plus_planner.specs.Kin.{IsKin}
+use Rattle.plus_reads.specs.Indexing.{Indexes}
+use Rattle.plus_reads.specs.declared.index.Index.{Index}
 use Rattle.plus_planner.specs.Worlds.{Stands, Holds}
 use Rattle.plus_planner.specs.declared.places.Taken.{Taken}
 use Rattle.plus_planner.specs.declared.places.Tried.{Tried}
@@ -39,19 +41,19 @@ module _ (fits : Fraction → Type 0) (task : Task) where
     acted_is = refl;
   }
 
-  first_times : fits (whole (pos 0)) → AllTimes fits (timed task []).lines
+  pub first_times : fits (whole (pos 0)) → AllTimes fits (timed task []).lines
   first_times f = (subst fits (sym (zero-*ℚ task.interval)) f, tt)
 
-  begin_ends : (new : TimelineView) (fate : Fate) → fits (whole (pos 0)) → Carried fits task.problem (whole (pos 0)) (begun task.problem task.most) new fate → Ends fits task [] new fate
+  pub begin_ends : (new : TimelineView) (fate : Fate) → fits (whole (pos 0)) → Carried fits task.problem (whole (pos 0)) (begun task.problem task.most) new fate → Ends fits task [] new fate
   begin_ends new fate f c =
       carried_ends fits task [] (begun task.problem task.most) new (first_part task.problem ∷ []) 0 fate (first_times f) refl refl first_way
       (subst (λ (z : Fraction). Carried fits task.problem z (begun task.problem task.most) new fate) (sym (zero-*ℚ task.interval)) c)
 
-  nothing_is : {A : Type 0} (ps qs : List A) (x : A) → [] ≡ ps ++ x ∷ qs → ⊥
+  pub nothing_is : {A : Type 0} (ps qs : List A) (x : A) → [] ≡ ps ++ x ∷ qs → ⊥
   nothing_is [] qs x e = cc e
   nothing_is (p ∷ ps) qs x e = cc e
 
-  both_empty : (ps qs : List ℕ) → [] ≡ ps ++ qs → (ps ≡ []) × (qs ≡ [])
+  pub both_empty : (ps qs : List ℕ) → [] ≡ ps ++ qs → (ps ≡ []) × (qs ≡ [])
   both_empty [] qs e = (refl, sym e)
   both_empty (p ∷ ps) qs e = cc e
 
@@ -74,14 +76,15 @@ module _ (fits : Fraction → Type 0) (task : Task) where
       }
 
   -- and nothing is taken, tried or spared
-  pub begin_holds : {Q : Type 0} (start new : TimelineView) (taken : List (Taken Q)) (tried : List (Tried Q)) (spares : List TimelineView) (fate : Fate) → fits (whole (pos 0)) → CanSearch task → Carried fits task.problem (whole (pos 0)) (begun task.problem task.most) new fate → IsKin task.problem new → fate ≡ Alive → start ≡ new → taken ≡ [] → tried ≡ [] → spares ≡ [] → Holds fits task start taken tried spares
-  begin_holds {Q} start new taken tried spares fate f can c k a s e g h =
-      subst (λ ss. Holds fits task start taken tried ss) (sym h)
-      (subst (λ (ts : List (Tried Q)). Holds fits task start taken ts []) (sym g)
-      (subst (λ (xs : List (Taken Q)). Holds fits task start xs [] []) (sym e)
-      (subst (λ (t : TimelineView). Holds {Q = Q} fits task t [] [] []) (sym s) record {
+  pub begin_holds : {Q : Type 0} (start new : TimelineView) (taken : List (Taken Q)) (tried : List (Tried Q)) (spares : List TimelineView) (x : Index) (fate : Fate) → fits (whole (pos 0)) → CanSearch task → Carried fits task.problem (whole (pos 0)) (begun task.problem task.most) new fate → IsKin task.problem new → fate ≡ Alive → start ≡ new → taken ≡ [] → tried ≡ [] → spares ≡ [] → Indexes task.problem x → Holds fits task start taken tried spares x
+  begin_holds {Q} start new taken tried spares x fate f can c k a s e g h i =
+      subst (λ ss. Holds fits task start taken tried ss x) (sym h)
+      (subst (λ (ts : List (Tried Q)). Holds fits task start taken ts [] x) (sym g)
+      (subst (λ (xs : List (Taken Q)). Holds fits task start xs [] [] x) (sym e)
+      (subst (λ (t : TimelineView). Holds {Q = Q} fits task t [] [] [] x) (sym s) record {
         stands = begin_stands new f can (subst (Carried fits task.problem (whole (pos 0)) (begun task.problem task.most) new) a c);
         kin = record { start_is = k; taken_are = tt; tried_are = tt; spares_are = tt };
+        indexes = i;
       })))
 
   module _ (k : ℕ) where

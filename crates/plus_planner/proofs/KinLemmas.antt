@@ -8,6 +8,8 @@ use Rattle.plus_model.specs.Terms.{Action, State, Problem}
 use Rattle.plus_model.specs.Trajectory.{first_view}
 use Rattle.plus_search.specs.declared.spaces.Fate.{Fate}
 use Rattle.plus_search.specs.declared.spaces.Fate.TheVariants.{Alive, Broken, Beyond}
+use Rattle.plus_reads.specs.Indexing.{Indexes}
+use Rattle.plus_reads.specs.declared.index.Index.{Index}
 use Rattle.plus_timeline.specs.declared.next.Next.{Next}
 use Rattle.plus_timeline.specs.declared.next.Next.TheVariants.{Round, Run, Entry, There}
 use Rattle.plus_timeline.specs.Timeline.{TimelineView, begun}
@@ -61,9 +63,6 @@ kin_act P action old new a h = kin_as P old new (ap (λ v. v.atoms) a.is) (ap (�
 
 pub kin_ended : (P : Problem) (old new : TimelineView) → new ≡ record old { ended = true } → IsKin P old → IsKin P new
 kin_ended P old new e h = kin_as P old new (ap (λ v. v.atoms) e) (ap (λ v. v.fluents) e) (ap (λ v. v.event_count) e) (ap (λ v. v.root) e) h
-
-pub kin_same : (P : Problem) (old new : TimelineView) → new ≡ old → IsKin P old → IsKin P new
-kin_same P old new e h = subst (IsKin P) (sym e) h
 
 pub kin_light : (P : Problem) (old new : TimelineView) → IsLightened old new → IsKin P old → IsKin P new
 kin_light P old new l h = elim l [
@@ -134,6 +133,12 @@ pub rooted_kin : (P : Problem) (most : ℕ) (old new : TimelineView) → old ≡
 rooted_kin P most old new b l = elim l [
   | inl e ↦ subst (IsKin P) (sym (e ∙ b)) (kin_begun P most)
   | inr e ↦ subst (IsKin P) (sym (e ∙ ap (λ (v : TimelineView). record v { root = Some v.now.state }) b)) record { atoms = refl; fluents = refl; events = refl; root = refl }
+]
+
+pub rooted_moment : (P : Problem) (most : ℕ) (old new : TimelineView) → old ≡ begun P most → IsRooted old new → new.now.running ≡ None
+rooted_moment P most old new b l = elim l [
+  | inl e ↦ ap (λ (v : TimelineView). v.now.running) (e ∙ b)
+  | inr e ↦ ap (λ (v : TimelineView). v.now.running) e ∙ ap (λ (v : TimelineView). v.now.running) b
 ]
 
 -- ---- lists of them
@@ -208,9 +213,9 @@ kin_back {Q} P start start' taken popped taken' x tried tried' spares spares' p 
       spares_are = both.1;
     }
 
-pub holds_ok : {Q A E : Type 0} (fits : Fraction → Type 0) (task : Task) (start : TimelineView) (taken : List (Taken Q)) (tried : List (Tried Q)) (spares : List TimelineView) (r : Result A E) → OnOk r (Stands fits task start taken tried) → OnOk r (AreKin task.problem start taken tried spares) → OnOk r (Holds fits task start taken tried spares)
-holds_ok fits task start taken tried spares (Err e) s k = tt
-holds_ok fits task start taken tried spares (Ok x) s k = record { stands = s; kin = k }
+pub holds_ok : {Q A E : Type 0} (fits : Fraction → Type 0) (task : Task) (start : TimelineView) (taken : List (Taken Q)) (tried : List (Tried Q)) (spares : List TimelineView) (i : Index) (r : Result A E) → OnOk r (Stands fits task start taken tried) → OnOk r (AreKin task.problem start taken tried spares) → OnOk r (Indexes task.problem i) → OnOk r (Holds fits task start taken tried spares i)
+holds_ok fits task start taken tried spares i (Err e) s k x = tt
+holds_ok fits task start taken tried spares i (Ok a) s k x = record { stands = s; kin = k; indexes = x }
 
 -- a decision was taken, or the timeline spared
 pub kin_adds : {Q : Type 0} (P : Problem) (t start start' : TimelineView) (taken taken' : List (Taken Q)) (tried tried' : List (Tried Q)) (spares spares' : List TimelineView) → IsKin P t → start' ≡ start → tried' ≡ tried → AddsOne t taken spares taken' spares' → AreKin P start taken tried spares → AreKin P start' taken' tried' spares'

@@ -250,6 +250,10 @@ module _ {Q : Type 0} (fits : Fraction → Type 0) (task : Task) where
         | inr g ↦ wait_goes ((now_in start taken).now.time +ℚ task.interval) taken' fate w refl g.some g.goes
       ])
 
+    -- all that a round asks at the present moment passes
+    pub act_passed : AllPass fits (round_tests task.problem (now_in start taken).now.fired (now_in start taken).now.state)
+    act_passed = rest_passed fits task (path_of taken) (now_in start taken) now_stands
+
     -- an action may be tried, and what becomes of it
     pub act_can : (k : ℕ) (action : Action) → slice_get task.actions k ≡ Some action → CanTry task.problem action (now_in start taken)
     act_can k action a =

@@ -19,7 +19,7 @@ unfolding tested.AllPass Passes
 told fits true h = refl
 told fits false h = absurd h.0
 
-goal_holds : (fits : Fraction → Type 0) (P : Problem) (s : State) → AllPass fits (goal_tests P s) → holds P.goal s ≡ true
+pub goal_holds : (fits : Fraction → Type 0) (P : Problem) (s : State) → AllPass fits (goal_tests P s) → holds P.goal s ≡ true
 unfolding goal_tests
 goal_holds fits P s h = told fits (holds P.goal s) (pass_right (Passes fits) (map asks (tests_of P.goal s)) (unless (holds P.goal s) model.Goal) h)
 

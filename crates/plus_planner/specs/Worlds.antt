@@ -2,6 +2,8 @@
 use Rattle.std.specs.Prelude.{List}
 use Rattle.plus_fraction.specs.Fraction.{Fraction}
 use Rattle.plus_search.specs.Tree.{IsTree}
+use Rattle.plus_reads.specs.Indexing.{Indexes}
+use Rattle.plus_reads.specs.declared.index.Index.{Index}
 use Rattle.plus_timeline.specs.Timeline.{TimelineView}
 use Rattle.plus_planner.specs.declared.places.Taken.{Taken}
 use Rattle.plus_planner.specs.Grid.{Task}
@@ -16,7 +18,8 @@ pub record Stands {Q : Type 0} (fits : Fraction → Type 0) (task : Task) (start
   pub returns : AllReturn fits task (path_of taken) tried
   pub tree : IsTree (uncut fits task)
 
--- and each of its timelines, and of those that are spared, may become a fork of each other one
-pub record Holds {Q : Type 0} (fits : Fraction → Type 0) (task : Task) (start : TimelineView) (taken : List (Taken Q)) (tried : List (Tried Q)) (spares : List TimelineView) : Type 0 where
+-- each of its timelines, and of those that are spared, may become a fork of each other one, and the index is that of the problem
+pub record Holds {Q : Type 0} (fits : Fraction → Type 0) (task : Task) (start : TimelineView) (taken : List (Taken Q)) (tried : List (Tried Q)) (spares : List TimelineView) (index : Index) : Type 0 where
   pub stands : Stands fits task start taken tried
   pub kin : AreKin task.problem start taken tried spares
+  pub indexes : Indexes task.problem index

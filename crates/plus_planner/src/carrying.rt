@@ -4,9 +4,11 @@ ghost use Rattle.plus_state.specs.View.{problem_of};
 ghost use Rattle.plus_stretch.specs.Tests.{AllPass};
 ghost use Rattle.plus_timeline.specs.Asked.{round_tests};
 ghost use Rattle.plus_timeline.specs.Finish.{IsPaused};
+ghost use Rattle.plus_indexed.specs.Knows.{Knows};
 ghost use Rattle.plus_planner.specs.Kin.{IsKin};
 ghost use Rattle.plus_planner.specs.Standing.{CanReach, Carried, Steps, fate_by, refused_by};
 
+use plus_indexed::Stepper;
 use plus_number::exact::Exact;
 use plus_search::Fate;
 use plus_state::problem::Ground;
@@ -40,35 +42,42 @@ pub fn refused<Q: Exact>(stop: Stop<Q>) -> Result<Fate, AllocError>
 
 // Takes one step toward a time, and says what it comes to, where it is the last.
 fn step<Q: Exact>(
+    stepper: &mut Stepper<Q>,
     timeline: &mut Timeline<Q>,
     ground: &Ground<Q>,
     until: Q,
 ) -> Result<Option<Fate>, AllocError>
     requires reach { CanReach (problem_of Q.value ground.now) (Q.value until) timeline.old }
     requires kin { IsKin (problem_of Q.value ground.now) timeline.old }
+    requires knows { Knows Q.fits (problem_of Q.value ground.now) (record { line = timeline.old; kept = stepper.old }) }
     ensures steps { IfOk result (Steps Q.fits (problem_of Q.value ground.now) (Q.value until) timeline.old timeline.new) }
     ensures kin { OnOk result (IsKin (problem_of Q.value ground.now) timeline.new) }
+    ensures knows { IfOk result (λ o. o ≡ None → Knows Q.fits (problem_of Q.value ground.now) (record { line = timeline.new; kept = stepper.new })) }
+    ensures index { OnOk result (stepper.new.index ≡ stepper.old.index) }
 {
-    match timeline.advance(ground, until) {
+    match stepper.advance(timeline, ground, until) {
         Ok(next) => Ok(done(next)),
         Err(stop) => Ok(Some(refused(stop)?)),
     }
 }
 
 /// Carries a timeline on to a time, until nothing is due there: it comes there, or a breach or a limit
-/// stands on the way.
+/// stands on the way. It is played with what is known of it.
 pub fn carry<Q: Exact>(
+    stepper: &mut Stepper<Q>,
     timeline: &mut Timeline<Q>,
     ground: &Ground<Q>,
     until: Q,
 ) -> Result<Fate, AllocError>
     requires reach { CanReach (problem_of Q.value ground.now) (Q.value until) timeline.old }
     requires kin { IsKin (problem_of Q.value ground.now) timeline.old }
+    requires knows { Knows Q.fits (problem_of Q.value ground.now) (record { line = timeline.old; kept = stepper.old }) }
     ensures carried { IfOk result (Carried Q.fits (problem_of Q.value ground.now) (Q.value until) timeline.old timeline.new) }
     ensures kin { OnOk result (IsKin (problem_of Q.value ground.now) timeline.new) }
+    ensures index { OnOk result (stepper.new.index ≡ stepper.old.index) }
 {
     'steps: loop {
-        match step(timeline, ground, until)? {
+        match step(stepper, timeline, ground, until)? {
             Some(fate) => return Ok(fate),
             None => {}
         }
@@ -77,6 +86,7 @@ pub fn carry<Q: Exact>(
 
 // Takes the first step from a moment at which nothing is due: no event is looked at there again.
 fn leave<Q: Exact>(
+    stepper: &mut Stepper<Q>,
     timeline: &mut Timeline<Q>,
     ground: &Ground<Q>,
     until: Q,
@@ -87,10 +97,13 @@ fn leave<Q: Exact>(
     requires passed { AllPass Q.fits (round_tests (problem_of Q.value ground.now)
         timeline.old.now.fired timeline.old.now.state) }
     requires kin { IsKin (problem_of Q.value ground.now) timeline.old }
+    requires knows { Knows Q.fits (problem_of Q.value ground.now) (record { line = timeline.old; kept = stepper.old }) }
     ensures kin { OnOk result (IsKin (problem_of Q.value ground.now) timeline.new) }
+    ensures knows { IfOk result (λ o. o ≡ None → Knows Q.fits (problem_of Q.value ground.now) (record { line = timeline.new; kept = stepper.new })) }
+    ensures index { OnOk result (stepper.new.index ≡ stepper.old.index) }
     ensures steps { IfOk result (Steps Q.fits (problem_of Q.value ground.now) (Q.value until) timeline.old timeline.new) }
 {
-    match timeline.rest(ground, until) {
+    match stepper.leave(timeline, ground, until) {
         Ok(next) => Ok(done(next)),
         Err(stop) => Ok(Some(refused(stop)?)),
     }
@@ -98,6 +111,7 @@ fn leave<Q: Exact>(
 
 /// Carries a timeline on to a time, as `carry` does, from a moment at which nothing is due.
 pub fn carry_on<Q: Exact>(
+    stepper: &mut Stepper<Q>,
     timeline: &mut Timeline<Q>,
     ground: &Ground<Q>,
     until: Q,
@@ -108,11 +122,13 @@ pub fn carry_on<Q: Exact>(
     requires passed { AllPass Q.fits (round_tests (problem_of Q.value ground.now)
         timeline.old.now.fired timeline.old.now.state) }
     requires kin { IsKin (problem_of Q.value ground.now) timeline.old }
+    requires knows { Knows Q.fits (problem_of Q.value ground.now) (record { line = timeline.old; kept = stepper.old }) }
     ensures kin { OnOk result (IsKin (problem_of Q.value ground.now) timeline.new) }
+    ensures index { OnOk result (stepper.new.index ≡ stepper.old.index) }
     ensures carried { IfOk result (Carried Q.fits (problem_of Q.value ground.now) (Q.value until) timeline.old timeline.new) }
 {
-    match leave(timeline, ground, until)? {
+    match leave(stepper, timeline, ground, until)? {
         Some(fate) => Ok(fate),
-        None => carry(timeline, ground, until),
+        None => carry(stepper, timeline, ground, until),
     }
 }

@@ -6,6 +6,8 @@ ghost use Rattle.plus_state.specs.Fits.{ActionFits};
 ghost use Rattle.plus_stretch.specs.Tests.{AllPass};
 ghost use Rattle.plus_timeline.specs.Asked.{round_tests};
 ghost use Rattle.plus_timeline.specs.Finish.{IsPaused};
+ghost use Rattle.plus_reads.specs.Indexing.{Indexes};
+ghost use Rattle.plus_indexed.specs.Knows.{Knows};
 ghost use Rattle.plus_planner.specs.Kin.{IsKin, AreKin, AddsOne};
 ghost use Rattle.plus_planner.specs.Standing.{CanReach};
 ghost use Rattle.plus_planner.specs.Places.{now_in, base_in, task_from, taken_after, StandsBehind, ActFails, Goes, ActEnds, WaitEnds, CanTry, Walks};
@@ -43,6 +45,7 @@ fn put<Q: Exact>(
     ensures after { OnOk result (place.new.taken.items ≡ taken_after fate place.old.taken.items decision timeline) }
     ensures start { place.new.start ≡ place.old.start }
     ensures tried { place.new.tried ≡ place.old.tried }
+    ensures stepper { place.new.stepper ≡ place.old.stepper }
     ensures kin { OnOk result (AddsOne timeline place.old.taken.items place.old.spares.items place.new.taken.items place.new.spares.items) }
 {
     match fate {
@@ -64,13 +67,15 @@ fn go<Q: Exact>(
     requires reach { CanReach (problem_of Q.value ground.now) (Q.value time) timeline }
     requires kin { IsKin (problem_of Q.value ground.now) timeline }
     requires all_kin { AreKin (problem_of Q.value ground.now) place.old.start place.old.taken.items place.old.tried.items place.old.spares.items }
+    requires knows { Knows Q.fits (problem_of Q.value ground.now) (record { line = timeline; kept = place.old.stepper }) }
     ensures goes { IfOk result (Goes Q.fits (problem_of Q.value ground.now) (Q.value time) timeline decision
         place.old.taken.items place.new.taken.items) }
     ensures start { OnOk result (place.new.start ≡ place.old.start) }
     ensures tried { OnOk result (place.new.tried ≡ place.old.tried) }
     ensures kin { OnOk result (AreKin (problem_of Q.value ground.now) place.new.start place.new.taken.items place.new.tried.items place.new.spares.items) }
+    ensures index { OnOk result (place.new.stepper.index ≡ place.old.stepper.index) }
 {
-    let fate = timeline.carry(ground, time)?;
+    let fate = timeline.carry(&mut place.stepper, ground, time)?;
     put(place, timeline, decision, fate)?;
     Ok(fate)
 }
@@ -90,13 +95,15 @@ fn go_on<Q: Exact>(
         timeline.now.fired timeline.now.state) }
     requires kin { IsKin (problem_of Q.value ground.now) timeline }
     requires all_kin { AreKin (problem_of Q.value ground.now) place.old.start place.old.taken.items place.old.tried.items place.old.spares.items }
+    requires index { Indexes (problem_of Q.value ground.now) place.old.stepper.index }
     ensures goes { IfOk result (Goes Q.fits (problem_of Q.value ground.now) (Q.value time) timeline decision
         place.old.taken.items place.new.taken.items) }
     ensures start { OnOk result (place.new.start ≡ place.old.start) }
     ensures tried { OnOk result (place.new.tried ≡ place.old.tried) }
     ensures kin { OnOk result (AreKin (problem_of Q.value ground.now) place.new.start place.new.taken.items place.new.tried.items place.new.spares.items) }
+    ensures index { OnOk result (place.new.stepper.index ≡ place.old.stepper.index) }
 {
-    let fate = timeline.carry_on(ground, time)?;
+    let fate = timeline.carry_on(&mut place.stepper, ground, time)?;
     put(place, timeline, decision, fate)?;
     Ok(fate)
 }
@@ -112,12 +119,17 @@ fn act<Q: Exact>(
 ) -> Result<Fate, AllocError>
     requires can { CanTry (problem_of Q.value ground.now) (action_of Q.value action.now)
         (now_in place.old.start place.old.taken.items) }
+    requires passed { AllPass Q.fits (round_tests (problem_of Q.value ground.now)
+        (now_in place.old.start place.old.taken.items).now.fired
+        (now_in place.old.start place.old.taken.items).now.state) }
     requires kin { AreKin (problem_of Q.value ground.now) place.old.start place.old.taken.items place.old.tried.items place.old.spares.items }
+    requires index { Indexes (problem_of Q.value ground.now) place.old.stepper.index }
     ensures ends { IfOk result (ActEnds Q.fits (problem_of Q.value ground.now) (action_of Q.value action.now)
         decision (now_in place.old.start place.old.taken.items) place.old.taken.items place.new.taken.items) }
     ensures start { OnOk result (place.new.start ≡ place.old.start) }
     ensures tried { OnOk result (place.new.tried ≡ place.old.tried) }
     ensures kin { OnOk result (AreKin (problem_of Q.value ground.now) place.new.start place.new.taken.items place.new.tried.items place.new.spares.items) }
+    ensures index { OnOk result (place.new.stepper.index ≡ place.old.stepper.index) }
 {
     if let Some(fate) = refuses(action, place.now()) {
         return Ok(fate);
@@ -135,17 +147,23 @@ fn perform<Q: Exact>(
 ) -> Result<Fate, AllocError>
     requires can { CanTry (problem_of Q.value ground.now) (action_of Q.value action.now)
         (now_in place.old.start place.old.taken.items) }
+    requires passed { AllPass Q.fits (round_tests (problem_of Q.value ground.now)
+        (now_in place.old.start place.old.taken.items).now.fired
+        (now_in place.old.start place.old.taken.items).now.state) }
     requires kin { AreKin (problem_of Q.value ground.now) place.old.start place.old.taken.items place.old.tried.items place.old.spares.items }
+    requires index { Indexes (problem_of Q.value ground.now) place.old.stepper.index }
     ensures ends { IfOk result (ActEnds Q.fits (problem_of Q.value ground.now) (action_of Q.value action.now)
         decision (now_in place.old.start place.old.taken.items) place.old.taken.items place.new.taken.items) }
     ensures start { OnOk result (place.new.start ≡ place.old.start) }
     ensures tried { OnOk result (place.new.tried ≡ place.old.tried) }
     ensures kin { OnOk result (AreKin (problem_of Q.value ground.now) place.new.start place.new.taken.items place.new.tried.items place.new.spares.items) }
+    ensures index { OnOk result (place.new.stepper.index ≡ place.old.stepper.index) }
 {
     let spare = place.spares.pop();
     let mut timeline = fork(alloc, spare, place.now())?;
     let time = timeline.get().time();
-    match timeline.act(ground, action) {
+    place.stepper.stay();
+    match timeline.act(&mut place.stepper, ground, action) {
         Ok(()) => go(ground, place, timeline, time, decision),
         Err(stop) => {
             place.spares.push(timeline)?;
@@ -171,12 +189,14 @@ fn wait<Q: Exact>(
         (base_in decision place.old.start place.old.taken.items).now.fired
         (base_in decision place.old.start place.old.taken.items).now.state) }
     requires kin { AreKin (problem_of Q.value ground.now) place.old.start place.old.taken.items place.old.tried.items place.old.spares.items }
+    requires index { Indexes (problem_of Q.value ground.now) place.old.stepper.index }
     ensures ends { IfOk result (WaitEnds Q.fits (problem_of Q.value ground.now)
         ((now_in place.old.start place.old.taken.items).now.time +ℚ Q.value interval) decision
         (base_in decision place.old.start place.old.taken.items) place.old.taken.items place.new.taken.items) }
     ensures start { OnOk result (place.new.start ≡ place.old.start) }
     ensures tried { OnOk result (place.new.tried ≡ place.old.tried) }
     ensures kin { OnOk result (AreKin (problem_of Q.value ground.now) place.new.start place.new.taken.items place.new.tried.items place.new.spares.items) }
+    ensures index { OnOk result (place.new.stepper.index ≡ place.old.stepper.index) }
 {
     match place.now().time().add(interval) {
         Err(_) => Ok(Fate::Beyond),
@@ -202,11 +222,13 @@ pub fn decide<Q: Exact>(
         (map (action_of Q.value) actions.now) (Q.value interval)) place.old.start place.old.taken.items }
     requires within { decision < suc (length actions.now) }
     requires kin { AreKin (problem_of Q.value ground.now) place.old.start place.old.taken.items place.old.tried.items place.old.spares.items }
+    requires index { Indexes (problem_of Q.value ground.now) place.old.stepper.index }
     ensures walks { IfOk result (Walks Q.fits (task_from (problem_of Q.value ground.now)
         (map (action_of Q.value) actions.now) (Q.value interval)) place.old.start place.new.start
         place.old.taken.items place.new.taken.items decision) }
     ensures tried { OnOk result (place.new.tried ≡ place.old.tried) }
     ensures kin { OnOk result (AreKin (problem_of Q.value ground.now) place.new.start place.new.taken.items place.new.tried.items place.new.spares.items) }
+    ensures index { OnOk result (place.new.stepper.index ≡ place.old.stepper.index) }
 {
     let number = decision as usize;
     if number < actions.len() {

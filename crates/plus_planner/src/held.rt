@@ -8,12 +8,14 @@ ghost use Rattle.plus_timeline.specs.Act.{ActTold};
 ghost use Rattle.plus_timeline.specs.Asked.{round_tests};
 ghost use Rattle.plus_timeline.specs.Finish.{IsPaused};
 ghost use Rattle.plus_timeline.specs.Forked.{forked, CanRefork};
-ghost use Rattle.plus_timeline.specs.Serving.{Serves};
 ghost use Rattle.plus_timeline.specs.Stops.{IsGoing};
+ghost use Rattle.plus_reads.specs.Indexing.{Indexes};
+ghost use Rattle.plus_indexed.specs.Knows.{Knows};
 ghost use Rattle.plus_planner.specs.Kin.{IsKin, IsLightened};
 ghost use Rattle.plus_planner.specs.Standing.{CanReach, Carried};
 
 use crate::carrying::{carry, carry_on};
+use plus_indexed::Stepper;
 use plus_number::exact::Exact;
 use plus_search::Fate;
 use plus_state::problem::{Action, Ground};
@@ -64,40 +66,62 @@ impl<Q: Exact> Held<Q> {
         self.timeline.refork(from)
     }
 
-    /// Does an action that is due.
-    pub fn act(&mut self, ground: &Ground<Q>, action: &Action<Q>) -> Result<(), Stop<Q>>
-        requires serves { IsGoing self.old → Serves (problem_of Q.value ground.now) self.old }
+    /// Does an action that is due, with what is known of the timeline.
+    pub fn act(
+        &mut self,
+        stepper: &mut Stepper<Q>,
+        ground: &Ground<Q>,
+        action: &Action<Q>,
+    ) -> Result<(), Stop<Q>>
+        requires knows { IsGoing self.old → Knows Q.fits (problem_of Q.value ground.now) (record { line = self.old; kept = stepper.old }) }
         requires paused { IsGoing self.old → IsPaused self.old }
         requires action { IsGoing self.old → ActionFits (self.old.atoms) (self.old.fluents) (action_of Q.value action.now) }
         ensures told { ActTold Q.value Q.fits (problem_of Q.value ground.now) (action_of Q.value action.now) 1 self.old self.new result }
         ensures refused { OnErr result (self.new ≡ record (self.old) { ended = true }) }
+        ensures knows { OnOk result (Knows Q.fits (problem_of Q.value ground.now) (record { line = self.new; kept = stepper.new })) }
+        ensures index { stepper.new.index ≡ stepper.old.index }
     {
-        self.timeline.act(ground, action, 1)
+        stepper.act(&mut self.timeline, ground, action, 1)
     }
 
-    /// Carries the timeline on to a time.
-    pub fn carry(&mut self, ground: &Ground<Q>, until: Q) -> Result<Fate, AllocError>
+    /// Carries the timeline on to a time, with what is known of it.
+    pub fn carry(
+        &mut self,
+        stepper: &mut Stepper<Q>,
+        ground: &Ground<Q>,
+        until: Q,
+    ) -> Result<Fate, AllocError>
         requires reach { CanReach (problem_of Q.value ground.now) (Q.value until) self.old }
         requires kin { IsKin (problem_of Q.value ground.now) self.old }
+        requires knows { Knows Q.fits (problem_of Q.value ground.now) (record { line = self.old; kept = stepper.old }) }
         ensures carried { IfOk result (Carried Q.fits (problem_of Q.value ground.now) (Q.value until) self.old self.new) }
         ensures kin { OnOk result (IsKin (problem_of Q.value ground.now) self.new) }
+        ensures index { OnOk result (stepper.new.index ≡ stepper.old.index) }
     {
-        let fate = carry(&mut self.timeline, ground, until)?;
+        let fate = carry(stepper, &mut self.timeline, ground, until)?;
         lighten(&mut self.timeline);
         Ok(fate)
     }
 
-    /// The same from a moment at which nothing is due.
-    pub fn carry_on(&mut self, ground: &Ground<Q>, until: Q) -> Result<Fate, AllocError>
+    /// The same from a moment at which nothing is due. What the stepper knows is of another timeline.
+    pub fn carry_on(
+        &mut self,
+        stepper: &mut Stepper<Q>,
+        ground: &Ground<Q>,
+        until: Q,
+    ) -> Result<Fate, AllocError>
         requires reach { CanReach (problem_of Q.value ground.now) (Q.value until) self.old }
         requires paused { IsPaused self.old }
         requires moment { self.old.now.running ≡ None }
         requires passed { AllPass Q.fits (round_tests (problem_of Q.value ground.now) self.old.now.fired self.old.now.state) }
         requires kin { IsKin (problem_of Q.value ground.now) self.old }
+        requires index { Indexes (problem_of Q.value ground.now) stepper.old.index }
         ensures carried { IfOk result (Carried Q.fits (problem_of Q.value ground.now) (Q.value until) self.old self.new) }
         ensures kin { OnOk result (IsKin (problem_of Q.value ground.now) self.new) }
+        ensures index { OnOk result (stepper.new.index ≡ stepper.old.index) }
     {
-        let fate = carry_on(&mut self.timeline, ground, until)?;
+        stepper.forget();
+        let fate = carry_on(stepper, &mut self.timeline, ground, until)?;
         lighten(&mut self.timeline);
         Ok(fate)
     }

@@ -1,6 +1,7 @@
 //! Where a walk over decisions stands.
 
 use crate::held::Held;
+use plus_indexed::Stepper;
 use plus_number::exact::Exact;
 use plus_timeline::Timeline;
 use std::alloc::Global;
@@ -29,6 +30,8 @@ pub struct Place<Q: Exact> {
     pub taken: Vec<Taken<Q>>,
     pub tried: Vec<Tried<Q>>,
     pub spares: Vec<Held<Q>>,
+    // what takes each of them on, one at a time
+    pub stepper: Stepper<Q>,
 }
 
 impl<Q: Exact> Place<Q> {
@@ -36,17 +39,19 @@ impl<Q: Exact> Place<Q> {
     ghost use Rattle.plus_planner.specs.Places.{now_in, base_in};
 
     /// The place at the beginning, with this timeline.
-    pub fn begin(alloc: Global, start: Timeline<Q>) -> Place<Q>
+    pub fn begin(alloc: Global, start: Timeline<Q>, stepper: Stepper<Q>) -> Place<Q>
         ensures start { result.start ≡ start }
         ensures taken { result.taken.items ≡ [] }
         ensures tried { result.tried.items ≡ [] }
         ensures spares { result.spares.items ≡ [] }
+        ensures stepper { result.stepper ≡ stepper }
     {
         Place {
             start,
             taken: Vec::new(alloc),
             tried: Vec::new(alloc),
             spares: Vec::new(alloc),
+            stepper,
         }
     }
 

@@ -58,7 +58,7 @@ impl<Q: Exact, G: Guide<Q> + Drop> Space for Planner<Q, G> {
 
     ghost path = { λ p. path_of p.taken.items };
 
-    ghost stands = { λ w p. Holds Q.fits (task_from (problem_of Q.value w.problem) (map (action_of Q.value) w.actions.items) (Q.value w.interval)) p.start p.taken.items p.tried.items p.spares.items };
+    ghost stands = { λ w p. Holds Q.fits (task_from (problem_of Q.value w.problem) (map (action_of Q.value) w.actions.items) (Q.value w.interval)) p.start p.taken.items p.tried.items p.spares.items p.stepper.index };
 
     fn width(&self, _place: &Place<Q>) -> u32 {
         self.actions.len() as u32 + 1

@@ -51,6 +51,7 @@ impl<Q: Exact> Place<Q> {
         requires { index < length self.old.tried.items }
         ensures spares { self.new.spares ≡ self.old.spares }
         ensures start { self.new.start ≡ self.old.start }
+        ensures stepper { self.new.stepper ≡ self.old.stepper }
         ensures returns { OnOk result (Returns index self.old.taken.items self.old.tried.items
             self.new.taken.items self.new.tried.items) }
     {
@@ -96,6 +97,7 @@ impl<Q: Exact> Place<Q> {
     // Forgets what is kept from the last on, until so many are left. Their timelines are spared.
     fn forget(&mut self, count: usize) -> Result<(), AllocError>
         ensures start { self.new.start ≡ self.old.start }
+        ensures stepper { self.new.stepper ≡ self.old.stepper }
         ensures same { self.new.taken ≡ self.old.taken }
         ensures forgets { OnOk result (self.new.tried.items ≡ take count self.old.tried.items) }
         ensures kin { OnOk result (Spares self.old.tried.items self.old.spares.items self.new.spares.items) }
@@ -113,6 +115,7 @@ impl<Q: Exact> Place<Q> {
     /// is to be kept.
     pub fn keep(&mut self, taken: Taken<Q>) -> Result<(), AllocError>
         ensures start { self.new.start ≡ self.old.start }
+        ensures stepper { self.new.stepper ≡ self.old.stepper }
         ensures same { self.new.taken ≡ self.old.taken }
         ensures kin { OnOk result (KeepsKin taken self.old.tried.items self.old.spares.items self.new.tried.items self.new.spares.items) }
         ensures keeps { OnOk result (Keeps (length self.old.taken.items) taken self.old.tried.items self.new.tried.items) }

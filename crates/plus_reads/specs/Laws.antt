@@ -10,7 +10,7 @@ use Rattle.plus_model.specs.Running.{moved}
 use Rattle.plus_model.specs.Piece.{rate_of}
 use Rattle.plus_state.specs.Changes.{Changes, patched}
 use Rattle.plus_state.specs.Tests.{tests_of, decided}
-use Rattle.plus_state.specs.Walk.{OthersPass}
+use Rattle.plus_state.specs.Looked.{OthersPass}
 use Rattle.plus_reads.specs.Reads.{Agree, ReadsNone, fluents_read}
 use Rattle.plus_reads.specs.Writes.{atoms_written, fluents_written}
 use Rattle.plus_reads.specs.Tables.{Covers, Wakes, atoms_changed, fluents_changed}

@@ -1,5 +1,5 @@
 -- How far listed processes agree with their membership.
-use Rattle.std.proofs.Common.{◌≡◌, ℕ, ◌<◌, ◌≤◌, ◌+◌, zero, suc, Bool, true, false, List, [], ◌∷◌, length, map, drop, get_or, refl, sym, subst, ◌∙◌, inl, inr, arith}
+use Rattle.std.proofs.Common.{◌≡◌, ℕ, ◌<◌, ◌≤◌, ◌+◌, zero, suc, Bool, true, false, List, [], ◌∷◌, length, map, drop, get_or, refl, ap, sym, subst, ◌∙◌, inl, inr, arith}
 use Rattle.std.proofs.lemmas.Bool.{cases_lt}
 use Rattle.std.proofs.lemmas.Bool.Decides.{nat_tests}
 use Rattle.std.proofs.lemmas.Cmp.{ranked}
@@ -21,6 +21,9 @@ use Rattle.plus_number.specs.declared.exact.Exact.{Ghosts}
 use Rattle.plus_state.specs.declared.problem.Ground.{Ground}
 use Rattle.plus_state.specs.View.{process_of, problem_of}
 use Rattle.plus_state.specs.Fits.{ProcessFits}
+use Rattle.plus_state.specs.Numbers.{numbers_from}
+use Rattle.plus_state.specs.Walk.{process_conditions}
+use Rattle.plus_state.proofs.LookingLemmas.{no_other}
 use Rattle.plus_crossing.proofs.Straight.{soon_tells}
 use Rattle.plus_reads.proofs.Sets.{not_first}
 use Rattle.plus_settle.proofs.StillLemmas.Listed.{PassesOver, Walked, walked_start, walked_inside, walked_here, walked_end, item_at, from_item, none_left}
@@ -119,3 +122,8 @@ pub listed_inside : {Q : Type 0} {E : Ghosts Q} (v : Q → Fraction) (g : Ground
 listed_inside v g Here k rest listed w =
     let b : k < length (map (process_of v) g.processes.items) = walked_inside Here _ k rest listed w in
     rw length-map at b
+
+-- ---- all processes
+pub all_confirmed : (fits : Fraction → Type 0) (P : Problem) (members : List ℕ) (s : State) (rs : List Fraction) (listed : List ℕ) → listed ≡ numbers_from 0 (length (process_conditions P)) → OthersConfirmed fits P members s rs listed
+all_confirmed fits P members s rs listed e k p g n =
+    absurd (no_other P.processes listed k p (e ∙ ap (numbers_from 0) (length-map P.processes (λ (p : Process). p.condition))) g n)

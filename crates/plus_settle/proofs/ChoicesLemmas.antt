@@ -1,5 +1,5 @@
 -- How far processes are gathered.
-use Rattle.std.proofs.Common.{◌≡◌, ℕ, ◌<◌, ◌≤◌, ◌+◌, zero, suc, Bool, true, false, List, [], ◌∷◌, ◌++◌, length, refl, ap, sym, subst, ◌∙◌, inl, inr, arith, append_assoc}
+use Rattle.std.proofs.Common.{◌≡◌, ℕ, ◌<◌, ◌≤◌, ◌+◌, zero, suc, Bool, true, false, List, [], ◌∷◌, ◌++◌, length, refl, ap, sym, subst, ◌∙◌, inl, inr, arith}
 use Rattle.std.proofs.lemmas.Bool.{cases_lt}
 use Rattle.std.proofs.lemmas.List.{append-nil}
 use Rattle.std.proofs.lemmas.List.Elements.{All-head, All-tail, All-nil, All-cons}
@@ -22,13 +22,10 @@ use Rattle.plus_settle.specs.Confirms.{soon_steps, GoStops}
 use Rattle.plus_settle.specs.Settles.{chosen_steps, running_soon, ConditionStops, ChosenStops, of_go, of_walk}
 use Rattle.plus_state.specs.declared.walk.WalkStop.{WalkStop}
 use Rattle.plus_state.specs.declared.walk.WalkStop.TheVariants as walk
-use Rattle.plus_state.specs.Walk.{process_conditions, WalkStops}
-use Rattle.plus_state.proofs.LookingLemmas.{numbers_by}
+use Rattle.plus_state.specs.Walk.{process_conditions}
+use Rattle.plus_state.specs.Looked.{WalkStops}
+use Rattle.plus_state.proofs.LookingLemmas.{numbers_by, choose}
 use Rattle.plus_state.proofs.Testing.{pass_none, pass_append, fail_left, fail_right}
-
-choose : (found : List ℕ) (k : ℕ) (b : Bool) (more : List ℕ) → (found ++ (if b then k ∷ [] else [])) ++ more ≡ found ++ (if b then k ∷ more else more)
-choose found k true more = append_assoc found (k ∷ []) more
-choose found k false more = ap (λ (x : List ℕ). x ++ more) (append-nil found)
 
 -- ---- which hold
 pub holding_found : (P : Problem) (s : State) (found : List ℕ) → found ≡ numbers_of (λ c. holds c s) 0 (process_conditions P) → found ≡ holding P s

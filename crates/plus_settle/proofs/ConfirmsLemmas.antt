@@ -25,7 +25,7 @@ use Rattle.plus_settle.proofs.StepsLemmas.{pass_owned, stop_owned}
 use Rattle.plus_settle.proofs.MembersLemmas.{all_in, past_end}
 
 -- ---- one process
-both_true : (b c : Bool) → ((b ≡ true) → (c ≡ true)) → ((c ≡ true) → (b ≡ true)) → b ≡ c
+pub both_true : (b c : Bool) → ((b ≡ true) → (c ≡ true)) → ((c ≡ true) → (b ≡ true)) → b ≡ c
 both_true true c f g = sym (f refl)
 both_true false true f g = g refl
 both_true false false f g = refl

@@ -7,5 +7,4 @@ pub mod CouplingLemmas
 pub mod SettlesLemmas
 pub mod AmongLemmas
 pub mod ShortLemmas
-pub mod MovingLemmas
 pub mod StillLemmas

@@ -1,14 +1,13 @@
 -- Processes of a list, and numbers of members.
-use Rattle.std.proofs.Common.{◌≡◌, ℕ, ◌<◌, ◌≤◌, ◌+◌, zero, suc, true, false, List, [], ◌∷◌, length, map, get_or, drop, refl, ap, sym, subst, ◌∙◌, inl, inr, arith, drop-cons}
+use Rattle.std.proofs.Common.{◌≡◌, ℕ, ◌<◌, ◌≤◌, ◌+◌, zero, suc, true, List, [], ◌∷◌, length, map, get_or, drop, refl, ap, sym, subst, ◌∙◌, inl, inr, arith, drop-cons}
 use Rattle.std.proofs.lemmas.List.{length-map, get_or-map, drop_all}
 use Rattle.std.proofs.lemmas.List.Elements.{All-head, All-tail}
-use Rattle.std.proofs.lemmas.Bool.Decides.{nat_tests}
-use Rattle.std.specs.Prelude.{Some, None, slice_get, nat_eq}
+use Rattle.std.specs.Prelude.{Some, None, slice_get}
 use Rattle.std.specs.List.{All}
 use Rattle.plus_fraction.specs.Fraction.{Fraction}
 use Rattle.plus_model.specs.Terms.{Process, State}
 use Rattle.plus_model.specs.Firing.{is_in}
-use Rattle.plus_model.specs.Running.{IsRising, rates_at}
+use Rattle.plus_model.specs.Running.{rates_at}
 use Rattle.plus_model.proofs.Members.{in_cases}
 use Rattle.plus_state.specs.declared.term.ProcessId.{ProcessId}
 use Rattle.plus_state.specs.declared.problem.Process as code
@@ -16,7 +15,7 @@ use Rattle.plus_number.specs.declared.exact.Exact.{Ghosts}
 use Rattle.plus_state.specs.declared.problem.Ground.{Ground}
 use Rattle.plus_state.specs.View.{process_of, rate_of, problem_of}
 use Rattle.plus_state.specs.Fits.{ProcessFits, StateFits}
-use Rattle.plus_settle.specs.Members.{process_numbers, AreMembers, AreFrom}
+use Rattle.plus_settle.specs.Members.{process_numbers, AreMembers}
 
 -- the numbers from place i on
 pub next_number : (xs : List ProcessId) (i : ℕ) (d : ProcessId) → i < length xs → process_numbers (drop i xs) ≡ (get_or xs i d).0 ∷ process_numbers (drop (i + 1) xs)
@@ -26,33 +25,6 @@ next_number xs i d h =
 
 pub no_number : (xs : List ProcessId) (i : ℕ) → length xs ≤ i → process_numbers (drop i xs) ≡ []
 no_number xs i h = ap process_numbers (drop_all i xs h)
-
--- no member is below the start
-below_start : (n k : ℕ) (members : List ℕ) → IsRising n members → k < n → is_in members k ≡ false
-below_start n k [] r h = refl
-below_start n k (m ∷ members) r h =
-    let b = r.0 in
-    let l : k < suc m = omega arith in
-    let i = below_start (suc m) k members r.1 l in
-    grind (arith, nat_tests)
-
--- whether the first member is k
-first_is : (k m : ℕ) (members : List ℕ) → IsRising k (m ∷ members) → nat_eq m k ≡ is_in (m ∷ members) k
-first_is k m members r =
-    let b = r.0 in
-    let l : k < suc m = omega arith in
-    let i = below_start (suc m) k members r.1 l in
-    grind (arith, nat_tests)
-
-pub first_is_member : (members : List ProcessId) (k : ℕ) (d : ProcessId) → 1 ≤ length members → IsRising k (process_numbers members) → nat_eq (get_or members 0 d).0 k ≡ is_in (process_numbers members) k
-first_is_member [] k d h r = absurd (omega arith)
-first_is_member (m ∷ members) k d h r = first_is k m.0 (process_numbers members) r
-
-pub from_start : (members : List ℕ) → IsRising 0 members → AreFrom 0 members members
-from_start members r = record { rising = r; same = λ j l. refl }
-
-pub from_next : (k : ℕ) (members rest more : List ℕ) → AreFrom k members rest → AreFrom (k + 1) rest more → AreFrom (k + 1) members more
-from_next k members rest more a b = record { rising = b.rising; same = λ j l. b.same j l ∙ a.same j (omega arith) }
 
 pub all_in : (n : ℕ) (members : List ℕ) (j : ℕ) → All (λ p. p < n) members → is_in members j ≡ true → j < n
 all_in n [] j h e = cc

@@ -1,7 +1,7 @@
 -- Where the processes that hold go on at their own rates, they are the running set.
 use Rattle.std.proofs.Common.{◌≡◌, ℕ, ◌<◌, ◌+◌, zero, suc, Bool, true, false, not, List, [], ◌∷◌, ◌++◌, length, refl, ap, sym, subst, ◌∙◌, arith, append_assoc}
 use Rattle.std.proofs.lemmas.List.{append-nil}
-use Rattle.std.specs.Prelude.{Option, Some, None, Result, Ok, Err, OnOk, IsSomeAnd, slice_get, unwrap_or, map, pos, if◌then◌else◌}
+use Rattle.std.specs.Prelude.{Option, Some, None, Result, Ok, Err, OnOk, IsSomeAnd, slice_get, unwrap_or, pos, if◌then◌else◌}
 use Rattle.plus_fraction.specs.Fraction.{Fraction, whole}
 use Rattle.plus_model.specs.Terms.{Condition, Process, State, Problem}
 use Rattle.plus_model.specs.Value.{holds, is_zero}
@@ -37,17 +37,18 @@ use Rattle.plus_settle.specs.Among.{OthersConfirmed}
 use Rattle.plus_settle.specs.Uncoupled.{Uncoupled}
 use Rattle.plus_settle.proofs.MembersLemmas.{all_in}
 use Rattle.plus_settle.proofs.SettlesLemmas.{own_pass, coupled_stop, chosen_stop, last_stop, settles}
+use Rattle.plus_settle.proofs.StillLemmas.Listed.{mapped as map_at}
 
 -- ---- a process that is collected
-in_if : (b : Bool) (k : ℕ) (ns : List ℕ) → is_in ns k ≡ false → is_in (if b then k ∷ ns else ns) k ≡ b
+pub in_if : (b : Bool) (k : ℕ) (ns : List ℕ) → is_in ns k ≡ false → is_in (if b then k ∷ ns else ns) k ≡ b
 in_if true k ns h = in_first k ns
 in_if false k ns h = h
 
-later_if : (b : Bool) (j k : ℕ) (ns : List ℕ) → (k ≡ j → ⊥) → is_in (if b then j ∷ ns else ns) k ≡ is_in ns k
+pub later_if : (b : Bool) (j k : ℕ) (ns : List ℕ) → (k ≡ j → ⊥) → is_in (if b then j ∷ ns else ns) k ≡ is_in ns k
 later_if true j k ns h = not_first k j ns h
 later_if false j k ns h = refl
 
-collected : {A : Type 0} (test : A → Bool) (j : ℕ) (xs : List A) (i : ℕ) (x : A) → slice_get xs i ≡ Some x → is_in (numbers_of test j xs) (j + i) ≡ test x
+pub collected : {A : Type 0} (test : A → Bool) (j : ℕ) (xs : List A) (i : ℕ) (x : A) → slice_get xs i ≡ Some x → is_in (numbers_of test j xs) (j + i) ≡ test x
 collected test j [] i x e = cc
 collected test j (y ∷ xs) zero x e =
     let n : j + 0 ≡ j = omega arith in
@@ -79,11 +80,6 @@ unmoved rs f n = moving_by rs f (slice_get rs f) refl n
 pub stands_by : (cs : List Condition) (t : Readers) (rs : List Fraction) (listed : List ℕ) → Covers cs t → ReadAny t (moving_of rs) listed → (k : ℕ) (c : Condition) → slice_get cs k ≡ Some c → is_in listed k ≡ false → StandsStill c rs
 stands_by cs t rs listed covers r k c e n f i =
     unmoved rs f (false_unless (is_in (moving_of rs) f) (is_in listed k) (λ m. r.all f k m ((covers k c e).by_fluents f i)) n)
-
-map_at : {A B : Type 0} (f : A → B) (xs : List A) (k : ℕ) (x : A) → slice_get xs k ≡ Some x → slice_get (map f xs) k ≡ Some (f x)
-map_at f [] k x e = cc
-map_at f (y ∷ xs) zero x e = let h : y ≡ x = cc in ap (λ z. Some (f z)) h
-map_at f (y ∷ xs) (suc k) x e = map_at f xs k x e
 
 pub asked_one : (fits : Fraction → Type 0) (cs : List Condition) (s : State) (k : ℕ) (c : Condition) → slice_get cs k ≡ Some c → AllFit fits (all_asked cs s) → AllFit fits (tests_of c s)
 asked_one fits [] s k c e a = cc

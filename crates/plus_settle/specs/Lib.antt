@@ -8,5 +8,4 @@ pub mod Settles
 pub mod Laws
 pub mod Among
 pub mod Uncoupled
-pub mod Moving
 pub mod Still

@@ -1,17 +1,10 @@
 -- Sets of processes, and what tells whether a process runs.
-use Rattle.std.specs.Prelude.{◌≡◌, ℕ, ◌≤◌, Bool, List}
+use Rattle.std.specs.Prelude.{Bool, List}
 use Rattle.plus_fraction.specs.Fraction.{Fraction}
 use Rattle.plus_model.specs.Terms.{Process, State}
-use Rattle.plus_model.specs.Firing.{is_in}
-use Rattle.plus_model.specs.Running.{IsRising}
 use Rattle.plus_model.specs.Piece.{after}
 use Rattle.plus_model.specs.Live.{live}
 pub use Rattle.plus_state.specs.Numbers.{process_numbers, AreMembers}
-
--- the later of these members, from number k on
-pub record AreFrom (k : ℕ) (members rest : List ℕ) : Type 0 where
-  pub rising : IsRising k rest
-  pub same : (j : ℕ) → k ≤ j → is_in rest j ≡ is_in members j
 
 -- what the test of values and slopes on the live comparisons tells: whether the process holds just after
 unfoldable pub soon : Process → State → List Fraction → Bool

@@ -6,16 +6,19 @@ ghost use Rattle.plus_state.specs.Fits.{StateFits};
 ghost use Rattle.plus_state.specs.Asked.{AllFit};
 ghost use Rattle.plus_settle.specs.Steps.{AllPass};
 ghost use Rattle.plus_state.specs.Numbers.{process_numbers};
+ghost use Rattle.plus_state.specs.Walk.{process_conditions};
+ghost use Rattle.plus_state.specs.Looked.{processes_looked, AreKnown};
 ghost use Rattle.plus_settle.specs.Settles.{condition_nodes, chosen_steps, running_soon, ConditionStops, ChosenStops, of_go, of_walk};
 
 use crate::confirms::runs_after;
 use crate::stops::{GoStop, SettleStop};
 use plus_crossing::rates::Rates;
 use plus_number::exact::Exact;
+use plus_state::looked::Looked;
 use plus_state::problem::Ground;
 use plus_state::states::State;
 use plus_state::term::ProcessId;
-use plus_state::walk::{WalkStop, holding_of_all};
+use plus_state::walk::{WalkStop, holding_in};
 use std::alloc::{AllocError, Global};
 
 fn append_if(members: &mut Vec<ProcessId>, member: ProcessId, runs: bool) -> Result<(), AllocError>
@@ -38,21 +41,25 @@ fn walk_stop<Q: Exact>(stop: WalkStop<Q>) -> SettleStop<Q>
     }
 }
 
-/// The processes whose condition holds, in ground order. The refusal is the first node of the conditions
-/// of all processes, in ground order, that is no value; or want of memory.
+/// Puts the processes whose condition holds, in ground order, in place of others, whose memory it takes. Only
+/// some are looked at: of all others it is known that they do not hold and that what they ask passes. The
+/// refusal is the first node of the conditions of all processes, in ground order, that is no value; or want of
+/// memory.
 pub fn holding<Q: Exact>(
-    alloc: Global,
     ground: &Ground<Q>,
     state: &State<Q>,
-) -> Result<Vec<ProcessId>, SettleStop<Q>>
+    looked: Looked<'_, ProcessId>,
+    members: &mut Vec<ProcessId>,
+) -> Result<(), SettleStop<Q>>
     requires state { StateFits (length (ground.now.atoms.items)) (length (ground.now.fluents.items)) state.now }
+    requires known { AreKnown Q.fits (process_conditions (problem_of Q.value ground.now)) state.now (processes_looked looked) }
     ensures { MatchResult result
-        (λ members. AllFit Q.fits (condition_nodes ((problem_of Q.value ground.now).processes) state.now)
-        × (process_numbers members.items ≡ holding_of (problem_of Q.value ground.now) state.now))
+        (λ _. AllFit Q.fits (condition_nodes ((problem_of Q.value ground.now).processes) state.now)
+        × (process_numbers members.new.items ≡ holding_of (problem_of Q.value ground.now) state.now))
         (λ stop. ConditionStops Q.value Q.fits (condition_nodes ((problem_of Q.value ground.now).processes) state.now) stop) }
 {
-    match holding_of_all(alloc, ground, state) {
-        Ok(members) => Ok(members),
+    match holding_in(ground, state, looked, members) {
+        Ok(()) => Ok(()),
         Err(stop) => Err(walk_stop(stop)),
     }
 }

@@ -1,10 +1,12 @@
 //! Whether exactly the members of a set hold just after a state.
-ghost use Rattle.std.specs.Prelude.{◌≡◌, ◌+◌, length};
+ghost use Rattle.std.specs.Prelude.{◌≡◌, length};
 ghost use Rattle.plus_model.specs.Firing.{is_in};
 ghost use Rattle.plus_model.specs.Running.{IsRising};
 ghost use Rattle.plus_state.specs.View.{process_of, problem_of};
 ghost use Rattle.plus_state.specs.Fits.{ProcessFits, StateFits};
-ghost use Rattle.plus_settle.specs.Members.{process_numbers, AreMembers, AreFrom};
+ghost use Rattle.plus_state.specs.Looked.{processes_looked};
+ghost use Rattle.plus_settle.specs.Members.{process_numbers, AreMembers};
+ghost use Rattle.plus_settle.specs.Among.{OthersConfirmed};
 ghost use Rattle.plus_settle.specs.Confirms.{SoonTells, Confirms, GoAnswers, differ as differ_of};
 
 use crate::settling::Running;
@@ -13,6 +15,7 @@ use plus_crossing::afters::just_after;
 use plus_crossing::node::CondStop;
 use plus_crossing::rates::Rates;
 use plus_number::exact::Exact;
+use plus_state::looked::Looked;
 use plus_state::problem::{Ground, Process};
 use plus_state::states::State;
 use plus_state::term::ProcessId;
@@ -38,26 +41,14 @@ pub fn runs_after<Q: Exact>(
     }
 }
 
-// Whether the first of these members is this process. The members rise from it on, so none that is later
-// can be it.
-fn is_first(members: &[ProcessId], id: ProcessId) -> bool
-    requires { IsRising id.0 (process_numbers members.now) }
+// Whether a process is one of these members, which rise.
+fn is_member(members: &[ProcessId], id: ProcessId) -> bool
+    requires { IsRising 0 (process_numbers members.now) }
     ensures { result ≡ is_in (process_numbers members.now) id.0 }
 {
-    match members {
-        [] => false,
-        [first, ..] => first.0 == id.0,
-    }
-}
-
-// The members behind this process.
-fn behind(members: &[ProcessId], id: ProcessId) -> &[ProcessId]
-    requires { IsRising id.0 (process_numbers members.now) }
-    ensures { AreFrom (id.0 + 1) (process_numbers members.now) (process_numbers result.now) }
-{
-    match members {
-        [] => members,
-        [first, rest @ ..] => { if first.0 == id.0 { rest } else { members } }
+    match members.binary_search_by_key(&id.0, |member| member.0) {
+        Ok(_) => true,
+        Err(_) => false,
     }
 }
 
@@ -68,30 +59,33 @@ pub fn differ(x: bool, y: bool) -> bool
     if x { !y } else { y }
 }
 
-// The first process that differs from its membership.
+/// The first process that differs from its membership, by a look at some processes: each other one is known
+/// to hold just after exactly where it is a member, and what it asks to pass. So the refusal is the first
+/// test that fails: all processes in ground order up to the first that differs.
 pub fn first_other<Q: Exact>(
     ground: &Ground<Q>,
     members: &[ProcessId],
     state: &State<Q>,
     rates: &Rates<Q>,
+    looked: Looked<'_, ProcessId>,
 ) -> Result<Option<ProcessId>, GoStop<Q>>
     requires state { StateFits (length (ground.now.atoms.items)) (length (ground.now.fluents.items)) state.now }
     requires members { AreMembers (length (ground.now.processes.items)) (process_numbers members.now) }
     requires rates { length rates.now ≡ length (state.now.fluents) }
+    requires looked { AreMembers (length (ground.now.processes.items)) (processes_looked looked) }
+    requires others { OthersConfirmed Q.fits (problem_of Q.value ground.now) (process_numbers members.now) state.now rates.now (processes_looked looked) }
     ensures { Confirms Q.value Q.fits (problem_of Q.value ground.now) (process_numbers members.now) state.now rates.now result }
 {
-    let mut rest = members;
-    'each: for number in 0..ground.processes.len() {
-        let id = ProcessId(number as u32);
-        match runs_after(&ground.processes[number], id, state, rates) {
+    'each: for place in 0..looked.count() {
+        let id = looked.member(place);
+        match runs_after(&ground.processes[id.0 as usize], id, state, rates) {
             Err(stop) => return Err(stop),
             Ok(truth) => {
-                if differ(truth, is_first(rest, id)) {
+                if differ(truth, is_member(members, id)) {
                     return Ok(Some(id));
                 }
             }
         }
-        rest = behind(rest, id);
     }
     Ok(None)
 }
@@ -108,7 +102,13 @@ pub fn goes_on<Q: Exact>(
     requires rates { length (running.now.rates) ≡ length (ground.now.fluents.items) }
     ensures { GoAnswers Q.value Q.fits (problem_of Q.value ground.now) (process_numbers running.now.members.items) state.now running.now.rates result }
 {
-    match first_other(ground, &running.members, state, &running.rates) {
+    match first_other(
+        ground,
+        &running.members,
+        state,
+        &running.rates,
+        Looked::all(ground),
+    ) {
         Err(stop) => Err(stop),
         Ok(None) => Ok(true),
         Ok(Some(_)) => Ok(false),

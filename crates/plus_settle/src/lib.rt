@@ -6,23 +6,17 @@
 //! the rates of two sets of processes.
 #![tactic(auto)]
 
-pub mod among;
 mod choices;
 pub mod confirms;
 mod coupling;
 pub mod laws;
-pub mod moving;
 pub mod net;
 pub mod settling;
-pub mod settling_among;
 pub mod still;
 pub mod stops;
 
-pub use among::first_other_among;
 pub use choices::holding;
-pub use confirms::goes_on;
-pub use moving::MovingReaders;
+pub use confirms::{first_other, goes_on};
 pub use net::net_rates;
-pub use settling::{Running, settle};
-pub use settling_among::settle_among;
+pub use settling::{Running, own_rates, settle, settle_rated};
 pub use stops::{GoStop, RateStop, SettleStop};

@@ -1,10 +1,12 @@
 //! Settling.
-ghost use Rattle.std.specs.Prelude.{◌≡◌, Ok, length, IfOk, OnOk};
+ghost use Rattle.std.specs.Prelude.{◌≡◌, [], Ok, length, IfOk, OnOk};
 ghost use Rattle.plus_model.specs.Running.{holding as holding_of, rates as rates_of};
 ghost use Rattle.plus_state.specs.View.{problem_of};
 ghost use Rattle.plus_state.specs.Fits.{StateFits};
 ghost use Rattle.plus_state.specs.Asked.{AllFit};
+ghost use Rattle.plus_state.specs.Looked.{processes_looked};
 ghost use Rattle.plus_settle.specs.Steps.{AllPass};
+ghost use Rattle.plus_settle.specs.Among.{OthersConfirmed};
 ghost use Rattle.plus_settle.specs.Rates.{rates_steps, as_given};
 ghost use Rattle.plus_settle.specs.Members.{process_numbers, AreMembers};
 ghost use Rattle.plus_settle.specs.Settles.{condition_nodes, of_rate, OwnRates, Confirmed, own_then, SettleAnswers};
@@ -17,6 +19,7 @@ use crate::net::net_rates;
 use crate::stops::{RateStop, SettleStop};
 use plus_crossing::rates::Rates;
 use plus_number::exact::Exact;
+use plus_state::looked::Looked;
 use plus_state::problem::Ground;
 use plus_state::states::State;
 use plus_state::term::ProcessId;
@@ -30,6 +33,17 @@ pub struct Running<Q: Exact> {
 }
 
 impl<Q: Exact> Running<Q> {
+    /// No process runs. It takes no memory.
+    pub fn none(alloc: Global) -> Running<Q>
+        ensures members { result.members.items ≡ [] }
+        ensures rates { result.rates ≡ [] }
+    {
+        Running {
+            members: Vec::new(alloc),
+            rates: Rates::zero(alloc, 0),
+        }
+    }
+
     /// An equal running set.
     pub fn copy(&self, alloc: Global) -> Result<Running<Q>, AllocError>
         ensures { IfOk result (λ r. (r.members.items ≡ self.now.members.items) × (r.rates ≡ self.now.rates)) }
@@ -83,7 +97,7 @@ fn confirmed<Q: Exact>(
     requires rates { length rates.now ≡ length (state.now.fluents) }
     ensures { Confirmed Q.value Q.fits (problem_of Q.value ground.now) state.now (process_numbers members.now) rates.now result }
 {
-    match first_other(ground, members, state, rates) {
+    match first_other(ground, members, state, rates, Looked::all(ground)) {
         Err(stop) => Err(settle_stop(stop)),
         Ok(other) => match other {
             Some(process) => Err(SettleStop::Unsettled(process)),
@@ -97,7 +111,7 @@ fn confirmed<Q: Exact>(
 
 // The running set, by the rates of those that hold: those that hold just after at these rates, which must
 // confirm themselves.
-pub fn settle_from<Q: Exact>(
+fn settle_from<Q: Exact>(
     alloc: Global,
     ground: &Ground<Q>,
     present: &[ProcessId],
@@ -122,7 +136,7 @@ pub fn settle_from<Q: Exact>(
 }
 
 // Whether none of these members reads a fluent that moves at these rates.
-pub fn uncoupled<Q: Exact>(
+fn uncoupled<Q: Exact>(
     ground: &Ground<Q>,
     members: &[ProcessId],
     rates: &Rates<Q>,
@@ -134,6 +148,39 @@ pub fn uncoupled<Q: Exact>(
     match first_coupled(ground, members, rates) {
         Some((process, fluent)) => Err(SettleStop::Coupled(process, fluent)),
         None => Ok(()),
+    }
+}
+
+/// Makes these the running set of a state, where the members are the processes that hold in it, what their
+/// conditions ask passes, and the rates are theirs. Where those that hold go on at their own rates, they are
+/// the running set: of this only some processes are looked at, where each other one is known to hold just
+/// after exactly where it is a member, and what it asks to pass. After a refusal the set says nothing.
+pub fn settle_rated<Q: Exact>(
+    alloc: Global,
+    ground: &Ground<Q>,
+    state: &State<Q>,
+    looked: Looked<'_, ProcessId>,
+    running: &mut Running<Q>,
+) -> Result<(), SettleStop<Q>>
+    requires state { StateFits (length (ground.now.atoms.items)) (length (ground.now.fluents.items)) state.now }
+    requires pass { AllFit Q.fits (condition_nodes ((problem_of Q.value ground.now).processes) state.now) }
+    requires present { process_numbers running.old.members.items ≡ holding_of (problem_of Q.value ground.now) state.now }
+    requires size { length running.old.rates ≡ length (state.now.fluents) }
+    requires rated { AllPass Q.fits (rates_steps (problem_of Q.value ground.now) state.now (process_numbers running.old.members.items)) }
+    requires rates { rates_of (problem_of Q.value ground.now) state.now (process_numbers running.old.members.items) ≡ Ok running.old.rates }
+    requires looked { AreMembers (length (ground.now.processes.items)) (processes_looked looked) }
+    requires others { OthersConfirmed Q.fits (problem_of Q.value ground.now) (process_numbers running.old.members.items) state.now running.old.rates (processes_looked looked) }
+    ensures told { SettleAnswers Q.value Q.fits (problem_of Q.value ground.now) state.now (as_given running.new result) }
+    ensures members { OnOk result (AreMembers (length (ground.now.processes.items)) (process_numbers running.new.members.items)) }
+    ensures size { OnOk result (length running.new.rates ≡ length (ground.now.fluents.items)) }
+{
+    match first_other(ground, &running.members, state, &running.rates, looked) {
+        Err(stop) => Err(settle_stop(stop)),
+        Ok(Some(_)) => {
+            *running = settle_from(alloc, ground, &running.members, state, &running.rates)?;
+            Ok(())
+        }
+        Ok(None) => uncoupled(ground, &running.members, &running.rates),
     }
 }
 
@@ -154,18 +201,9 @@ pub fn settle<Q: Exact>(
     ensures members { IfOk result (λ r. AreMembers (length (ground.now.processes.items)) (process_numbers r.members.items)) }
     ensures size { IfOk result (λ r. length r.rates ≡ length (ground.now.fluents.items)) }
 {
-    let present = holding(alloc, ground, state)?;
-    let mut first = Rates::zero(alloc, 0);
-    own_rates(alloc, ground, &present, state, &mut first)?;
-    match first_other(ground, &present, state, &first) {
-        Err(stop) => Err(settle_stop(stop)),
-        Ok(Some(_)) => settle_from(alloc, ground, &present, state, &first),
-        Ok(None) => {
-            uncoupled(ground, &present, &first)?;
-            Ok(Running {
-                members: present,
-                rates: first,
-            })
-        }
-    }
+    let mut running = Running::none(alloc);
+    holding(ground, state, Looked::all(ground), &mut running.members)?;
+    own_rates(alloc, ground, &running.members, state, &mut running.rates)?;
+    settle_rated(alloc, ground, state, Looked::all(ground), &mut running)?;
+    Ok(running)
 }

@@ -14,7 +14,8 @@ use Rattle.plus_state.specs.Node.{Node}
 use Rattle.plus_state.specs.Asked.{NodeFits, AllFit, FirstUnfit}
 use Rattle.plus_state.specs.Tests.{tests_of}
 use Rattle.plus_state.specs.Numbers.{AreMembers}
-use Rattle.plus_state.specs.Walk.{all_asked, asked_at, holds_at, asked_among, held_among}
+use Rattle.plus_state.specs.Walk.{all_asked}
+use Rattle.plus_state.specs.Looked.{asked_at, holds_at, asked_among, held_among}
 use Rattle.plus_state.specs.WalkLaws.{LookSuffices, LookFinds}
 use Rattle.plus_state.proofs.Testing.{pass_append, pass_left, pass_right, fail_left, fail_right, fail_split}
 

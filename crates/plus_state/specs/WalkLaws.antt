@@ -7,7 +7,8 @@ use Rattle.plus_model.specs.Firing.{numbers_of}
 use Rattle.plus_state.specs.Node.{Node}
 use Rattle.plus_state.specs.Asked.{AllFit, FirstUnfit}
 use Rattle.plus_state.specs.Numbers.{AreMembers}
-use Rattle.plus_state.specs.Walk.{all_asked, asked_among, held_among, OthersPass, OthersFalse}
+use Rattle.plus_state.specs.Walk.{all_asked}
+use Rattle.plus_state.specs.Looked.{asked_among, held_among, OthersPass, OthersFalse}
 
 -- where nothing that the others ask fails, what these ask tells whether all passes, and what fails first
 pub record AsksAll (fits : Fraction → Type 0) (cs : List Condition) (s : State) (looked : List ℕ) : Type 0 where

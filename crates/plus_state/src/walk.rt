@@ -1,19 +1,21 @@
-//! Which events, or which processes, hold: a walk over some of them, or over all.
+//! Which events, or which processes, hold: a walk over those that are looked at.
 ghost use Rattle.std.specs.Prelude.{◌≡◌, [], ◌∷◌, ◌++◌, length, map, IfOk, MatchResult, if◌then◌else◌};
 ghost use Rattle.plus_model.specs.Value.{holds as truth_of};
 ghost use Rattle.plus_model.specs.Firing.{numbers_of};
 ghost use Rattle.plus_state.specs.View.{problem_of};
 ghost use Rattle.plus_state.specs.Fits.{StateFits};
 ghost use Rattle.plus_state.specs.Asked.{AllFit};
-ghost use Rattle.plus_state.specs.Numbers.{numbers_from, AreMembers};
-ghost use Rattle.plus_state.specs.Walk.{all_asked, held_among, OthersPass, WalkStops};
+ghost use Rattle.plus_state.specs.Looked.{looked_numbers};
+ghost use Rattle.plus_state.specs.Walk.{all_asked};
+ghost use Rattle.plus_state.specs.Looked.{AreKnown, WalkStops};
 
+use crate::looked::Looked;
 use crate::problem::Ground;
 use crate::states::State;
 use crate::term::{Cond, EventId, Overflow, ProcessId};
 use crate::truth::holds;
 use plus_number::exact::Exact;
-use std::alloc::{AllocError, Global};
+use std::alloc::AllocError;
 use std::fmt::Debug;
 use thiserror::Error;
 
@@ -113,86 +115,34 @@ fn append_if<I: Conditional>(found: &mut Vec<I>, member: I, holds: bool) -> Resu
     Ok(())
 }
 
-/// Those of these members whose condition holds, in ground order. What the conditions of all others
-/// ask is known to pass, so the refusal is the first node of the conditions of all members that is no
-/// value; or want of memory. Where none of the others holds, the answer is all members that hold.
-#[inline(always)]
-pub fn holding_among<Q: Exact, I: Conditional>(
-    alloc: Global,
-    ground: &Ground<Q>,
-    state: &State<Q>,
-    looked_at: &[I],
-) -> Result<Vec<I>, WalkStop<Q>>
-    requires state { StateFits (length (ground.now.atoms.items)) (length (ground.now.fluents.items)) state.now }
-    requires members { AreMembers (length (I.conditions (problem_of Q.value ground.now))) (map I.number looked_at.now) }
-    requires others { OthersPass Q.fits (I.conditions (problem_of Q.value ground.now)) state.now (map I.number looked_at.now) }
-    ensures { MatchResult result
-        (λ found. AllFit Q.fits (all_asked (I.conditions (problem_of Q.value ground.now)) state.now)
-        × (map I.number found.items ≡ held_among (I.conditions (problem_of Q.value ground.now)) (map I.number looked_at.now) state.now))
-        (λ stop. WalkStops Q.value Q.fits (all_asked (I.conditions (problem_of Q.value ground.now)) state.now) stop) }
-{
-    let mut found = Vec::new(alloc);
-    holding_in(ground, state, looked_at, &mut found)?;
-    Ok(found)
-}
-
-/// Puts those of these members whose condition holds, in ground order, in place of others, whose memory
-/// it takes. But for want of memory the answer is that of `holding_among`. After a refusal what was lent
-/// tells nothing.
+/// Puts the members whose condition holds, in ground order, in place of others, whose memory it takes. Only
+/// some are looked at: of all others it is known that they do not hold and that what they ask passes. The
+/// refusal is the first node of the conditions of all members that is no value; or want of memory. After a
+/// refusal what was lent tells nothing.
 #[inline(always)]
 pub fn holding_in<Q: Exact, I: Conditional>(
     ground: &Ground<Q>,
     state: &State<Q>,
-    looked_at: &[I],
+    looked: Looked<'_, I>,
     found: &mut Vec<I>,
 ) -> Result<(), WalkStop<Q>>
     requires state { StateFits (length (ground.now.atoms.items)) (length (ground.now.fluents.items)) state.now }
-    requires members { AreMembers (length (I.conditions (problem_of Q.value ground.now))) (map I.number looked_at.now) }
-    requires others { OthersPass Q.fits (I.conditions (problem_of Q.value ground.now)) state.now (map I.number looked_at.now) }
+    requires known { AreKnown Q.fits (I.conditions (problem_of Q.value ground.now)) state.now (looked_numbers I.number looked) }
     ensures { MatchResult result
         (λ _. AllFit Q.fits (all_asked (I.conditions (problem_of Q.value ground.now)) state.now)
-        × (map I.number found.new.items ≡ held_among (I.conditions (problem_of Q.value ground.now)) (map I.number looked_at.now) state.now))
+        × (map I.number found.new.items ≡ numbers_of (λ c. truth_of c state.now) 0 (I.conditions (problem_of Q.value ground.now))))
         (λ stop. WalkStops Q.value Q.fits (all_asked (I.conditions (problem_of Q.value ground.now)) state.now) stop) }
 {
     found.clear();
-    'each: for member in looked_at {
+    'each: for place in 0..looked.count() {
+        let member = looked.member(place);
         match holds(member.condition(ground), state) {
             Err(overflow) => return Err(WalkStop::Number(overflow)),
-            Ok(truth) => match append_if(found, *member, truth) {
+            Ok(truth) => match append_if(found, member, truth) {
                 Err(_) => return Err(WalkStop::Memory),
                 Ok(()) => {}
             },
         }
     }
     Ok(())
-}
-
-// The members with these numbers, all that there are.
-fn all_members<I: Conditional>(alloc: Global, count: u32) -> Result<Vec<I>, AllocError>
-    ensures { IfOk result (λ members. map I.number members.items ≡ numbers_from 0 count) }
-{
-    let mut members = Vec::new(alloc);
-    'each: for number in 0..count {
-        members.push(I::with_number(number))?;
-    }
-    Ok(members)
-}
-
-/// The members whose condition holds, in ground order. The refusal is the first node of the conditions
-/// of all members that is no value; or want of memory.
-pub fn holding_of_all<Q: Exact, I: Conditional>(
-    alloc: Global,
-    ground: &Ground<Q>,
-    state: &State<Q>,
-) -> Result<Vec<I>, WalkStop<Q>>
-    requires state { StateFits (length (ground.now.atoms.items)) (length (ground.now.fluents.items)) state.now }
-    ensures { MatchResult result
-        (λ found. AllFit Q.fits (all_asked (I.conditions (problem_of Q.value ground.now)) state.now)
-        × (map I.number found.items ≡ numbers_of (λ c. truth_of c state.now) 0 (I.conditions (problem_of Q.value ground.now))))
-        (λ stop. WalkStops Q.value Q.fits (all_asked (I.conditions (problem_of Q.value ground.now)) state.now) stop) }
-{
-    match all_members(alloc, I::count(ground)) {
-        Err(_) => Err(WalkStop::Memory),
-        Ok(members) => holding_among(alloc, ground, state, &members),
-    }
 }

@@ -15,6 +15,7 @@ use plus_crossing::moved;
 use plus_crossing::rates::Rates;
 use plus_number::exact::Exact;
 use plus_settle::{SettleStop, net_rates};
+use plus_state::looked::Looked;
 use plus_state::problem::Ground;
 use plus_state::states::State;
 use plus_state::term::ProcessId;
@@ -32,8 +33,9 @@ fn holding<Q: Exact>(
         × (process_numbers members.items ≡ holding_of (problem_of Q.value ground.now) state.now))
         (λ stop. ConditionStops Q.value Q.fits (condition_nodes ((problem_of Q.value ground.now).processes) state.now) stop) }
 {
-    match plus_settle::holding(alloc, ground, state) {
-        Ok(members) => Ok(members),
+    let mut members = Vec::new(alloc);
+    match plus_settle::holding(ground, state, Looked::all(ground), &mut members) {
+        Ok(()) => Ok(members),
         Err(SettleStop::Number(overflow)) => Err(StepStop::Number(overflow)),
         Err(SettleStop::Memory) => Err(StepStop::Memory),
         Err(_) => unreachable!(),

@@ -3,8 +3,9 @@ use Rattle.std.proofs.Common.{◌≡◌, ◌≢◌, ℕ, Bool, true, false, List
 use Rattle.std.proofs.lemmas.List.{append-nil}
 use Rattle.std.specs.Prelude.{Option, Some, None}
 use Rattle.plus_fraction.specs.Fraction.{Fraction, whole}
-use Rattle.plus_model.specs.Terms.{Event, State, Problem}
-use Rattle.plus_model.specs.Firing.{firing}
+use Rattle.plus_model.specs.Terms.{State, Problem}
+use Rattle.plus_model.specs.Value.{holds}
+use Rattle.plus_model.specs.Firing.{numbers_of, firing}
 use Rattle.plus_model.specs.Running.{GoesOn}
 use Rattle.plus_state.specs.declared.term.Sign.{Sign}
 use Rattle.plus_state.specs.View.{overflow_of}
@@ -14,10 +15,8 @@ use Rattle.plus_state.specs.Tested.{Carries}
 use Rattle.plus_state.proofs.Testing.{pass_append, pass_one, fail_one, fail_left, fail_right, carry_pass, carry_fail}
 use Rattle.plus_cascade.specs.Steps.{condition_nodes}
 use Rattle.plus_state.specs.Fits.{StateFits}
-use Rattle.plus_state.specs.Numbers.{AreMembers}
-use Rattle.plus_state.specs.Walk.{event_conditions, held_among, OthersFalse}
-use Rattle.plus_state.proofs.LookLemmas.{look_finds}
-use Rattle.plus_state.proofs.LookingLemmas.{numbers_by}
+use Rattle.plus_state.specs.Walk.{event_conditions}
+use Rattle.plus_cascade.proofs.FiringLemmas.{firing_found}
 use Rattle.plus_state.specs.Changes.{Changes, patched, Within, RisesIn}
 use Rattle.plus_model.proofs.Search.{moved-zero}
 use Rattle.plus_crossing.specs.Moves.{MovesTo}
@@ -81,13 +80,9 @@ one_holds (x ∷ held) k = refl
 pub none_holds : (held : List ℕ) (found : Bool) → found ≡ is_some_of held → found ≡ is_some_of (held ++ [])
 none_holds held found e = e ∙ ap is_some_of (sym (append-nil held))
 
--- the events that a look at some finds, where no other one holds
-pub firing_is : (P : Problem) (s : State) (looked found : List ℕ) → AreMembers (length (event_conditions P)) looked → OthersFalse (event_conditions P) s looked → found ≡ held_among (event_conditions P) looked s → found ≡ firing P s
-unfolding firing
-firing_is P s looked found m o h = h ∙ look_finds (event_conditions P) s looked m o ∙ numbers_by (λ (e : Event). e.condition) s 0 P.events
-
-pub some_found : (P : Problem) (s : State) (looked found : List ℕ) (b : Bool) → AreMembers (length (event_conditions P)) looked → OthersFalse (event_conditions P) s looked → found ≡ held_among (event_conditions P) looked s → b ≡ is_some_of found → b ≡ is_some_of (firing P s)
-some_found P s looked found b m o h e = e ∙ ap is_some_of (firing_is P s looked found m o h)
+-- whether an event is found
+pub some_found : (P : Problem) (s : State) (found : List ℕ) (b : Bool) → found ≡ numbers_of (λ c. holds c s) 0 (event_conditions P) → b ≡ is_some_of found → b ≡ is_some_of (firing P s)
+some_found P s found b h e = e ∙ ap is_some_of (firing_found P s found h)
 
 none_of : (xs : List ℕ) → false ≡ is_some_of xs → xs ≡ []
 none_of [] e = refl

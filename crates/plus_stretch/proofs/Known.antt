@@ -4,7 +4,8 @@ use Rattle.std.specs.Prelude.{Some, slice_get}
 use Rattle.plus_fraction.specs.Fraction.{Fraction, whole}
 use Rattle.plus_model.specs.Terms.{Condition, Event, State, Problem}
 use Rattle.plus_model.specs.Firing.{is_in}
-use Rattle.plus_state.specs.Walk.{event_conditions, OthersFalse}
+use Rattle.plus_state.specs.Walk.{event_conditions}
+use Rattle.plus_state.specs.Looked.{OthersFalse}
 use Rattle.plus_settle.specs.Still.Laws.{TellsStill}
 use Rattle.plus_settle.specs.Still.Others.{OthersStill}
 use Rattle.plus_settle.proofs.StillLemmas.Standing.{standing_still}

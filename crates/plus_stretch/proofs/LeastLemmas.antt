@@ -1,5 +1,5 @@
 -- The least root of marks, walked from one mark to the next.
-use Rattle.std.proofs.Common.{◌≡◌, ◌⊎◌, true, false, List, [], ◌∷◌, ◌++◌, refl, ap, sym, subst, ◌∙◌, inl, inr}
+use Rattle.std.proofs.Common.{◌≡◌, ◌⊎◌, true, false, List, [], ◌∷◌, refl, ap, sym, subst, ◌∙◌, inl, inr}
 use Rattle.std.specs.declared.cmp.Ordering.{Ordering}
 use Rattle.std.specs.declared.cmp.Ordering.TheVariants.{Less, Equal, Greater}
 use Rattle.plus_fraction.specs.Fraction.{Fraction, ◌<ℚ◌, ◌≤ℚ◌, compared}
@@ -16,6 +16,7 @@ use Rattle.plus_stretch.proofs.Rising.{rising_are}
 use Rattle.plus_stretch.proofs.Thinned.{rising_from}
 use Rattle.plus_stretch.proofs.Left.{above_all}
 use Rattle.plus_stretch.proofs.Marks.{at_most}
+use Rattle.plus_stretch.proofs.Marking.{marked_left, marked_right, marked_either}
 
 -- ---- marks and their roots
 root_of : (x : Fraction) (w : Whose) (ms : List (Fraction × Whose)) → IsMarked x w ms → Among x (roots_of ms)
@@ -31,21 +32,6 @@ owned_at x [] i = elim i [ ]
 owned_at x (m ∷ ms) i = elim i [
   | inl e ↦ record { owner = m.1; is = inl (e, refl) }
   | inr j ↦ (let o = owned_at x ms j in record { owner = o.owner; is = inr o.is })
-]
-
-marked_left : (x : Fraction) (w : Whose) (ms ns : List (Fraction × Whose)) → IsMarked x w ms → IsMarked x w (ms ++ ns)
-marked_left x w [] ns i = elim i [ ]
-marked_left x w (m ∷ ms) ns i = elim i [ inl e ↦ inl e | inr j ↦ inr (marked_left x w ms ns j) ]
-
-marked_right : (x : Fraction) (w : Whose) (ms ns : List (Fraction × Whose)) → IsMarked x w ns → IsMarked x w (ms ++ ns)
-marked_right x w [] ns i = i
-marked_right x w (m ∷ ms) ns i = inr (marked_right x w ms ns i)
-
-marked_either : (x : Fraction) (w : Whose) (ms ns : List (Fraction × Whose)) → IsMarked x w (ms ++ ns) → IsMarked x w ms ⊎ IsMarked x w ns
-marked_either x w [] ns i = inr i
-marked_either x w (m ∷ ms) ns i = elim i [
-  | inl e ↦ inl (inl e)
-  | inr j ↦ elim (marked_either x w ms ns j) [ inl k ↦ inl (inr k) | inr k ↦ inr k ]
 ]
 
 -- ---- the least so far

@@ -1,5 +1,5 @@
 -- Which events and processes are looked at.
-use Rattle.std.proofs.Common.{◌≡◌, ℕ, ◌<◌, ◌≤◌, zero, suc, Bool, true, false, List, [], ◌∷◌, ◌++◌, length, refl, ap, sym, subst, ◌∙◌, inl, inr, arith, append_assoc, if◌then◌else◌}
+use Rattle.std.proofs.Common.{◌≡◌, ℕ, ◌<◌, ◌≤◌, suc, Bool, true, false, List, [], ◌∷◌, ◌++◌, length, refl, ap, sym, subst, ◌∙◌, inl, inr, arith, append_assoc, if◌then◌else◌}
 use Rattle.std.proofs.lemmas.List.{append-nil}
 use Rattle.std.proofs.lemmas.List.Elements.{All-nil, All-cons, All-head, All-tail}
 use Rattle.std.specs.Prelude.{Option, Some, slice_get, ◌↔◌}
@@ -17,6 +17,7 @@ use Rattle.plus_settle.proofs.StillLemmas.Asking.{fits_have}
 use Rattle.plus_settle.specs.Still.Others.{OthersStand}
 use Rattle.plus_settle.proofs.StillLemmas.Simply.{still_simple}
 use Rattle.plus_stretch.specs.Skips.{simple_at, not_simple_among, OthersSimple}
+use Rattle.plus_state.proofs.LookingLemmas.{at_place as fit_at}
 
 -- ---- those that are not simple
 pub record Sifting (cs : List Condition) (rs : List Fraction) (found rest whole : List ℕ) : Type 0 where
@@ -115,10 +116,5 @@ looked_members n found listed owners r s m o = record {
 }
 
 -- the fluents of a condition of a problem have rates
-fit_at : (atoms fluents : ℕ) (cs : List Condition) (k : ℕ) (c : Condition) → slice_get cs k ≡ Some c → All (Fits atoms fluents) cs → Fits atoms fluents c
-fit_at atoms fluents [] k c g a = cc
-fit_at atoms fluents (d ∷ cs) zero c g a = (let e : d ≡ c = cc in subst (Fits atoms fluents) e (All-head (Fits atoms fluents) d cs a))
-fit_at atoms fluents (d ∷ cs) (suc k) c g a = fit_at atoms fluents cs k c g (All-tail (Fits atoms fluents) d cs a)
-
 pub have_at : (atoms fluents n : ℕ) (cs : List Condition) (k : ℕ) (c : Condition) → slice_get cs k ≡ Some c → All (Fits atoms fluents) cs → n ≡ fluents → HaveRates n c
 have_at atoms fluents n cs k c g a e = subst (λ (m : ℕ). HaveRates m c) (sym e) (fits_have atoms fluents c (fit_at atoms fluents cs k c g a))

@@ -27,7 +27,7 @@ pub marked_right : (x : Fraction) (w : Whose) (xs ys : List (Fraction × Whose))
 marked_right x w [] ys h = h
 marked_right x w (m ∷ xs) ys h = inr (marked_right x w xs ys h)
 
-marked_either : (x : Fraction) (w : Whose) (xs ys : List (Fraction × Whose)) → IsMarked x w (xs ++ ys) → IsMarked x w xs ⊎ IsMarked x w ys
+pub marked_either : (x : Fraction) (w : Whose) (xs ys : List (Fraction × Whose)) → IsMarked x w (xs ++ ys) → IsMarked x w xs ⊎ IsMarked x w ys
 marked_either x w [] ys h = inr h
 marked_either x w (m ∷ xs) ys h = elim h [ inl e ↦ inl (inl e) | inr i ↦ elim (marked_either x w xs ys i) [ inl l ↦ inl (inr l) | inr r ↦ inr r ] ]
 

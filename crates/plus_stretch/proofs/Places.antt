@@ -1,26 +1,16 @@
 -- Events of a list, and numbers of events.
-use Rattle.std.proofs.Common.{◌≡◌, ℕ, ◌<◌, ◌≤◌, ◌+◌, zero, suc, List, [], ◌∷◌, length, map, drop, get_or, ap, sym, subst, ◌∙◌, arith, drop-cons}
-use Rattle.std.proofs.lemmas.List.{length-map, drop_all}
+use Rattle.std.proofs.Common.{◌≡◌, ℕ, ◌<◌, zero, suc, List, [], ◌∷◌, length, map, get_or, ap, sym, subst, arith}
+use Rattle.std.proofs.lemmas.List.{length-map}
 use Rattle.std.specs.Prelude.{Some, slice_get}
 use Rattle.plus_fraction.specs.Fraction.{Fraction}
-use Rattle.plus_model.specs.Terms.{Event, Process}
+use Rattle.plus_model.specs.Terms.{Event}
 use Rattle.plus_number.specs.declared.exact.Exact.{Ghosts}
-use Rattle.plus_state.specs.declared.term.EventId.{EventId}
 use Rattle.plus_state.specs.declared.problem.Event as code
 use Rattle.plus_state.specs.declared.problem.Ground.{Ground}
 use Rattle.plus_state.specs.View.{event_of, process_of, problem_of}
-use Rattle.plus_state.specs.Numbers.{event_numbers, AreMembers}
-use Rattle.plus_state.specs.Walk.{event_conditions, process_conditions}
+use Rattle.plus_state.specs.Numbers.{AreMembers}
+use Rattle.plus_state.specs.Walk.{event_conditions}
 use Rattle.plus_settle.proofs.StillLemmas.Listed.{Walked, walked_inside}
-
--- the numbers from place i on
-pub next_event : (xs : List EventId) (i : ℕ) (d : EventId) → i < length xs → event_numbers (drop i xs) ≡ (get_or xs i d).0 ∷ event_numbers (drop (i + 1) xs)
-next_event xs i d h =
-    let one : suc i ≡ i + 1 = omega arith in
-    ap event_numbers (drop-cons xs i d h) ∙ ap (λ (n : ℕ). (get_or xs i d).0 ∷ event_numbers (drop n xs)) one
-
-pub no_event : (xs : List EventId) (i : ℕ) → length xs ≤ i → event_numbers (drop i xs) ≡ []
-no_event xs i h = ap event_numbers (drop_all i xs h)
 
 -- an event of the list
 pub event_here : {Q : Type 0} (v : Q → Fraction) (items : List (code.Event Q)) (i : ℕ) (x : code.Event Q) → i < length items → x ≡ get_or items i x → slice_get (map (event_of v) items) i ≡ Some (event_of v x)

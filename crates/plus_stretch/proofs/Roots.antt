@@ -84,7 +84,7 @@ open_above : (o : Option Bool) (x : Fraction) (xs ys : List Fraction) → (Among
 open_above (Some b) x xs ys f g h = elim h [ ]
 open_above None x xs ys f g h = elim (among_either x xs ys h) [ inl l ↦ f l | inr r ↦ g r ]
 
-live_above : (c : Condition) (s : State) (rs : List Fraction) (x : Fraction) → Among x (live_roots c s rs) → whole (pos 0) <ℚ x
+pub live_above : (c : Condition) (s : State) (rs : List Fraction) (x : Fraction) → Among x (live_roots c s rs) → whole (pos 0) <ℚ x
 live_above Always s rs x h = elim h [ ]
 live_above Never s rs x h = elim h [ ]
 live_above (Both c d) s rs x h = open_above (decided (Both c d) s) x _ _ (live_above c s rs x) (live_above d s rs x) h

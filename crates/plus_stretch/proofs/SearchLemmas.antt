@@ -38,13 +38,13 @@ use Rattle.plus_stretch.proofs.Halts.{halt_left, halt_right}
 use Rattle.plus_stretch.proofs.CrossingLemmas.{crossing_split, crossing_quiet, crossing_ends}
 
 -- ---- moments
-later_by : (t r : Fraction) → (t +ℚ r) -ℚ t ≡ r
+pub later_by : (t r : Fraction) → (t +ℚ r) -ℚ t ≡ r
 later_by t r = ringℚ (t ∷ r ∷ []) ((var 0 ⊕ var 1) ⊖ var 0) (var 1) refl
 
 since : (time t r : Fraction) → time ≡ t +ℚ r → time -ℚ t ≡ r
 since time t r e = ap (λ (z : Fraction). z -ℚ t) e ∙ later_by t r
 
-up_to : (t u : Fraction) → u ≡ t +ℚ (u -ℚ t)
+pub up_to : (t u : Fraction) → u ≡ t +ℚ (u -ℚ t)
 up_to t u = ringℚ (t ∷ u ∷ []) (var 1) (var 0 ⊕ (var 1 ⊖ var 0)) refl
 
 no_time : (t : Fraction) → t -ℚ t ≡ whole (pos 0)

@@ -36,11 +36,7 @@ use Rattle.plus_stretch.proofs.Between.{event_pass, process_pass, none_next}
 use Rattle.plus_stretch.proofs.Roots.{listed, event_listed, process_listed}
 use Rattle.plus_stretch.proofs.Left.{above_all}
 use Rattle.plus_stretch.proofs.SearchLemmas.{Walking}
-
-both_true : (b c : Bool) → ((b ≡ true) → (c ≡ true)) → ((c ≡ true) → (b ≡ true)) → b ≡ c
-both_true true c f g = sym (f refl)
-both_true false true f g = g refl
-both_true false false f g = refl
+use Rattle.plus_settle.proofs.ConfirmsLemmas.{both_true}
 
 false_by : (b : Bool) → (b ≡ true → ⊥) → b ≡ false
 false_by true f = absurd (f refl)

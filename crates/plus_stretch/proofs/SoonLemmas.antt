@@ -23,13 +23,9 @@ use Rattle.plus_settle.proofs.StillLemmas.Listed.{PassesOver, Walked, walked_sta
 use Rattle.plus_stretch.specs.After.{soon, event_tests, soon_tests, first_after, NoneHoldsAfter}
 use Rattle.plus_stretch.specs.Among.{IsNotSoon, OthersNotSoon}
 use Rattle.plus_stretch.proofs.Layers.{asks_carry}
+use Rattle.plus_settle.proofs.ConfirmsLemmas.{both_true}
 
 -- ---- one event
-both_true : (b c : Bool) → ((b ≡ true) → (c ≡ true)) → ((c ≡ true) → (b ≡ true)) → b ≡ c
-both_true true c f g = sym (f refl)
-both_true false true f g = g refl
-both_true false false f g = refl
-
 pub soon_pass : (fits : Fraction → Type 0) (k : ℕ) (e : Event) (s : State) (rs : List Fraction) (b : Bool) → crossing.AllPass fits (live_asks 0 e.condition s rs) → ((b ≡ true) ↔ JustAfter s rs e.condition) → AllPass fits (event_tests k e s rs) × (b ≡ soon e s rs) × ((soon e s rs ≡ true) ↔ JustAfter s rs e.condition)
 unfolding event_tests soon
 soon_pass fits k e s rs b a t =

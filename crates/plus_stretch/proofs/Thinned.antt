@@ -22,6 +22,7 @@ use Rattle.plus_stretch.specs.Thinned.{Ascends, is_kept, thinned}
 use Rattle.plus_stretch.proofs.Rising.{to_below, insert_from, rising_are}
 use Rattle.plus_stretch.proofs.Roots.{among_right}
 use Rattle.plus_stretch.proofs.Left.{above_all}
+use Rattle.plus_settle.proofs.StillLemmas.Simply.{and_both as both_given}
 
 -- ---- two lists that rise and have the same members are one
 same_rising : (a : Fraction) (xs ys : List Fraction) → RisesAbove a xs → RisesAbove a ys → ((z : Fraction) → Among z xs → Among z ys) → ((z : Fraction) → Among z ys → Among z xs) → xs ≡ ys
@@ -59,10 +60,6 @@ lower a b (x ∷ xs) h r = (≤ℚ-<ℚ_trans a b x h r.0, r.1)
 both_hold : (b c : Bool) → b && c ≡ true → (b ≡ true) × (c ≡ true)
 both_hold true c e = (refl, e)
 both_hold false c e = cc
-
-both_given : (b c : Bool) → b ≡ true → c ≡ true → b && c ≡ true
-both_given true c e f = f
-both_given false c e f = cc
 
 rises_if : (b : Bool) (a x : Fraction) (xs : List Fraction) → (b ≡ true → a <ℚ x) → a ≤ℚ x → RisesAbove x xs → RisesAbove a ((if b then x ∷ [] else []) ++ xs)
 rises_if true a x xs f h r = (f refl, r)

@@ -1,14 +1,17 @@
 -- What is known, without a look at them, of events and processes that are not listed.
-use Rattle.std.specs.Prelude.{◌≡◌, ◌↔◌, ℕ, true, false, List, [], Some, slice_get}
+use Rattle.std.specs.Prelude.{◌≡◌, ◌↔◌, ℕ, true, false, List, [], length, Some, slice_get}
 use Rattle.plus_fraction.specs.Fraction.{Fraction}
 use Rattle.plus_model.specs.Terms.{Condition, Event, State, Problem}
 use Rattle.plus_model.specs.Firing.{is_in}
-use Rattle.plus_state.specs.Walk.{event_conditions, OthersPass, OthersFalse}
+use Rattle.plus_state.specs.Numbers.{AreMembers}
+use Rattle.plus_state.specs.Walk.{event_conditions, process_conditions}
+use Rattle.plus_state.specs.Looked.{OthersPass, OthersFalse}
 use Rattle.plus_crossing.specs.Asked.{AllPass}
 use Rattle.plus_crossing.specs.Conds.{live_asks}
 use Rattle.plus_crossing.specs.Next.{cross_asks}
 use Rattle.plus_crossing.specs.Listed.{live_roots}
 use Rattle.plus_settle.specs.Among.{OthersConfirmed}
+use Rattle.plus_settle.specs.Still.Others.{OthersStill}
 use Rattle.plus_stretch.specs.After.{soon}
 
 -- the event does not hold just after, and what it asks to tell this passes
@@ -36,6 +39,15 @@ pub record OthersKnown (fits : Fraction → Type 0) (P : Problem) (R : List ℕ)
   pub silent : OthersFalse (event_conditions P) s events
   pub soon : OthersNotSoon fits P s rs events
   pub confirmed : OthersConfirmed fits P R s rs processes
+
+-- what is known along a running set where only these are looked at: of the others nothing moves that they read, what they ask
+-- passes, and no event holds
+pub record AreKnownAlong (fits : Fraction → Type 0) (P : Problem) (s : State) (rs : List Fraction) (events processes : List ℕ) : Type 0 where
+  pub event_members : AreMembers (length (event_conditions P)) events
+  pub process_members : AreMembers (length (process_conditions P)) processes
+  pub events_still : OthersStill fits (event_conditions P) s rs events
+  pub events_silent : OthersFalse (event_conditions P) s events
+  pub processes_still : OthersStill fits (process_conditions P) s rs processes
 
 -- whatever lists have these members
 abbrev pub KnownFor : (Fraction → Type 0) → Problem → List ℕ → State → List Fraction → List ℕ → List ℕ → Type 0

@@ -6,7 +6,8 @@ ghost use Rattle.plus_state.specs.View.{problem_of};
 ghost use Rattle.plus_state.specs.Fits.{StateFits};
 ghost use Rattle.plus_state.specs.Asked.{node, AllFit};
 ghost use Rattle.plus_state.specs.Numbers.{event_numbers};
-ghost use Rattle.plus_state.specs.Walk.{event_conditions, OthersPass, OthersFalse};
+ghost use Rattle.plus_state.specs.Walk.{event_conditions};
+ghost use Rattle.plus_state.specs.Looked.{AreKnown};
 ghost use Rattle.plus_crossing.specs.Moves.{moved_nodes};
 ghost use Rattle.plus_crossing.specs.Motions.{Extends, MayDrift};
 ghost use Rattle.plus_settle.specs.Members.{process_numbers, AreMembers};
@@ -25,9 +26,10 @@ use plus_crossing::moves::{MoveStop, moved_changes};
 use plus_crossing::node::exact;
 use plus_crossing::rates::Rates;
 use plus_number::exact::Exact;
-use plus_settle::among::first_other_among;
+use plus_settle::confirms::first_other;
 use plus_settle::settling::Running;
 use plus_settle::stops::GoStop;
+use plus_state::looked::Looked;
 use plus_state::outcome::{Limit, Owner};
 use plus_state::problem::Ground;
 use plus_state::states::State;
@@ -42,9 +44,7 @@ fn event_holds<Q: Exact>(
     events: &[EventId],
 ) -> Result<bool, Halt<Q>>
     requires state { StateFits (length (ground.now.atoms.items)) (length (ground.now.fluents.items)) state.now }
-    requires events { AreMembers (length (ground.now.events.items)) (event_numbers events.now) }
-    requires pass { OthersPass Q.fits (event_conditions (problem_of Q.value ground.now)) state.now (event_numbers events.now) }
-    requires silent { OthersFalse (event_conditions (problem_of Q.value ground.now)) state.now (event_numbers events.now) }
+    requires known { AreKnown Q.fits (event_conditions (problem_of Q.value ground.now)) state.now (event_numbers events.now) }
     ensures { EventHoldsTold Q.value Q.fits (problem_of Q.value ground.now) state.now result }
 {
     let mut found = false;
@@ -108,10 +108,16 @@ fn begins_here<Q: Exact>(
             }
         }
     }
-    match first_other_among(ground, &running.members, state, &running.rates, processes) {
+    match first_other(
+        ground,
+        &running.members,
+        state,
+        &running.rates,
+        Looked::These(processes),
+    ) {
         Err(stop) => Err(go_halt(stop)),
         Ok(Some(_)) => Ok(Some(End::SetEnds)),
-        Ok(None) => match none_soon(ground, state, &running.rates, time, events) {
+        Ok(None) => match none_soon(ground, state, &running.rates, time, Looked::These(events)) {
             Err(halt) => Err(halt),
             Ok(()) => Ok(None),
         },

@@ -2,7 +2,8 @@
 ghost use Rattle.std.specs.Prelude.{◌≡◌, ◌++◌, [], length, map, IfOk};
 ghost use Rattle.plus_state.specs.View.{problem_of};
 ghost use Rattle.plus_state.specs.Fits.{StateFits};
-ghost use Rattle.plus_state.specs.Numbers.{event_numbers, process_numbers, AreMembers};
+ghost use Rattle.plus_state.specs.Numbers.{AreMembers};
+ghost use Rattle.plus_state.specs.Looked.{events_looked, processes_looked};
 ghost use Rattle.plus_state.specs.Walk.{event_conditions, process_conditions};
 ghost use Rattle.plus_stretch.specs.Tests.{event, process, whose};
 ghost use Rattle.plus_stretch.specs.StretchTests.{root_tests};
@@ -17,6 +18,7 @@ use plus_crossing::listing::{RootsStop, roots_into};
 use plus_crossing::node::CondStop;
 use plus_crossing::rates::Rates;
 use plus_number::exact::Exact;
+use plus_state::looked::Looked;
 use plus_state::outcome::{Limit, Owner};
 use plus_state::problem::Ground;
 use plus_state::states::State;
@@ -51,21 +53,22 @@ fn event_marks<Q: Exact>(
     ground: &Ground<Q>,
     state: &State<Q>,
     rates: &Rates<Q>,
-    events: &[EventId],
+    events: Looked<'_, EventId>,
     roots: &mut Vec<Q>,
     into: &mut Vec<Mark<Q>>,
 ) -> Result<(), Halt<Q>>
     requires state { StateFits (length (ground.now.atoms.items)) (length (ground.now.fluents.items)) state.now }
     requires rates { length rates.now ≡ length (state.now.fluents) }
-    requires events { AreMembers (length (ground.now.events.items)) (event_numbers events.now) }
-    requires others { OthersHaveNoRoot Q.fits (event_conditions (problem_of Q.value ground.now)) state.now rates.now (event_numbers events.now) }
+    requires events { AreMembers (length (ground.now.events.items)) (events_looked events) }
+    requires others { OthersHaveNoRoot Q.fits (event_conditions (problem_of Q.value ground.now)) state.now rates.now (events_looked events) }
     ensures { MarksTold Q.value Q.fits event (λ e. e.condition) ((problem_of Q.value ground.now).events) state.now rates.now into.old.items into.new.items result }
 {
-    'each: for id in events {
+    'each: for place in 0..events.count() {
+        let id = events.member(place);
         roots.clear();
         match roots_into(&ground.events[id.0 as usize].condition, state, rates, roots) {
-            Err(stop) => return Err(root_halt(stop, Owner::Event(*id))),
-            Ok(()) => match mark_all(roots, Owner::Event(*id), into) {
+            Err(stop) => return Err(root_halt(stop, Owner::Event(id))),
+            Ok(()) => match mark_all(roots, Owner::Event(id), into) {
                 Err(_) => return Err(Halt::Memory),
                 Ok(()) => {}
             },
@@ -79,17 +82,18 @@ fn process_marks<Q: Exact>(
     ground: &Ground<Q>,
     state: &State<Q>,
     rates: &Rates<Q>,
-    processes: &[ProcessId],
+    processes: Looked<'_, ProcessId>,
     roots: &mut Vec<Q>,
     into: &mut Vec<Mark<Q>>,
 ) -> Result<(), Halt<Q>>
     requires state { StateFits (length (ground.now.atoms.items)) (length (ground.now.fluents.items)) state.now }
     requires rates { length rates.now ≡ length (state.now.fluents) }
-    requires processes { AreMembers (length (ground.now.processes.items)) (process_numbers processes.now) }
-    requires others { OthersHaveNoRoot Q.fits (process_conditions (problem_of Q.value ground.now)) state.now rates.now (process_numbers processes.now) }
+    requires processes { AreMembers (length (ground.now.processes.items)) (processes_looked processes) }
+    requires others { OthersHaveNoRoot Q.fits (process_conditions (problem_of Q.value ground.now)) state.now rates.now (processes_looked processes) }
     ensures { MarksTold Q.value Q.fits process (λ p. p.condition) ((problem_of Q.value ground.now).processes) state.now rates.now into.old.items into.new.items result }
 {
-    'each: for id in processes {
+    'each: for place in 0..processes.count() {
+        let id = processes.member(place);
         roots.clear();
         match roots_into(
             &ground.processes[id.0 as usize].condition,
@@ -97,8 +101,8 @@ fn process_marks<Q: Exact>(
             rates,
             roots,
         ) {
-            Err(stop) => return Err(root_halt(stop, Owner::Process(*id))),
-            Ok(()) => match mark_all(roots, Owner::Process(*id), into) {
+            Err(stop) => return Err(root_halt(stop, Owner::Process(id))),
+            Ok(()) => match mark_all(roots, Owner::Process(id), into) {
                 Err(_) => return Err(Halt::Memory),
                 Ok(()) => {}
             },
@@ -109,23 +113,23 @@ fn process_marks<Q: Exact>(
 
 /// The moments above 0 at which the sides of a live comparison meet, when the fluents move at these
 /// rates, with their owners: those of all events and then of all processes, in ground order and in the
-/// order of the text, by a look at the listed ones alone, where no other one has a root. They are the
+/// order of the text, by a look at some alone, where no other one has a root. They are the
 /// marks in the room then, which is memory only: whatever stands in it before is left out. The refusal
 /// is the first test that fails, or want of memory.
 pub fn roots<Q: Exact>(
     ground: &Ground<Q>,
     state: &State<Q>,
     rates: &Rates<Q>,
-    events: &[EventId],
-    processes: &[ProcessId],
+    events: Looked<'_, EventId>,
+    processes: Looked<'_, ProcessId>,
     room: &mut Room<Q>,
 ) -> Result<(), Halt<Q>>
     requires state { StateFits (length (ground.now.atoms.items)) (length (ground.now.fluents.items)) state.now }
     requires rates { length rates.now ≡ length (state.now.fluents) }
-    requires events { AreMembers (length (ground.now.events.items)) (event_numbers events.now) }
-    requires processes { AreMembers (length (ground.now.processes.items)) (process_numbers processes.now) }
-    requires other_events { OthersHaveNoRoot Q.fits (event_conditions (problem_of Q.value ground.now)) state.now rates.now (event_numbers events.now) }
-    requires other_processes { OthersHaveNoRoot Q.fits (process_conditions (problem_of Q.value ground.now)) state.now rates.now (process_numbers processes.now) }
+    requires events { AreMembers (length (ground.now.events.items)) (events_looked events) }
+    requires processes { AreMembers (length (ground.now.processes.items)) (processes_looked processes) }
+    requires other_events { OthersHaveNoRoot Q.fits (event_conditions (problem_of Q.value ground.now)) state.now rates.now (events_looked events) }
+    requires other_processes { OthersHaveNoRoot Q.fits (process_conditions (problem_of Q.value ground.now)) state.now rates.now (processes_looked processes) }
     ensures { Told Q.value Q.fits (root_tests (problem_of Q.value ground.now) state.now rates.now)
         (λ _. AllMarked (problem_of Q.value ground.now) state.now rates.now (marks_of Q.value room.new.marks.items)) Never result }
 {

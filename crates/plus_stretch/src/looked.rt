@@ -5,6 +5,7 @@ ghost use Rattle.plus_model.specs.Running.{IsRising};
 ghost use Rattle.plus_state.specs.View.{problem_of};
 ghost use Rattle.plus_state.specs.Numbers.{event_numbers, process_numbers, AreMembers};
 ghost use Rattle.plus_state.specs.Walk.{event_conditions, process_conditions};
+ghost use Rattle.plus_state.specs.Looked.{looked_numbers, events_looked, processes_looked};
 ghost use Rattle.plus_stretch.specs.Tests.{whose};
 ghost use Rattle.plus_stretch.specs.Marked.{marks_of, event_of, process_of, owning_events, owning_processes};
 ghost use Rattle.plus_stretch.specs.Skips.{not_simple_among};
@@ -14,6 +15,7 @@ use plus_crossing::rates::Rates;
 use plus_number::exact::Exact;
 use plus_reads::touched::members_into;
 use plus_settle::still::simple::is_simple;
+use plus_state::looked::Looked;
 use plus_state::outcome::Owner;
 use plus_state::problem::Ground;
 use plus_state::term::{EventId, ProcessId};
@@ -22,15 +24,15 @@ use std::alloc::{AllocError, Global};
 
 /// Events and processes.
 #[derive(Drop)]
-pub struct Looked {
+pub struct Lists {
     pub events: Vec<EventId>,
     pub processes: Vec<ProcessId>,
 }
 
-impl Looked {
+impl Lists {
     /// None yet.
-    pub fn new(alloc: Global) -> Looked {
-        Looked {
+    pub fn new(alloc: Global) -> Lists {
+        Lists {
             events: Vec::new(alloc),
             processes: Vec::new(alloc),
         }
@@ -40,7 +42,7 @@ impl Looked {
 /// What is looked at at one root after the other, and memory for their numbers.
 #[derive(Drop)]
 pub struct Looking {
-    pub looked: Looked,
+    pub looked: Lists,
     numbers: Vec<u32>,
 }
 
@@ -48,7 +50,7 @@ impl Looking {
     /// None yet.
     pub fn new(alloc: Global) -> Looking {
         Looking {
-            looked: Looked::new(alloc),
+            looked: Lists::new(alloc),
             numbers: Vec::new(alloc),
         }
     }
@@ -72,35 +74,36 @@ fn append_unless<I: Conditional>(
 fn not_simple<Q: Exact, I: Conditional>(
     ground: &Ground<Q>,
     rates: &Rates<Q>,
-    listed: &[I],
+    looked: Looked<'_, I>,
     found: &mut Vec<I>,
 ) -> Result<(), AllocError>
     requires rates { length rates.now ≡ length (ground.now.fluents.items) }
-    requires members { AreMembers (length (I.conditions (problem_of Q.value ground.now))) (map I.number listed.now) }
-    ensures { IfOk result (λ _. map I.number found.new.items ≡ not_simple_among (I.conditions (problem_of Q.value ground.now)) (map I.number listed.now) rates.now) }
+    requires members { AreMembers (length (I.conditions (problem_of Q.value ground.now))) (looked_numbers I.number looked) }
+    ensures { IfOk result (λ _. map I.number found.new.items ≡ not_simple_among (I.conditions (problem_of Q.value ground.now)) (looked_numbers I.number looked.entry) rates.now) }
 {
     found.clear();
-    'each: for member in listed {
+    'each: for place in 0..looked.count() {
+        let member = looked.member(place);
         let simple = is_simple(member.condition(ground), rates);
-        append_unless(found, *member, simple)?;
+        append_unless(found, member, simple)?;
     }
     Ok(())
 }
 
-/// Puts the listed events and processes whose conditions are not simple in place of others: what they ask may
+/// Puts those of these events and processes whose conditions are not simple in place of others: what they ask may
 /// fail on the way.
 pub fn everywhere<Q: Exact>(
     ground: &Ground<Q>,
     rates: &Rates<Q>,
-    events: &[EventId],
-    processes: &[ProcessId],
-    into: &mut Looked,
+    events: Looked<'_, EventId>,
+    processes: Looked<'_, ProcessId>,
+    into: &mut Lists,
 ) -> Result<(), AllocError>
     requires rates { length rates.now ≡ length (ground.now.fluents.items) }
-    requires events { AreMembers (length (ground.now.events.items)) (event_numbers events.now) }
-    requires processes { AreMembers (length (ground.now.processes.items)) (process_numbers processes.now) }
-    ensures events { IfOk result (λ _. event_numbers into.new.events.items ≡ not_simple_among (event_conditions (problem_of Q.value ground.now)) (event_numbers events.now) rates.now) }
-    ensures processes { IfOk result (λ _. process_numbers into.new.processes.items ≡ not_simple_among (process_conditions (problem_of Q.value ground.now)) (process_numbers processes.now) rates.now) }
+    requires events { AreMembers (length (ground.now.events.items)) (events_looked events) }
+    requires processes { AreMembers (length (ground.now.processes.items)) (processes_looked processes) }
+    ensures events { IfOk result (λ _. event_numbers into.new.events.items ≡ not_simple_among (event_conditions (problem_of Q.value ground.now)) (events_looked events.entry) rates.now) }
+    ensures processes { IfOk result (λ _. process_numbers into.new.processes.items ≡ not_simple_among (process_conditions (problem_of Q.value ground.now)) (processes_looked processes.entry) rates.now) }
 {
     not_simple(ground, rates, events, &mut into.events)?;
     not_simple(ground, rates, processes, &mut into.processes)?;
@@ -191,7 +194,7 @@ fn with_processes<Q: Exact>(
 /// is looked at everywhere; in ground order and each once.
 pub fn looked_at<Q: Exact>(
     marks: &[Mark<Q>],
-    everywhere: &Looked,
+    everywhere: &Lists,
     looking: &mut Looking,
 ) -> Result<(), AllocError>
     ensures events_rise { IfOk result (λ _. IsRising 0 (event_numbers looking.new.looked.events.items)) }

@@ -1,5 +1,5 @@
 //! Roots with their owners.
-use crate::looked::{Looked, Looking};
+use crate::looked::{Lists, Looking};
 use plus_number::exact::Exact;
 use plus_state::outcome::Owner;
 use std::alloc::Global;
@@ -20,7 +20,7 @@ pub struct Room<Q: Exact> {
     pub marks: Vec<Mark<Q>>,
     pub here: Vec<Mark<Q>>,
     pub different: Vec<Q>,
-    pub everywhere: Looked,
+    pub everywhere: Lists,
     pub looking: Looking,
 }
 
@@ -32,7 +32,7 @@ impl<Q: Exact> Room<Q> {
             marks: Vec::new(alloc),
             here: Vec::new(alloc),
             different: Vec::new(alloc),
-            everywhere: Looked::new(alloc),
+            everywhere: Lists::new(alloc),
             looking: Looking::new(alloc),
         }
     }

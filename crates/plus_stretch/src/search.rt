@@ -6,10 +6,10 @@ ghost use Rattle.plus_state.specs.View.{problem_of};
 ghost use Rattle.plus_state.specs.Fits.{StateFits};
 ghost use Rattle.plus_state.specs.Asked.{node};
 ghost use Rattle.plus_state.specs.Numbers.{event_numbers};
-ghost use Rattle.plus_state.specs.Walk.{event_conditions, process_conditions, OthersFalse};
+ghost use Rattle.plus_state.specs.Walk.{event_conditions, process_conditions};
+ghost use Rattle.plus_state.specs.Looked.{events_looked, processes_looked};
 ghost use Rattle.plus_crossing.specs.Motions.{Extends};
 ghost use Rattle.plus_crossing.specs.Moves.{moved_nodes};
-ghost use Rattle.plus_settle.specs.Still.Others.{OthersStill};
 ghost use Rattle.plus_settle.specs.Members.{process_numbers, AreMembers};
 ghost use Rattle.plus_stretch.specs.Tests.{asks, AllPass};
 ghost use Rattle.plus_stretch.specs.StretchTests.{root_tests};
@@ -19,17 +19,16 @@ ghost use Rattle.plus_stretch.specs.Told.{Told, Never};
 ghost use Rattle.plus_stretch.specs.Here.{IsAlong};
 ghost use Rattle.plus_stretch.specs.Crossings.{rising_below};
 ghost use Rattle.plus_stretch.specs.Arrives.{if_begun, arrived_at, IsArrived, CrossingTold, IsQuietAtFirst, IsAtEnd, FirstTold, WalkTold, StretchTold};
-ghost use Rattle.plus_stretch.specs.Among.{KnownFor};
+ghost use Rattle.plus_stretch.specs.Among.{KnownFor, AreKnownAlong};
 ghost use Rattle.plus_stretch.specs.Marked.{marks_of, roots_of, owning_events, owning_processes, AreOwners, AreAllMarked, AllMarked, AreAscending};
 ghost use Rattle.plus_stretch.specs.Skips.{OthersSimple};
 
 use crate::arrival::{Ahead, End};
 use crate::crossing::{at_root, move_ahead};
-use crate::everyone::everyone;
 use crate::halt::Halt;
 use crate::least::least_below;
 use crate::listing::roots;
-use crate::looked::{Looked, Looking, everywhere, looked_at};
+use crate::looked::{Lists, Looking, everywhere, looked_at};
 use crate::mark::{Mark, Room};
 use crate::soon::none_soon;
 use crate::sorted::{rising, up_to};
@@ -38,6 +37,7 @@ use plus_crossing::node::exact;
 use plus_crossing::rates::Rates;
 use plus_number::exact::Exact;
 use plus_settle::settling::Running;
+use plus_state::looked::Looked;
 use plus_state::outcome::Limit;
 use plus_state::problem::Ground;
 use plus_state::states::State;
@@ -65,7 +65,7 @@ fn cross<Q: Exact>(
     time: Q,
     root: Q,
     marks: &[Mark<Q>],
-    everywhere: &Looked,
+    everywhere: &Lists,
     looking: &mut Looking,
     extent: Option<u64>,
 ) -> Result<bool, Halt<Q>>
@@ -109,7 +109,7 @@ fn cross_behind<Q: Exact>(
     time: Q,
     root: Q,
     marks: &[Mark<Q>],
-    everywhere: &Looked,
+    everywhere: &Lists,
     looking: &mut Looking,
     extent: Option<u64>,
     is_first: bool,
@@ -218,7 +218,7 @@ fn first<Q: Exact>(
     span: Span<Q>,
     marks: &[Mark<Q>],
     here: &mut Vec<Mark<Q>>,
-    everywhere: &Looked,
+    everywhere: &Lists,
     looking: &mut Looking,
 ) -> Result<bool, Halt<Q>>
     requires state { StateFits (length (ground.now.atoms.items)) (length (ground.now.fluents.items)) state.now }
@@ -262,7 +262,7 @@ fn walk<Q: Exact>(
     span: Span<Q>,
     roots: &[Q],
     marks: &[Mark<Q>],
-    everywhere: &Looked,
+    everywhere: &Lists,
     looking: &mut Looking,
 ) -> Result<(), Halt<Q>>
     requires state { StateFits (length (ground.now.atoms.items)) (length (ground.now.fluents.items)) state.now }
@@ -393,7 +393,7 @@ fn time_left<Q: Exact>(time: Q, until: Q) -> Result<Q, Halt<Q>>
 
 /// How far a running set goes on from a time: the first moment, at most the one asked for, at which an
 /// event holds or the set does not go on. The rates are those of its members in the state, and they go
-/// on in it; the time asked for is later. Only the listed events and processes are looked at: no other
+/// on in it; the time asked for is later. Only some events and processes are looked at: no other
 /// one reads a fluent that moves, what each other one asks in the state passes, and no other event holds
 /// in it. At a root only the events and processes are looked at that have it, and those whose conditions
 /// ask more than their truth on the way. The refusal is the first test that fails, in this order: the events just after the state, up
@@ -403,15 +403,15 @@ fn time_left<Q: Exact>(time: Q, until: Q) -> Result<Q, Halt<Q>>
 /// holds; at last the fluents that move up to the time asked for. Want of memory may come at any time.
 /// The state ahead is one more copy of the state, which is moved on the way; then it is the state on arrival,
 /// and the arrival beside it says when and why the stretch ends there. After a refusal that says nothing. The room is memory only: the answer is the same, whatever stands in it.
-pub fn reach_among<Q: Exact>(
+pub fn reach_in<Q: Exact>(
     ground: &Ground<Q>,
     state: &State<Q>,
     ahead: &mut Ahead<Q>,
     running: &Running<Q>,
     time: Q,
     until: Q,
-    events: &[EventId],
-    processes: &[ProcessId],
+    events: Looked<'_, EventId>,
+    processes: Looked<'_, ProcessId>,
     room: &mut Room<Q>,
 ) -> Result<(), Halt<Q>>
     requires state { StateFits (length (ground.now.atoms.items)) (length (ground.now.fluents.items)) state.now }
@@ -421,11 +421,7 @@ pub fn reach_among<Q: Exact>(
     requires on { GoesOn (problem_of Q.value ground.now) state.now running.now.rates (process_numbers running.now.members.items) }
     requires later { Q.value time <ℚ Q.value until }
     requires ahead { ahead.old.state ≡ state.now }
-    requires events { AreMembers (length (ground.now.events.items)) (event_numbers events.now) }
-    requires processes { AreMembers (length (ground.now.processes.items)) (process_numbers processes.now) }
-    requires other_events { OthersStill Q.fits (event_conditions (problem_of Q.value ground.now)) state.now running.now.rates (event_numbers events.now) }
-    requires silent { OthersFalse (event_conditions (problem_of Q.value ground.now)) state.now (event_numbers events.now) }
-    requires other_processes { OthersStill Q.fits (process_conditions (problem_of Q.value ground.now)) state.now running.now.rates (process_numbers processes.now) }
+    requires known { AreKnownAlong Q.fits (problem_of Q.value ground.now) state.now running.now.rates (events_looked events) (processes_looked processes) }
     ensures told { StretchTold Q.value Q.fits (problem_of Q.value ground.now) (Q.value until) (Q.value time) state.now (process_numbers running.now.members.items) running.now.rates (arrived_at ahead.new.arrival result) }
     ensures along { IsAlong state.now running.now.rates ahead.new.state }
     ensures arrived { OnOk result (IsArrived state.now ahead.new.state ahead.new.arrival) }
@@ -457,7 +453,7 @@ pub fn reach_among<Q: Exact>(
 }
 
 /// How far a running set goes on from a time, by a look at all events and processes: that of
-/// `reach_among` with all numbers.
+/// `reach_in`, in memory of its own.
 pub fn reach<Q: Exact>(
     alloc: Global,
     ground: &Ground<Q>,
@@ -478,18 +474,15 @@ pub fn reach<Q: Exact>(
     ensures along { IsAlong state.now running.now.rates ahead.new.state }
     ensures arrived { OnOk result (IsArrived state.now ahead.new.state ahead.new.arrival) }
 {
-    match everyone(alloc, ground) {
-        Err(_) => Err(Halt::Memory),
-        Ok((events, processes)) => reach_among(
-            ground,
-            state,
-            ahead,
-            running,
-            time,
-            until,
-            &events,
-            &processes,
-            &mut Room::new(alloc),
-        ),
-    }
+    reach_in(
+        ground,
+        state,
+        ahead,
+        running,
+        time,
+        until,
+        Looked::all(ground),
+        Looked::all(ground),
+        &mut Room::new(alloc),
+    )
 }

@@ -11,7 +11,8 @@ use plus_crossing::crossings::is_below;
 use plus_number::exact::Exact;
 use std::alloc::AllocError;
 
-fn is_kept<Q: Exact>(before: Option<Q>, root: Q, bound: Q) -> bool
+/// Whether a root is below the bound and not the one before it, of roots that do not fall.
+pub fn is_kept<Q: Exact>(before: Option<Q>, root: Q, bound: Q) -> bool
     ensures { result ≡ is_kept_of (Q.value bound) (option_map Q.value before) (Q.value root) }
 {
     match before {
@@ -20,7 +21,8 @@ fn is_kept<Q: Exact>(before: Option<Q>, root: Q, bound: Q) -> bool
     }
 }
 
-fn append_if<Q: Exact>(into: &mut Vec<Q>, root: Q, keep: bool) -> Result<(), AllocError>
+/// Appends a root, if it is kept.
+pub fn append_if<Q: Exact>(into: &mut Vec<Q>, root: Q, keep: bool) -> Result<(), AllocError>
     ensures { IfOk result (λ _. map Q.value into.new.items
         ≡ map Q.value into.old.items ++ (if keep then Q.value root ∷ [] else [])) }
 {

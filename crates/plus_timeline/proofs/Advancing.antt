@@ -1,6 +1,6 @@
 -- Each way out of `advance`.
 use Rattle.std.proofs.Common.{◌≡◌, ℕ, ◌<◌, Bool, true, false, List, [], ◌∷◌, ◌&&◌, refl, ap, sym, subst, ◌∙◌}
-use Rattle.std.specs.Prelude.{Option, Some, None, Ok, Err, All, length, if◌then◌else◌}
+use Rattle.std.specs.Prelude.{Option, Some, None, Ok, Err, All, MatchBool, length, if◌then◌else◌}
 use Rattle.std.specs.declared.cmp.Ordering.{Ordering}
 use Rattle.std.specs.declared.cmp.Ordering.TheVariants.{Less, Equal, Greater}
 use Rattle.plus_fraction.specs.Fraction.{Fraction, ◌<ℚ◌, ◌≤ℚ◌, compared}
@@ -35,6 +35,12 @@ use Rattle.plus_timeline.specs.Stopping.{of_cascade, of_settle_stop, of_halt}
 use Rattle.plus_timeline.proofs.Rounds.{none_due, round_passes, round_stops, round_is}
 use Rattle.plus_timeline.proofs.Closings.{there_passes, full_stops, close_passes, settle_stops, run_may}
 use Rattle.plus_timeline.proofs.Stretches.{stretch_passes, stretch_enters, halt_stops}
+
+pub where_true : (b : Bool) (A B : Type 0) → b ≡ true → MatchBool b A B → A
+where_true b A B e m = subst (λ (x : Bool). MatchBool x A B) e m
+
+pub where_false : (b : Bool) (A B : Type 0) → b ≡ false → MatchBool b A B → B
+where_false b A B e m = subst (λ (x : Bool). MatchBool x A B) e m
 
 -- ---- times
 

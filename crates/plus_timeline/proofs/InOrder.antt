@@ -3,14 +3,9 @@ use Rattle.std.proofs.Common.{◌≡◌, ℕ, ◌<◌, ◌≤◌, ◌-◌, zero,
 use Rattle.std.proofs.lemmas.List.{drop_all}
 use Rattle.std.specs.Prelude.{not, ◌&&◌, if◌then◌else◌}
 use Rattle.std.specs.List.Sorted.{IsPartitionPoint, IsPartitionedBy}
-use Rattle.std.specs.declared.cmp.Ordering.{Ordering}
-use Rattle.std.specs.declared.cmp.Ordering.TheVariants.{Less, Equal, Greater}
-use Rattle.plus_fraction.specs.Fraction.{Fraction, ◌<ℚ◌, ◌≤ℚ◌, compared}
-use Rattle.plus_fraction.proofs.Compared.{compared-equal, compared-greater}
-use Rattle.plus_fraction.proofs.FractionAtMost.{<ℚ-≤ℚ_trans, le_equal, le_lt}
+use Rattle.plus_fraction.specs.Fraction.{Fraction, ◌<ℚ◌, ◌≤ℚ◌}
+use Rattle.plus_fraction.proofs.FractionAtMost.{<ℚ-≤ℚ_trans}
 use Rattle.plus_model.specs.Terms as model
-use Rattle.plus_model.specs.Terms.{Below}
-use Rattle.plus_model.specs.Value.{passes}
 use Rattle.plus_model.specs.Trajectory.{is_below, least}
 use Rattle.plus_model.proofs.Moments.{not_below, ≤ℚ_refl, ≤ℚ_trans, ≤ℚ-<ℚ_trans, from_below}
 use Rattle.plus_state.specs.declared.problem.Timed.{Timed}
@@ -18,6 +13,7 @@ use Rattle.plus_state.specs.View.{timed_of}
 use Rattle.plus_state.specs.Fits.{AreInOrder}
 use Rattle.plus_stretch.proofs.Rising.{to_below}
 use Rattle.plus_timeline.specs.Literals.{is_before, is_by}
+use Rattle.plus_stretch.proofs.Marks.{at_most as from_not_below}
 
 pub known : (b : Bool) → ((b ≡ true) → ⊥) → b ≡ false
 known true h = absurd (h refl)
@@ -34,14 +30,6 @@ un_not_false false h = cc
 -- what is not below comes from there on
 not_later : (x y : Fraction) → x ≤ℚ y → is_below y x ≡ false
 not_later x y h = known (is_below y x) (λ e. not_below y x (from_below y x e) h)
-
-from_not_below : (x y : Fraction) → is_below x y ≡ false → y ≤ℚ x
-from_not_below x y e = go (compared x y) refl e
-  where
-    go : (o : Ordering) → compared x y ≡ o → passes Below o ≡ false → y ≤ℚ x
-    go Less c k = cc
-    go Equal c k = le_equal y x (sym (compared-equal x y c))
-    go Greater c k = le_lt y x (compared-greater x y c)
 
 -- ---- the least, where all are later than the bound
 neither : (c : Bool) (p q : Fraction) → (if c && false then p else q) ≡ q

@@ -1,7 +1,7 @@
 -- What `advance` tells where a round is due, or none is.
-use Rattle.std.proofs.Common.{◌≡◌, ℕ, Bool, false, List, [], ◌∷◌, ◌++◌, length, map, cond, refl, ap, ap₂, sym, subst, ◌∙◌, inl}
+use Rattle.std.proofs.Common.{◌≡◌, ℕ, Bool, false, List, [], ◌∷◌, ◌++◌, length, map, refl, ap, ap₂, sym, subst, ◌∙◌, inl}
 use Rattle.std.proofs.lemmas.List.{map-append}
-use Rattle.std.specs.Prelude.{Option, Some, None, Ok, Err, find, if◌then◌else◌}
+use Rattle.std.specs.Prelude.{Option, Some, None, Ok, Err, if◌then◌else◌}
 use Rattle.plus_fraction.specs.Fraction.{Fraction}
 use Rattle.plus_model.specs.Terms.{Problem}
 use Rattle.plus_model.specs.Joint as model_joint
@@ -22,7 +22,7 @@ use Rattle.plus_cascade.specs.Fired.{event_numbers, has_fired, first_repeated, I
 use Rattle.plus_cascade.specs.Steps as cascade
 use Rattle.plus_cascade.specs.Steps.{RoundStep, condition_nodes, repeat_steps, fire_steps, round_steps}
 use Rattle.plus_cascade.specs.Rounds.{RoundChanges, FailsJointly}
-use Rattle.plus_cascade.proofs.SetLemmas.{rounds_go_on}
+use Rattle.plus_cascade.proofs.SetLemmas.{rounds_go_on, find_same}
 use Rattle.plus_stretch.specs.Tests.{Test, asks, breach, Passes, AllPass, FirstFailing, of_fault, of_step}
 use Rattle.plus_stretch.specs.StretchTests.{if_empty}
 use Rattle.plus_timeline.specs.Asked.{repeated, fire_tests, round_tests, closing_tests, advance_by, advance_tests}
@@ -35,10 +35,6 @@ use Rattle.plus_timeline.proofs.Stays.{no_tests}
 again : {A B C : Type 0} (f : A → B) (g : B → C) (h : A → C) → ((x : A) → g (f x) ≡ h x) → (xs : List A) → map g (map f xs) ≡ map h xs
 again f g h e [] = refl
 again {C = C} f g h e (x ∷ xs) = ap₂ (λ (y : C) (ys : List C). y ∷ ys) (e x) (again f g h e xs)
-
-find_same : (f g : ℕ → Bool) (xs : List ℕ) → ((k : ℕ) → f k ≡ g k) → find f xs ≡ find g xs
-find_same f g [] h = refl
-find_same f g (x ∷ xs) h = ap₂ (λ (b : Bool) (o : Option ℕ). cond b (Some x) o) (h x) (find_same f g xs h)
 
 abbrev of_round : RoundStep → Test
 of_round (cascade.asks n) = asks n

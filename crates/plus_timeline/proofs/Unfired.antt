@@ -2,13 +2,13 @@
 use Rattle.std.proofs.Common.{◌≡◌, ◌≢◌, ℕ, zero, suc, ◌+◌, ◌<◌, ◌≤◌, Bool, true, false, ◌||◌, List, [], ◌∷◌, ◌++◌, refl, ap, sym, subst, ◌∙◌, inl, inr, ◌⊎◌, arith}
 use Rattle.std.proofs.lemmas.Bool.{cases_lt}
 use Rattle.std.proofs.lemmas.List.Elements.{All-head, All-nil, All-cons}
-use Rattle.std.proofs.lemmas.List.Folds.{list_any-append}
-use Rattle.std.specs.Prelude.{Option, Some, None, All, length, find, nat_eq, if◌then◌else◌}
+use Rattle.std.specs.Prelude.{Option, Some, None, All, length, find, if◌then◌else◌}
 use Rattle.plus_model.specs.Terms.{Event, State, Problem}
 use Rattle.plus_model.specs.Value.{holds}
 use Rattle.plus_model.specs.Firing.{firing, numbers_of, first_shared, is_in, IsRound}
 use Rattle.plus_model.proofs.Members.{in_first}
 use Rattle.plus_timeline.specs.StepsLeft.{unfired}
+use Rattle.plus_cascade.proofs.SetLemmas.{in_append as in_both}
 
 -- the numbers of members that pass a test are below how many members there are
 choose : (n k : ℕ) (b : Bool) (es : List ℕ) → k < n → All (λ e. e < n) es → All (λ e. e < n) (if b then k ∷ es else es)
@@ -38,9 +38,6 @@ one_grows false false = omega arith
 pub unfired_within : (n : ℕ) (fired : List ℕ) → unfired n fired ≤ n
 unfired_within zero fired = omega arith
 unfired_within (suc n) fired = (let a = one_at_most (is_in fired n) in let b = unfired_within n fired in omega arith)
-
-in_both : (xs ys : List ℕ) (k : ℕ) → is_in (xs ++ ys) k ≡ is_in xs k || is_in ys k
-in_both xs ys k = list_any-append (nat_eq k) xs ys
 
 one_after : (xs ys : List ℕ) (k : ℕ) → one_unless (is_in (xs ++ ys) k) ≤ one_unless (is_in xs k)
 one_after xs ys k = subst (λ (b : Bool). one_unless b ≤ one_unless (is_in xs k)) (sym (in_both xs ys k)) (one_grows (is_in xs k) (is_in ys k))

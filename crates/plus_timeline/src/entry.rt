@@ -5,9 +5,8 @@ ghost use Rattle.plus_model.specs.Running.{rates as rates_of, GoesOn};
 ghost use Rattle.plus_state.specs.Changes.{patched, AreIn, Within, RisesIn, LeadsTo};
 ghost use Rattle.plus_state.specs.Fits.{StateFits};
 ghost use Rattle.plus_state.specs.View.{problem_of};
-ghost use Rattle.plus_state.specs.Numbers.{event_numbers};
-ghost use Rattle.plus_state.specs.Walk.{event_conditions, process_conditions, OthersFalse};
-ghost use Rattle.plus_settle.specs.Still.Others.{OthersStill};
+ghost use Rattle.plus_state.specs.Looked.{events_looked, processes_looked};
+ghost use Rattle.plus_stretch.specs.Among.{AreKnownAlong};
 ghost use Rattle.plus_settle.specs.Members.{process_numbers, AreMembers};
 ghost use Rattle.plus_timeline.specs.EntryStates.{IsReached, Leads};
 ghost use Rattle.plus_timeline.specs.Undo.{undone, recalled, Notes};
@@ -18,6 +17,7 @@ use crate::undo::{Undo, recall};
 use plus_number::exact::Exact;
 use plus_settle::settling::Running;
 use plus_state::changes::Changes;
+use plus_state::looked::Looked;
 use plus_state::problem::Ground;
 use plus_state::states::State;
 use plus_state::term::{EventId, ProcessId};
@@ -398,8 +398,8 @@ impl<Q: Exact> EntryStates<Q> {
         running: &Running<Q>,
         time: Q,
         until: Q,
-        events: &[EventId],
-        processes: &[ProcessId],
+        events: Looked<'_, EventId>,
+        processes: Looked<'_, ProcessId>,
         ahead: &mut Ahead<Q>,
     ) -> Result<(), Halt<Q>>
         requires state { StateFits (length (ground.now.atoms.items)) (length (ground.now.fluents.items)) self.old.state }
@@ -408,17 +408,13 @@ impl<Q: Exact> EntryStates<Q> {
         requires rates { rates_of (problem_of Q.value ground.now) self.old.state (process_numbers running.now.members.items) ≡ Ok running.now.rates }
         requires on { GoesOn (problem_of Q.value ground.now) self.old.state running.now.rates (process_numbers running.now.members.items) }
         requires later { Q.value time <ℚ Q.value until }
-        requires events { AreMembers (length (ground.now.events.items)) (event_numbers events.now) }
-        requires processes { AreMembers (length (ground.now.processes.items)) (process_numbers processes.now) }
-        requires other_events { OthersStill Q.fits (event_conditions (problem_of Q.value ground.now)) self.old.state running.now.rates (event_numbers events.now) }
-        requires silent { OthersFalse (event_conditions (problem_of Q.value ground.now)) self.old.state (event_numbers events.now) }
-        requires other_processes { OthersStill Q.fits (process_conditions (problem_of Q.value ground.now)) self.old.state running.now.rates (process_numbers processes.now) }
+        requires known { AreKnownAlong Q.fits (problem_of Q.value ground.now) self.old.state running.now.rates (events_looked events) (processes_looked processes) }
         requires ahead { ahead.old.state ≡ self.old.state }
         ensures told { StretchTold Q.value Q.fits (problem_of Q.value ground.now) (Q.value until) (Q.value time) self.old.state (process_numbers running.now.members.items) running.now.rates (arrived_at ahead.new.arrival result) }
         ensures reached { OnOk result (IsReached self.old.state ahead.new.arrival.changes ahead.new.state) }
         ensures same { self.new ≡ self.old }
     {
-        search::reach_among(
+        search::reach_in(
             ground,
             self.trail.state(),
             ahead,

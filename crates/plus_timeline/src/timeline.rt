@@ -7,9 +7,9 @@ ghost use Rattle.plus_model.specs.Trajectory.{literals};
 ghost use Rattle.plus_state.specs.View.{problem_of, action_of};
 ghost use Rattle.plus_state.specs.Changes.{patched, RisesIn, LeadsTo};
 ghost use Rattle.plus_state.specs.Fits.{StateFits, ActionFits};
-ghost use Rattle.plus_state.specs.Numbers.{AreMembers};
-ghost use Rattle.plus_state.specs.Walk.{event_conditions, process_conditions, OthersFalse, OthersPass};
-ghost use Rattle.plus_settle.specs.Still.Others.{OthersStill};
+ghost use Rattle.plus_state.specs.Walk.{event_conditions};
+ghost use Rattle.plus_state.specs.Looked.{events_looked, processes_looked, AreKnown};
+ghost use Rattle.plus_stretch.specs.Among.{AreKnownAlong};
 ghost use Rattle.plus_stretch.specs.Tests.{AllPass};
 ghost use Rattle.plus_timeline.specs.Serving.{Serves};
 ghost use Rattle.plus_timeline.specs.EntryStates.{IsReached};
@@ -31,19 +31,19 @@ use crate::entry::EntryStates;
 use crate::literals::{are_there, bound, literal_changes};
 use crate::next::Next;
 use crate::stop::{Stop, cascade_stop, halt_stop, settle_stop};
-use plus_cascade::{Cascade, CascadeStop, DueRound, round_changes, round_changes_among};
+use plus_cascade::{Cascade, CascadeStop, DueRound, due_round};
 use plus_crossing::crossings::is_below;
 use plus_crossing::rates::Rates;
 use plus_number::consts::zero;
 use plus_number::exact::Exact;
 use plus_settle::settling::{Running, settle};
 use plus_state::changes::Changes;
+use plus_state::looked::Looked;
 use plus_state::outcome::{Breach, Limit};
 use plus_state::problem::{Action, Ground};
 use plus_state::states::State;
 use plus_state::term::{EventId, ProcessId};
 use plus_state::truth::holds;
-use plus_stretch::everyone::everyone;
 use plus_stretch::{Ahead, Halt};
 use std::alloc::{AllocError, Global};
 use std::marker::Model;
@@ -140,10 +140,7 @@ impl<Q: Exact> Timeline<Q> {
             cascade,
             fired: Vec::new(alloc),
             events: Vec::new(alloc),
-            running: Running {
-                members: Vec::new(alloc),
-                rates: Rates::zero(alloc, 0),
-            },
+            running: Running::none(alloc),
             next_literal,
             lines: 0,
             entries: 1,
@@ -369,10 +366,7 @@ impl<Q: Exact> Timeline<Q> {
             cascade,
             fired,
             events: Vec::new(alloc),
-            running: Running {
-                members: Vec::new(alloc),
-                rates: Rates::zero(alloc, 0),
-            },
+            running: Running::none(alloc),
             literal: self.literal,
             next_literal: self.next_literal,
             lines: self.lines,
@@ -400,10 +394,7 @@ impl<Q: Exact> Timeline<Q> {
         self.fired.extend_from_slice(&from.fired)?;
         self.cascade.add(&from.fired);
         self.events.clear();
-        self.running = Running {
-            members: Vec::new(self.alloc),
-            rates: Rates::zero(self.alloc, 0),
-        };
+        self.running = Running::none(self.alloc);
         self.time = from.time;
         self.literal = from.literal;
         self.next_literal = from.next_literal;
@@ -474,49 +465,39 @@ impl<Q: Exact> Timeline<Q> {
         ensures kept { OnErr result (self.new ≡ self.old) }
     {
         if self.is_running() {
-            return self.pass(ground, until);
+            return self.pass(ground, until, Looked::all(ground), Looked::all(ground));
         }
-        match self.due(ground) {
+        let mut round = DueRound::none(self.alloc());
+        match self.due(ground, Looked::all(ground), &mut round) {
             Err(stop) => Err(cascade_stop(stop)),
-            Ok(Some(mut round)) => match self.put_round(&mut round) {
+            Ok(true) => match self.put_round(&mut round) {
                 Err(_) => Err(Stop::Memory),
                 Ok(()) => Ok(Next::Round),
             },
-            Ok(None) => self.rest(ground, until),
+            Ok(false) => self.rest(ground, until),
         }
     }
 
-    /// A step of `advance`: the round that is due.
-    pub fn due(&self, ground: &Ground<Q>) -> Result<Option<DueRound<Q>>, CascadeStop<Q>>
-        requires serves { Serves (problem_of Q.value ground.now) self.now }
-        ensures told { DueTold Q.value Q.fits (problem_of Q.value ground.now) self.now.now.fired self.now.now.state result }
-        ensures rises { IfOk result (λ o. IfSome o (λ r. RisesIn self.now.now.state r.changes)) }
-    {
-        round_changes(self.alloc, &self.cascade, ground, self.state())
-    }
-
-    /// A step of `advance`: whether a round is due, by a look at some of the events, in ground order. Of
-    /// all others it is known that they do not hold and that what they ask passes. The round that is due
-    /// stands in what was lent then, in place of another one.
-    pub fn due_among(
+    /// A step of `advance`: whether a round is due, by a look at some of the events. Of all others it is known
+    /// that they do not hold and that what they ask passes. The round that is due stands in what was lent
+    /// then, in place of another one.
+    pub fn due(
         &self,
         ground: &Ground<Q>,
-        looked_at: &[EventId],
+        looked: Looked<'_, EventId>,
         round: &mut DueRound<Q>,
     ) -> Result<bool, CascadeStop<Q>>
         requires serves { Serves (problem_of Q.value ground.now) self.now }
-        requires members { AreMembers (length (ground.now.events.items)) (event_numbers looked_at.now) }
-        requires pass { OthersPass Q.fits (event_conditions (problem_of Q.value ground.now)) self.now.now.state (event_numbers looked_at.now) }
-        requires silent { OthersFalse (event_conditions (problem_of Q.value ground.now)) self.now.now.state (event_numbers looked_at.now) }
+        requires known { AreKnown Q.fits (event_conditions (problem_of Q.value ground.now)) self.now.now.state (events_looked looked) }
         ensures told { DueTold Q.value Q.fits (problem_of Q.value ground.now) self.now.now.fired self.now.now.state (if_due round.new result) }
         ensures rises { IfOk (if_due round.new result) (λ o. IfSome o (λ r. RisesIn self.now.now.state r.changes)) }
     {
-        round_changes_among(
+        due_round(
             self.alloc,
             &self.cascade,
             ground,
             self.state(),
-            looked_at,
+            looked,
             round,
         )
     }
@@ -615,46 +596,22 @@ impl<Q: Exact> Timeline<Q> {
         mem::swap(&mut self.running, running);
     }
 
-    /// A step of `advance`: goes on along the running set, to the next entry.
-    pub fn pass(&mut self, ground: &Ground<Q>, until: Q) -> Result<Next<Q>, Stop<Q>>
-        requires going { IsGoing self.old }
-        requires serves { Serves (problem_of Q.value ground.now) self.old }
-        requires runs { self.old.now.running ≡ Some self.old.running }
-        requires room { self.old.entries < self.old.most }
-        requires later { self.old.now.time <ℚ Q.value until }
-        ensures told { AdvanceTold Q.value Q.fits (problem_of Q.value ground.now) (Q.value until)
-            self.old self.new result }
-        ensures kept { OnErr result (self.new ≡ self.old) }
-    {
-        match everyone(self.alloc(), ground) {
-            Err(_) => Err(Stop::Memory),
-            Ok((events, processes)) => self.pass_among(ground, until, &events, &processes),
-        }
-    }
-
-    /// A step of `advance`: goes on along the running set, to the next entry, by a look at these events
+    /// A step of `advance`: goes on along the running set, to the next entry, by a look at some events
     /// and processes. Of all others it is known that nothing moves that they read, that what they ask
     /// passes, and that the events do not hold.
-    pub fn pass_among(
+    pub fn pass(
         &mut self,
         ground: &Ground<Q>,
         until: Q,
-        events: &[EventId],
-        processes: &[ProcessId],
+        events: Looked<'_, EventId>,
+        processes: Looked<'_, ProcessId>,
     ) -> Result<Next<Q>, Stop<Q>>
         requires going { IsGoing self.old }
         requires serves { Serves (problem_of Q.value ground.now) self.old }
         requires runs { self.old.now.running ≡ Some self.old.running }
         requires room { self.old.entries < self.old.most }
         requires later { self.old.now.time <ℚ Q.value until }
-        requires events { AreMembers (length (ground.now.events.items)) (event_numbers events.now) }
-        requires processes { AreMembers (length (ground.now.processes.items)) (process_numbers processes.now) }
-        requires other_events { OthersStill Q.fits (event_conditions (problem_of Q.value ground.now))
-            self.old.now.state self.old.rates (event_numbers events.now) }
-        requires silent { OthersFalse (event_conditions (problem_of Q.value ground.now))
-            self.old.now.state (event_numbers events.now) }
-        requires other_processes { OthersStill Q.fits (process_conditions (problem_of Q.value ground.now))
-            self.old.now.state self.old.rates (process_numbers processes.now) }
+        requires known { AreKnownAlong Q.fits (problem_of Q.value ground.now) self.old.now.state self.old.rates (events_looked events) (processes_looked processes) }
         ensures told { AdvanceTold Q.value Q.fits (problem_of Q.value ground.now) (Q.value until)
             self.old self.new result }
         ensures kept { OnErr result (self.new ≡ self.old) }
@@ -689,21 +646,14 @@ impl<Q: Exact> Timeline<Q> {
         &mut self,
         ground: &Ground<Q>,
         until: Q,
-        events: &[EventId],
-        processes: &[ProcessId],
+        events: Looked<'_, EventId>,
+        processes: Looked<'_, ProcessId>,
         ahead: &mut Ahead<Q>,
     ) -> Result<(), Halt<Q>>
         requires serves { Serves (problem_of Q.value ground.now) self.old }
         requires runs { self.old.now.running ≡ Some self.old.running }
         requires later { self.old.now.time <ℚ Q.value until }
-        requires events { AreMembers (length (ground.now.events.items)) (event_numbers events.now) }
-        requires processes { AreMembers (length (ground.now.processes.items)) (process_numbers processes.now) }
-        requires other_events { OthersStill Q.fits (event_conditions (problem_of Q.value ground.now))
-            self.old.now.state self.old.rates (event_numbers events.now) }
-        requires silent { OthersFalse (event_conditions (problem_of Q.value ground.now))
-            self.old.now.state (event_numbers events.now) }
-        requires other_processes { OthersStill Q.fits (process_conditions (problem_of Q.value ground.now))
-            self.old.now.state self.old.rates (process_numbers processes.now) }
+        requires known { AreKnownAlong Q.fits (problem_of Q.value ground.now) self.old.now.state self.old.rates (events_looked events) (processes_looked processes) }
         requires ahead { ahead.old.state ≡ self.old.now.state }
         ensures told { StretchTold Q.value Q.fits (problem_of Q.value ground.now) (Q.value until)
             self.old.now.time self.old.now.state self.old.running self.old.rates (arrived_at ahead.new.arrival result) }

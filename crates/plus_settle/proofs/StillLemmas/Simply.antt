@@ -35,6 +35,7 @@ use Rattle.plus_reads.specs.Laws.{StandsStill}
 use Rattle.plus_reads.proofs.Frame.{SameFluents, same_live}
 use Rattle.plus_reads.proofs.Unmoved.{fluent_stays}
 use Rattle.plus_settle.specs.Still.Simple.{is_still, is_plain, is_simple}
+use Rattle.plus_state.proofs.ClashLemmas.{and_left as first_and, and_right as second_and}
 
 -- ---- what pieces ask covers what values ask
 abbrev Tells : Piece → Option Fraction → Type 0
@@ -171,14 +172,6 @@ same_piece_asks (Quotient a b) s t rs h =
     both_same Divide _ _ _ _ _ _ _ _ (same_piece a s t rs l) (same_piece b s t rs r) (same_piece_asks a s t rs l) (same_piece_asks b s t rs r)
 
 -- ---- simple sides
-first_and : (x y : Bool) → x && y ≡ true → x ≡ true
-first_and true y e = refl
-first_and false y e = e
-
-second_and : (x y : Bool) → x && y ≡ true → y ≡ true
-second_and true y e = e
-second_and false y e = cc
-
 -- nothing that a still expression names moves
 still_names : (e : Expression) (rs : List Fraction) → is_still e rs ≡ true → (f : ℕ) → is_in (names e) f ≡ true → is_zero (rate_of rs f) ≡ true
 still_names (Number x) rs h f i = cc
@@ -259,7 +252,7 @@ simple_same k (Compare t l r positive) s rs x h =
 zero_is : (r : Fraction) → r ≡ whole (pos 0) → is_zero r ≡ true
 zero_is r e = ap is_zero e ∙ ap (passes Same) (compared_refl (whole (pos 0)))
 
-and_both : (x y : Bool) → x ≡ true → y ≡ true → x && y ≡ true
+pub and_both : (x y : Bool) → x ≡ true → y ≡ true → x && y ≡ true
 and_both x y e f = cc
 
 abbrev NamesStill : List ℕ → List Fraction → Type 0

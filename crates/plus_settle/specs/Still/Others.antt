@@ -4,7 +4,7 @@ use Rattle.std.specs.Prelude.{◌≡◌, ℕ, false, List, Some, slice_get}
 use Rattle.plus_fraction.specs.Fraction.{Fraction}
 use Rattle.plus_model.specs.Terms.{Condition, State}
 use Rattle.plus_model.specs.Firing.{is_in}
-use Rattle.plus_state.specs.Walk.{OthersPass}
+use Rattle.plus_state.specs.Looked.{OthersPass}
 use Rattle.plus_reads.specs.Laws.{StandsStill}
 
 -- no other condition reads a fluent that moves

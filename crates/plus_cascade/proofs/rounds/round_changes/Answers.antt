@@ -1,5 +1,5 @@
-use Rattle.plus_cascade.proofs.RoundLemmas.{stops_early}
+use Rattle.plus_state.proofs.LookingLemmas.{all_known}
 use Rattle.plus_cascade.proofs.rounds.round_changes.Goals as goal
 
-pub returns-in-Err-clause-told : goal.returns-in-Err-clause-told
-returns-in-Err-clause-told g c = stops_early _ _ _ _ _ c.in-Err.stop c.in-Err.ensures
+pub due_round-requires-clause-known : goal.due_round-requires-clause-known
+due_round-requires-clause-known g c = all_known _ _ _ _ c.all.ensures

@@ -7,7 +7,7 @@ use Rattle.plus_timeline.specs.Asked.{round_tests}
 use Rattle.plus_timeline.specs.Finish.{IsPaused}
 use Rattle.plus_planner.specs.Standing.{CanReach}
 use Rattle.plus_planner.specs.Places.{task_from, now_in, base_in, WaitEnds}
-use Rattle.plus_planner.proofs.PlaceLemmas.{slice_none, act_can, act_walks, wait_reach, wait_paused, wait_passed, wait_walks}
+use Rattle.plus_planner.proofs.PlaceLemmas.{slice_none, act_can, act_passed, act_walks, wait_reach, wait_paused, wait_passed, wait_walks}
 use Rattle.plus_planner.proofs.DecidingLemmas.{action_at, full, inside}
 use Rattle.plus_planner.proofs.deciding.decide.Goals as goal
 
@@ -17,6 +17,11 @@ act-requires-clause-can g c =
     let task = task_from (problem_of v c.args.ground.now) (map (action_of v) c.args.actions.now) (v c.args.interval) in
     act_can g.Q.Exact.fits task c.args.place.now.start c.args.place.now.taken.items c.requires.stands c.args.decision (action_of v c.index-actions-number.result)
     (action_at (action_of v) c.args.actions.now c.args.decision c.index-actions-number.result c.if-number-actions.true c.index-actions-number.is)
+
+pub act-requires-clause-passed : goal.act-requires-clause-passed
+act-requires-clause-passed g c =
+    let v = g.Q.Exact.value in
+    act_passed g.Q.Exact.fits (task_from (problem_of v c.args.ground.now) (map (action_of v) c.args.actions.now) (v c.args.interval)) c.args.place.now.start c.args.place.now.taken.items c.requires.stands
 
 pub wait-requires-clause-reach : goal.wait-requires-clause-reach
 wait-requires-clause-reach g c =

@@ -4,7 +4,10 @@ use Rattle.plus_state.specs.View.{problem_of, action_of}
 use Rattle.plus_state.specs.Fits.{ActionFits}
 use Rattle.plus_timeline.specs.Timeline.{TimelineView}
 use Rattle.plus_timeline.specs.Forked.{forked}
-use Rattle.plus_timeline.specs.Serving.{Serves}
+use Rattle.plus_reads.specs.Indexing.{Indexes}
+use Rattle.plus_indexed.specs.Indexed.{Kept}
+use Rattle.plus_indexed.specs.Knows.{Knows}
+use Rattle.plus_indexed.proofs.Beginning.{knows_rest}
 use Rattle.plus_timeline.specs.Finish.{IsPaused}
 use Rattle.plus_timeline.specs.declared.next.Next.TheVariants.{There}
 use Rattle.plus_planner.specs.Standing.{CanGoOn}
@@ -13,7 +16,7 @@ use Rattle.plus_planner.proofs.DecidingLemmas.{reach_done, act_told, refusal_tol
 use Rattle.plus_planner.proofs.ForkLemmas.{can_forked, acts_forked}
 use Rattle.plus_planner.specs.Kin.{IsKin}
 use Rattle.plus_planner.proofs.KinLemmas.{kin_now, kin_forked, kin_pop, kin_popped, kin_act, kin_ended, kin_spares}
-use Rattle.plus_planner.proofs.WorldLemmas.{always}
+use Rattle.plus_planner.proofs.WorldLemmas.{always, then}
 use Rattle.plus_planner.proofs.deciding.perform.Goals as goal
 
 pub fork-requires-clause-there : goal.fork-requires-clause-there
@@ -26,12 +29,15 @@ fork-requires-clause-can g c =
     kin_popped P c.args.place.now.spares.items c.pop-spare.new.self.items c.pop-spare.result c.now.result.now c.pop-spare.ensures.items c.requires.kin.spares_are
     (subst (IsKin P) (sym c.now.ensures) (kin_now P c.args.place.now.start c.args.place.now.taken.items c.requires.kin.start_is c.requires.kin.taken_are))
 
-pub act-requires-clause-serves : goal.act-requires-clause-serves
-act-requires-clause-serves g c going =
+pub act-requires-clause-knows : goal.act-requires-clause-knows
+act-requires-clause-knows g c going =
     let P = problem_of g.Q.Exact.value c.args.ground.now in
     let t = now_in c.args.place.now.start c.args.place.now.taken.items in
     let moment : t.now.running ≡ None = subst (λ (x : TimelineView). x.now.running ≡ None) c.now.ensures c.in_ok-timeline.ensures.moment in
-    subst (Serves P) (sym (c.in_ok-timeline.ensures.forked ∙ ap forked c.now.ensures)) (can_forked P t moment c.requires.can.goes).knows
+    subst (λ (x : TimelineView). Knows g.Q.Exact.fits P (record { line = x; kept = c.stay.new.self })) (sym (c.in_ok-timeline.ensures.forked ∙ ap forked c.now.ensures))
+    (knows_rest g.Q.Exact.fits P (record { line = forked t; kept = c.stay.new.self }) (can_forked P t moment c.requires.can.goes).knows
+    (subst (λ (k : Kept). Indexes P k.index) (sym c.stay.ensures) c.requires.index) (ap (λ (k : Kept). k.events) c.stay.ensures) (ap (λ (k : Kept). k.processes) c.stay.ensures)
+    moment (c.requires.can.goes.knows.still c.requires.can.paused.there c.requires.can.paused.fresh) c.requires.passed)
 
 pub act-requires-clause-paused : goal.act-requires-clause-paused
 act-requires-clause-paused g c going =
@@ -104,3 +110,12 @@ returns-in_ok-push-in-Err-clause-kin g c =
     c.in_ok-push-in-Err.ensures.items
     (kin_pop P c.args.place.now.start c.args.place.now.taken.items c.args.place.now.tried.items
     c.args.place.now.spares.items c.pop-spare.new.self.items c.pop-spare.result c.pop-spare.ensures.items c.requires.kin))
+
+pub go-requires-clause-knows : goal.go-requires-clause-knows
+go-requires-clause-knows g c = c.in-Ok.ensures.knows
+
+pub returns-in-Ok-clause-index : goal.returns-in-Ok-clause-index
+returns-in-Ok-clause-index g c = then c.go.result (λ e. e ∙ c.act.ensures.index ∙ ap (λ (k : Kept). k.index) c.stay.ensures) c.go.ensures.index
+
+pub returns-in_ok-push-in-Err-clause-index : goal.returns-in_ok-push-in-Err-clause-index
+returns-in_ok-push-in-Err-clause-index g c = always c.refused.result (c.act.ensures.index ∙ ap (λ (k : Kept). k.index) c.stay.ensures)

@@ -1,7 +1,15 @@
 use Rattle.std.proofs.Common.{sym}
 use Rattle.plus_state.specs.View.{problem_of}
+use Rattle.plus_state.proofs.LookingLemmas.{all_processes}
+use Rattle.plus_settle.proofs.AmongLemmas.{all_confirmed}
 use Rattle.plus_settle.proofs.SettlesLemmas.{go_stop, unsettled_stop, coupled_stop, own_pass}
 use Rattle.plus_settle.proofs.settling.confirmed.Goals as goal
+
+pub first_other-requires-clause-looked : goal.first_other-requires-clause-looked
+first_other-requires-clause-looked g c = all_processes g.Q.Exact.value c.args.ground.now _ c.all.ensures
+
+pub first_other-requires-clause-others : goal.first_other-requires-clause-others
+first_other-requires-clause-others g c = all_confirmed _ (problem_of g.Q.Exact.value c.args.ground.now) _ _ _ _ c.all.ensures
 
 pub returns-in-Err : goal.returns-in-Err
 returns-in-Err g c = rw c.settle_stop.ensures (go_stop _ _ _ _ _ _ c.in-Err.stop c.in-Err.ensures)

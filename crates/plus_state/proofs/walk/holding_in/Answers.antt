@@ -1,16 +1,15 @@
-use Rattle.std.proofs.Common.{map, ap}
+use Rattle.std.proofs.Common.{map, ap, arith, ◌≤◌, length}
+use Rattle.std.proofs.lemmas.List.{drop_all}
+use Rattle.plus_state.specs.Looked.{looked_numbers}
 use Rattle.plus_state.specs.View.{problem_of}
-use Rattle.plus_state.proofs.TestsLemmas.{next_member, no_member}
 use Rattle.plus_state.proofs.LookingLemmas.{condition_fits, looking_start, looking_inside, looking_err, looking_next, looking_stop, looking_end}
 use Rattle.plus_state.proofs.walk.holding_in.Goals as goal
 
 pub each-init : goal.each-init
-each-init g c = looking_start _ _ _ _ _ (ap (map g.I.Conditional.number) c.clear.ensures.items) c.requires.members
+each-init g c = looking_start _ _ _ _ _ (ap (map g.I.Conditional.number) c.clear.ensures.items) c.requires.known.members
 
 pub condition-requires : goal.condition-requires
-condition-requires g c =
-    let e = next_member g.I.Conditional.number c.args.looked_at.now c.each.member-index c.member-item.result c.each-test.true c.member-item.is in
-    looking_inside _ _ _ _ _ _ _ (rw e at c.each.invariant)
+condition-requires g c = looking_inside _ _ _ _ _ _ _ (rw c.member-member.ensures at c.each.invariant)
 
 pub holds-requires : goal.holds-requires
 holds-requires g c =
@@ -18,14 +17,14 @@ holds-requires g c =
 
 pub returns-in-Err : goal.returns-in-Err
 returns-in-Err g c =
-    let e = next_member g.I.Conditional.number c.args.looked_at.now c.each.member-index c.member-item.result c.each-test.true c.member-item.is in
-    looking_stop _ _ _ _ _ c.requires.members c.requires.others (looking_err _ _ _ _ _ _ _ (rw e at c.each.invariant) _ c.condition.ensures _ c.in-Err.ensures)
+    looking_stop _ _ _ _ _ c.requires.known (looking_err _ _ _ _ _ _ _ (rw c.member-member.ensures at c.each.invariant) _ c.condition.ensures _ c.in-Err.ensures)
 
 pub each-preserved : goal.each-preserved
 each-preserved g c =
-    let e = next_member g.I.Conditional.number c.args.looked_at.now c.each.member-index c.member-item.result c.each-test.true c.member-item.is in
-    looking_next _ _ _ _ _ _ _ (rw e at c.each.invariant) _ c.condition.ensures _ _ c.in-Ok.ensures.0 c.in-Ok.ensures.1 c.in-Ok-append_if.ensures
+    looking_next _ _ _ _ _ _ _ (rw c.member-member.ensures at c.each.invariant) _ c.condition.ensures _ _ c.in-Ok.ensures.0 c.in-Ok.ensures.1 c.in-Ok-append_if.ensures
 
 pub returns : goal.returns
 returns g c =
-    looking_end _ _ _ _ _ c.requires.members c.requires.others (rw (no_member g.I.Conditional.number c.args.looked_at.now c.each.member-index c.each-test.false) at c.each.invariant)
+    let looked = looked_numbers g.I.Conditional.number c.args.looked in
+    let h : length looked ≤ c.each.place = omega (arith, c.count-place-end.ensures) in
+    looking_end _ _ _ _ _ c.requires.known (rw (drop_all c.each.place looked h) at c.each.invariant)

@@ -2,13 +2,13 @@ use Rattle.std.proofs.Common.{[], true, false, ◌∙◌, sym, refl}
 use Rattle.plus_state.specs.View.{problem_of}
 use Rattle.plus_state.specs.WalkFits.{event_conditions_fit}
 use Rattle.plus_state.proofs.LookingLemmas.{condition_fits, looking_start, looking_inside, looking_err, looking_next, looking_stop, looking_end}
-use Rattle.plus_stretch.proofs.Places.{condition_members, next_event, no_event}
+use Rattle.plus_cascade.proofs.FiredLemmas.{next_number as next_event, no_number as no_event}
 use Rattle.plus_stretch.proofs.HereLemmas.{nodes_pass, nodes_fail, one_holds, none_holds, some_found}
 use Rattle.plus_stretch.proofs.crossing.event_holds.Goals as goal
 use Rattle.plus_stretch.proofs.crossing.event_holds.Goals.{then-truth, else-truth}
 
 pub each-init : goal.each-init
-each-init g c = ([], looking_start _ _ _ _ _ refl (condition_members g.Q.Exact.value c.args.ground.now _ c.requires.events), refl)
+each-init g c = ([], looking_start _ _ _ _ _ refl c.requires.known.members, refl)
 
 pub condition-requires : goal.condition-requires
 condition-requires g c =
@@ -22,7 +22,7 @@ holds-requires g c =
 pub returns-in-Err : goal.returns-in-Err
 returns-in-Err g c =
     let e = next_event c.args.events.now c.each.event-index _ c.each-test.true in
-    nodes_fail _ _ _ (looking_stop _ _ _ _ _ (condition_members g.Q.Exact.value c.args.ground.now _ c.requires.events) c.requires.pass
+    nodes_fail _ _ _ (looking_stop _ _ _ _ _ c.requires.known
     (looking_err _ _ _ _ _ _ _ (rw e at c.each.invariant.1) _ c.condition.ensures _ c.in-Err.ensures))
 
 pub each-preserved : goal.each-preserved
@@ -38,7 +38,5 @@ each-preserved g c =
 pub returns : goal.returns
 returns g c =
     let n = no_event c.args.events.now c.each.event-index c.each-test.false in
-    let w = looking_end _ _ _ _ _ (condition_members g.Q.Exact.value c.args.ground.now _ c.requires.events) c.requires.pass (rw n at c.each.invariant.1) in (
-      nodes_pass _ _ w.0,
-      some_found (problem_of g.Q.Exact.value c.args.ground.now) _ _ _ _ (condition_members g.Q.Exact.value c.args.ground.now _ c.requires.events) c.requires.silent w.1 c.each.invariant.2,
-    )
+    let w = looking_end _ _ _ _ _ c.requires.known (rw n at c.each.invariant.1) in
+    (nodes_pass _ _ w.0, some_found (problem_of g.Q.Exact.value c.args.ground.now) _ _ _ w.1 c.each.invariant.2)

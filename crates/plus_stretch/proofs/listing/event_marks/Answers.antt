@@ -1,10 +1,12 @@
-use Rattle.std.proofs.Common.{◌<◌, length, get_or, refl, arith}
+use Rattle.std.proofs.Common.{◌<◌, length, refl, arith, ◌≤◌}
+use Rattle.std.proofs.lemmas.List.{drop_all}
 use Rattle.plus_model.specs.Terms.{Event}
+use Rattle.plus_state.specs.Looked.{events_looked}
 use Rattle.plus_state.specs.View.{problem_of}
 use Rattle.plus_cascade.proofs.FiringLemmas.{all_fit}
 use Rattle.plus_settle.proofs.StillLemmas.Listed.{walked_on}
 use Rattle.plus_stretch.specs.Tests.{event}
-use Rattle.plus_stretch.proofs.Places.{next_event, no_event, event_here, event_members, event_inside}
+use Rattle.plus_stretch.proofs.Places.{event_here, event_members, event_inside}
 use Rattle.plus_stretch.proofs.Collecting.{collecting_inside, collecting_stop}
 use Rattle.plus_stretch.proofs.Marking.{marking_start, marking_next, marking_at, marking_collecting, marking_end}
 use Rattle.plus_stretch.proofs.listing.event_marks.Goals as goal
@@ -14,39 +16,42 @@ each-init g c = marking_start _ _ event (λ (x : Event). x.condition) _ _ _ (pro
 
 pub index-requires : goal.index-requires
 index-requires g c =
-    let e = next_event c.args.events.now c.each.id-index _ c.each-test.true in
-    let b : (get_or c.args.events.now c.each.id-index (record { 0 = 0 })).0 < length c.args.ground.now.events.items = event_inside g.Q.Exact.value c.args.ground.now _ _ _ _ (rw e at c.each.invariant) in
+    let e = c.member-id.ensures in
+    let b : c.member-id.result.0 < length c.args.ground.now.events.items = event_inside g.Q.Exact.value c.args.ground.now _ _ _ _ (rw e at c.each.invariant) in
     omega (arith, c.args.ground.now.events.ok.0)
 
 pub roots_into-requires-clause-fits : goal.roots_into-requires-clause-fits
 roots_into-requires-clause-fits g c =
-    let e = next_event c.args.events.now c.each.id-index _ c.each-test.true in
-    let b : (get_or c.args.events.now c.each.id-index (record { 0 = 0 })).0 < length c.args.ground.now.events.items = event_inside g.Q.Exact.value c.args.ground.now _ _ _ _ (rw e at c.each.invariant) in
+    let e = c.member-id.ensures in
+    let b : c.member-id.result.0 < length c.args.ground.now.events.items = event_inside g.Q.Exact.value c.args.ground.now _ _ _ _ (rw e at c.each.invariant) in
     let here = event_here g.Q.Exact.value c.args.ground.now.events.items _ c.index.result.now b c.index.ensures in
     (collecting_inside _ _ _ _ _ _ _ _ _ _ _ _ (marking_collecting _ _ event (λ (x : Event). x.condition) _ _ _ (problem_of g.Q.Exact.value c.args.ground.now).events _ _ _ _ _ c.requires.others here (rw e at c.each.invariant))).condition
 
 pub roots_into-requires-clause-few : goal.roots_into-requires-clause-few
 roots_into-requires-clause-few g c =
-    let e = next_event c.args.events.now c.each.id-index _ c.each-test.true in
-    let b : (get_or c.args.events.now c.each.id-index (record { 0 = 0 })).0 < length c.args.ground.now.events.items = event_inside g.Q.Exact.value c.args.ground.now _ _ _ _ (rw e at c.each.invariant) in
+    let e = c.member-id.ensures in
+    let b : c.member-id.result.0 < length c.args.ground.now.events.items = event_inside g.Q.Exact.value c.args.ground.now _ _ _ _ (rw e at c.each.invariant) in
     let here = event_here g.Q.Exact.value c.args.ground.now.events.items _ c.index.result.now b c.index.ensures in
     (collecting_inside _ _ _ _ _ _ _ _ _ _ _ _ (marking_collecting _ _ event (λ (x : Event). x.condition) _ _ _ (problem_of g.Q.Exact.value c.args.ground.now).events _ _ _ _ _ c.requires.others here (rw e at c.each.invariant))).few
 
 pub returns-in-Err : goal.returns-in-Err
 returns-in-Err g c =
-    let e = next_event c.args.events.now c.each.id-index _ c.each-test.true in
-    let b : (get_or c.args.events.now c.each.id-index (record { 0 = 0 })).0 < length c.args.ground.now.events.items = event_inside g.Q.Exact.value c.args.ground.now _ _ _ _ (rw e at c.each.invariant) in
+    let e = c.member-id.ensures in
+    let b : c.member-id.result.0 < length c.args.ground.now.events.items = event_inside g.Q.Exact.value c.args.ground.now _ _ _ _ (rw e at c.each.invariant) in
     let here = event_here g.Q.Exact.value c.args.ground.now.events.items _ c.index.result.now b c.index.ensures in
     rw c.root_halt.ensures (collecting_stop _ _ _ _ _ _ _ _ _ _ _ _ (marking_collecting _ _ event (λ (x : Event). x.condition) _ _ _ (problem_of g.Q.Exact.value c.args.ground.now).events _ _ _ _ _ c.requires.others here (rw e at c.each.invariant)) g.Q.Exact.value _ c.in-Err.stop refl c.in-Err.ensures)
 
 pub each-preserved : goal.each-preserved
 each-preserved g c =
-    let e = next_event c.args.events.now c.each.id-index _ c.each-test.true in
-    let b : (get_or c.args.events.now c.each.id-index (record { 0 = 0 })).0 < length c.args.ground.now.events.items = event_inside g.Q.Exact.value c.args.ground.now _ _ _ _ (rw e at c.each.invariant) in
+    let e = c.member-id.ensures in
+    let b : c.member-id.result.0 < length c.args.ground.now.events.items = event_inside g.Q.Exact.value c.args.ground.now _ _ _ _ (rw e at c.each.invariant) in
     let here = event_here g.Q.Exact.value c.args.ground.now.events.items _ c.index.result.now b c.index.ensures in
     walked_on _ _ _ _ _ (rw e at c.each.invariant) _ (marking_next _ _ event (λ (x : Event). x.condition) _ _ _ (problem_of g.Q.Exact.value c.args.ground.now).events g.Q.Exact.value c.roots_into.new.into.items _ _ _ _ here
     (marking_at _ _ event (λ (x : Event). x.condition) _ _ _ (problem_of g.Q.Exact.value c.args.ground.now).events _ _ _ _ c.requires.others (rw e at c.each.invariant)) c.in-Ok.ensures.0
     (rw c.clear.ensures.items at c.in-Ok.ensures.1) (rw c.deref.ensures.value at c.in-Ok-mark_all.ensures))
 
 pub returns : goal.returns
-returns g c = marking_end _ _ event (λ (x : Event). x.condition) _ _ _ (problem_of g.Q.Exact.value c.args.ground.now).events _ _ c.requires.others (rw (no_event c.args.events.now c.each.id-index c.each-test.false) at c.each.invariant)
+returns g c =
+    let looked = events_looked c.args.events in
+    let h : length looked ≤ c.each.place = omega (arith, c.count-place-end.ensures) in
+    marking_end _ _ event (λ (x : Event). x.condition) _ _ _ (problem_of g.Q.Exact.value c.args.ground.now).events _ _ c.requires.others (rw (drop_all c.each.place looked h) at c.each.invariant)

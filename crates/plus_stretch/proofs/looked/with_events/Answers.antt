@@ -2,7 +2,7 @@ use Rattle.std.proofs.Common.{◌∷◌, [], refl}
 use Rattle.plus_state.proofs.TestsLemmas.{next_member, no_member}
 use Rattle.plus_stretch.specs.Tests.{whose}
 use Rattle.plus_stretch.specs.Marked.{mark_of, event_of}
-use Rattle.plus_stretch.proofs.Places.{next_event, no_event}
+use Rattle.plus_cascade.proofs.FiredLemmas.{next_number as next_event, no_number as no_event}
 use Rattle.plus_stretch.proofs.Marks.{appending_start, appending_next, appending_end}
 use Rattle.plus_stretch.proofs.looked.with_events.Goals as goal
 

@@ -1,4 +1,4 @@
 use Rattle.plus_indexed.proofs.indexed.Indexed.copy.Goals as goal
 
 pub returns : goal.returns
-returns g c = rw (c.in_ok-timeline.ensures, c.in_ok-kept.ensures) c.self.view_is
+returns g c = rw (c.in_ok-timeline.ensures, c.in_ok-stepper.ensures) c.self.view_is

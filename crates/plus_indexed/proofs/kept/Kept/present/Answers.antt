@@ -1,42 +1,32 @@
-use Rattle.std.proofs.Common.{◌≡◌, List, length, sym, subst}
+use Rattle.std.proofs.Common.{◌≡◌, List, sym, subst}
 use Rattle.std.specs.Prelude.{MatchResult}
 use Rattle.plus_model.specs.Terms.{State}
 use Rattle.plus_model.specs.Running.{holding}
 use Rattle.plus_state.specs.Asked.{AllFit}
-use Rattle.plus_state.specs.Numbers.{AreMembers, process_numbers}
+use Rattle.plus_state.specs.Numbers.{process_numbers}
 use Rattle.plus_state.specs.View.{problem_of}
-use Rattle.plus_state.specs.Walk.{process_conditions, OthersPass, OthersFalse}
+use Rattle.plus_state.specs.Walk.{process_conditions}
+use Rattle.plus_state.specs.Looked.{AreKnown}
+use Rattle.plus_state.proofs.LookingLemmas.{all_known}
 use Rattle.plus_state.specs.declared.term.ProcessId.{ProcessId}
 use Rattle.plus_settle.specs.Settles.{condition_nodes, ConditionStops}
 use Rattle.plus_settle.specs.declared.stops.SettleStop.{SettleStop}
 use Rattle.plus_indexed.specs.Indexed.{Kept}
 use Rattle.plus_indexed.specs.Knows.{Knows}
-use Rattle.plus_indexed.proofs.Present.{in_order_members, in_order_pass, in_order_silent}
+use Rattle.plus_indexed.proofs.Present.{in_order_known}
 use Rattle.plus_indexed.proofs.kept.Kept.present.Goals as goal
 use Rattle.plus_indexed.proofs.kept.Kept.present.Goals.{in-Err, in-Ok}
 
-pub present_among-requires-clause-members : goal.present_among-requires-clause-members
-present_among-requires-clause-members g c =
+pub holding-requires-clause-known : goal.holding-requires-clause-known
+holding-requires-clause-known g c =
     let P = problem_of g.Q.Exact.value c.args.ground.now in
     let k = subst (λ (x : Kept). Knows g.Q.Exact.fits P (record { line = c.args.timeline.now; kept = x })) (sym c.self.view_is) c.requires.knows in
-    subst (λ (xs : List ProcessId). AreMembers (length (process_conditions P)) (process_numbers xs)) (sym c.deref.ensures.value)
-    (in_order_members g.Q.Exact.fits P c.args.timeline.now.now.state c.in-Some.waiting (process_numbers c.in_order.new.listed.items) (k.processes c.in-Some.waiting c.in-Some.is) c.in-Ok.ensures.same c.in-Ok.ensures.rising)
+    subst (λ (s : State). AreKnown g.Q.Exact.fits (process_conditions P) s (process_numbers c.deref.result.now)) (sym c.state.ensures.state)
+    (subst (λ (xs : List ProcessId). AreKnown g.Q.Exact.fits (process_conditions P) c.args.timeline.now.now.state (process_numbers xs)) (sym c.deref.ensures.value)
+    (in_order_known g.Q.Exact.fits P c.args.timeline.now.now.state c.in-Some.waiting (process_numbers c.in_order.new.listed.items) (k.processes c.in-Some.waiting c.in-Some.is) c.in-Ok.ensures.same c.in-Ok.ensures.rising))
 
-pub present_among-requires-clause-pass : goal.present_among-requires-clause-pass
-present_among-requires-clause-pass g c =
-    let P = problem_of g.Q.Exact.value c.args.ground.now in
-    let k = subst (λ (x : Kept). Knows g.Q.Exact.fits P (record { line = c.args.timeline.now; kept = x })) (sym c.self.view_is) c.requires.knows in
-    subst (λ (s : State). OthersPass g.Q.Exact.fits (process_conditions P) s (process_numbers c.deref.result.now)) (sym c.state.ensures.state)
-    (subst (λ (xs : List ProcessId). OthersPass g.Q.Exact.fits (process_conditions P) c.args.timeline.now.now.state (process_numbers xs)) (sym c.deref.ensures.value)
-    (in_order_pass g.Q.Exact.fits P c.args.timeline.now.now.state c.in-Some.waiting (process_numbers c.in_order.new.listed.items) (k.processes c.in-Some.waiting c.in-Some.is) c.in-Ok.ensures.same))
-
-pub present_among-requires-clause-silent : goal.present_among-requires-clause-silent
-present_among-requires-clause-silent g c =
-    let P = problem_of g.Q.Exact.value c.args.ground.now in
-    let k = subst (λ (x : Kept). Knows g.Q.Exact.fits P (record { line = c.args.timeline.now; kept = x })) (sym c.self.view_is) c.requires.knows in
-    subst (λ (s : State). OthersFalse (process_conditions P) s (process_numbers c.deref.result.now)) (sym c.state.ensures.state)
-    (subst (λ (xs : List ProcessId). OthersFalse (process_conditions P) c.args.timeline.now.now.state (process_numbers xs)) (sym c.deref.ensures.value)
-    (in_order_silent g.Q.Exact.fits P c.args.timeline.now.now.state c.in-Some.waiting (process_numbers c.in_order.new.listed.items) (k.processes c.in-Some.waiting c.in-Some.is) c.in-Ok.ensures.same))
+pub holding-requires-in-None-clause-known : goal.holding-requires-in-None-clause-known
+holding-requires-in-None-clause-known g c = all_known _ _ _ _ c.all.ensures
 
 pub returns-after-in_order-clause-told : goal.returns-after-in_order-clause-told
 returns-after-in_order-clause-told g c =
@@ -44,8 +34,8 @@ returns-after-in_order-clause-told g c =
     elim c.match-in_order.branch [
       | in-Err w ↦ rw w.result-is tt
       | in-Ok w ↦
-          rw (w.result-is, w.members-is) (subst (λ (s : State). MatchResult w.present_among.result
-          (λ _. AllFit g.Q.Exact.fits (condition_nodes P.processes s) × (process_numbers w.present_among.new.members.items ≡ holding P s))
+          rw (w.result-is, w.members-is) (subst (λ (s : State). MatchResult w.holding.result
+          (λ _. AllFit g.Q.Exact.fits (condition_nodes P.processes s) × (process_numbers w.holding.new.members.items ≡ holding P s))
           (λ (stop : SettleStop g.row.Q.Denot). ConditionStops g.Q.Exact.value g.Q.Exact.fits (condition_nodes P.processes s) stop))
-          w.state.ensures.state w.present_among.ensures)
+          w.state.ensures.state w.holding.ensures)
     ]

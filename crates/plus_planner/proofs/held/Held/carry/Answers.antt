@@ -1,5 +1,7 @@
-use Rattle.std.proofs.Common.{◌≡◌, subst}
+use Rattle.std.proofs.Common.{◌≡◌, sym, subst}
 use Rattle.plus_state.specs.View.{problem_of}
+use Rattle.plus_timeline.specs.Timeline.{TimelineView}
+use Rattle.plus_indexed.specs.Knows.{Knows}
 use Rattle.plus_planner.specs.Kin.{IsLightened}
 use Rattle.plus_planner.specs.Standing.{Carried}
 use Rattle.plus_planner.proofs.KinLemmas.{kin_light, carried_light}
@@ -19,3 +21,8 @@ pub returns-clause-kin : goal.returns-clause-kin
 returns-clause-kin g c =
     kin_light (problem_of g.Q.Exact.value c.args.ground.now) c.carry.new.timeline c.lighten.new.timeline
     (subst (λ t. IsLightened t c.lighten.new.timeline) c.deref_mut-2.ensures.value c.lighten.ensures) c.in_ok-fate.ensures.kin
+
+pub carry-requires-clause-knows : goal.carry-requires-clause-knows
+carry-requires-clause-knows g c =
+    let first : c.deref_mut.result.now ≡ c.args.self.now = cc in
+    subst (λ (t : TimelineView). Knows g.Q.Exact.fits (problem_of g.Q.Exact.value c.args.ground.now) (record { line = t; kept = c.args.stepper.now })) (sym first) c.requires.knows

@@ -12,6 +12,7 @@ tried-preserved g c =
     record {
       start = c.tried.invariant.start;
       same = c.tried.invariant.same;
+      stepper = c.tried.invariant.stepper;
       left = forget_next c.args.count c.args.self.now.tried.items xs ys c.in-Some.tried more popped c.tried.invariant.left;
       kin = λ P h k. forget_kin P xs ys c.in-Some.tried c.tried.self.spares.items c.push.new.self.items popped c.in_ok-push-in-Some.ensures.items (c.tried.invariant.kin P h k);
     }

@@ -10,6 +10,7 @@ abbrev pub invariant-tried : goal.invariant-tried
 invariant-tried g l = record {
   start : l.self.start ≡ l.initial.self.start;
   same : l.self.taken ≡ l.initial.self.taken;
+  stepper : l.self.stepper ≡ l.initial.self.stepper;
   left : take l.count l.self.tried.items ≡ take l.count l.initial.self.tried.items;
   kin : (P : Problem) → AllByRecursion (λ (x : Tried g.row.Q.Denot). IsKin P x.taken.timeline) l.initial.self.tried.items → AllByRecursion (IsKin P) l.initial.self.spares.items
       → AllByRecursion (λ (x : Tried g.row.Q.Denot). IsKin P x.taken.timeline) l.self.tried.items × AllByRecursion (IsKin P) l.self.spares.items;

@@ -1,4 +1,4 @@
-use Rattle.std.proofs.Common.{map, sym, subst}
+use Rattle.std.proofs.Common.{map, refl, sym, subst}
 use Rattle.std.specs.Prelude.{IfOk}
 use Rattle.plus_state.specs.View.{problem_of, action_of}
 use Rattle.plus_planner.specs.Places.{task_from}
@@ -11,10 +11,10 @@ pub search_from-answer-requires-clause-stands : goal.search_from-answer-requires
 search_from-answer-requires-clause-stands g c =
     let v = g.Q.Exact.value in
     let task = task_from (problem_of v c.args.self.now.problem) (map (action_of v) c.args.self.now.actions.items) (v c.args.self.now.interval) in
-    let place = c.begin-place.result in
-    begin_holds g.Q.Exact.fits task place.start c.in_ok-start.start place.taken.items place.tried.items place.spares.items c.in_ok-start.fate
-    g.met.Q.Exact.zero_fits c.args.self.now.can c.in_ok-start.ensures.carried c.in_ok-start.ensures.kin c.in-Alive.is
-    c.begin-place.ensures.start c.begin-place.ensures.taken c.begin-place.ensures.tried c.begin-place.ensures.spares
+    let place = c.in_ok-place.place in
+    begin_holds g.Q.Exact.fits task place.start place.start place.taken.items place.tried.items place.spares.items place.stepper.index c.in_ok-place.fate
+    g.met.Q.Exact.zero_fits c.args.self.now.can c.in_ok-place.ensures.carried c.in_ok-place.ensures.kin c.in-Alive.is
+    refl c.in_ok-place.ensures.taken c.in_ok-place.ensures.tried c.in_ok-place.ensures.spares c.in_ok-place.ensures.index
 
 pub returns-clause-answers : goal.returns-clause-answers
 returns-clause-answers g c =
@@ -23,9 +23,9 @@ returns-clause-answers g c =
     elim c.match-fate.branch [
       | in-Alive w ↦ subst (λ r. IfOk r (Answers v g.Q.Exact.fits task c.args.decisions c.args.tries)) (sym w.answer-is) w.search_from-answer.ensures.answers
       | in-Broken w ↦ subst (λ r. IfOk r (Answers v g.Q.Exact.fits task c.args.decisions c.args.tries)) (sym w.answer-is)
-          (begin_broken g.Q.Exact.fits task c.args.decisions c.in_ok-start.start c.in_ok-start.fate g.met.Q.Exact.zero_fits c.in_ok-start.ensures.carried w.in-Broken.is)
+          (begin_broken g.Q.Exact.fits task c.args.decisions c.in_ok-place.place.start c.in_ok-place.fate g.met.Q.Exact.zero_fits c.in_ok-place.ensures.carried w.in-Broken.is)
       | in-Beyond w ↦ subst (λ r. IfOk r (Answers v g.Q.Exact.fits task c.args.decisions c.args.tries)) (sym w.answer-is)
-          (begin_beyond g.Q.Exact.fits task c.args.decisions c.in_ok-start.start c.in_ok-start.fate g.met.Q.Exact.zero_fits c.in_ok-start.ensures.carried w.in-Beyond.is)
+          (begin_beyond g.Q.Exact.fits task c.args.decisions c.in_ok-place.place.start c.in_ok-place.fate g.met.Q.Exact.zero_fits c.in_ok-place.ensures.carried w.in-Beyond.is)
     ]
 
 pub returns-clause-enough : goal.returns-clause-enough

@@ -2,6 +2,8 @@ use Rattle.std.proofs.Common.{◌<◌, suc, map, length, sym, subst, ◌∙◌, 
 use Rattle.std.specs.Prelude.{IfOk}
 use Rattle.plus_state.specs.View.{problem_of, action_of}
 use Rattle.plus_planner.specs.Places.{task_from, StandsBehind, Walks}
+use Rattle.plus_reads.specs.Indexing.{Indexes}
+use Rattle.plus_indexed.specs.Indexed.{Kept}
 use Rattle.plus_planner.proofs.WorldLemmas.{walk_told, walk_path, walk_stands, then, again_walks, again_stands}
 use Rattle.plus_planner.proofs.TriedLemmas.{there}
 use Rattle.plus_planner.proofs.KinLemmas.{kin_again, holds_ok}
@@ -40,6 +42,7 @@ returns-in_ok-again-in-Some-clause-stands g c =
           c.in-Some.index c.args.decision c.requires.within c.in-Some.ensures c.in_ok-again-in-Some.ensures.returns;
       kin = kin_again task.problem old.start new.start old.taken.items new.taken.items old.tried.items new.tried.items old.spares.items new.spares.items c.in-Some.index
           c.again.ensures.start (ap (λ w. w.items) c.again.ensures.spares) c.in_ok-again-in-Some.ensures.returns c.requires.stands.kin;
+      indexes = subst (λ (k : Kept). Indexes task.problem k.index) (sym c.again.ensures.stepper) c.requires.stands.indexes;
     }
 
 pub decide-requires-clause-stands : goal.decide-requires-clause-stands
@@ -86,8 +89,8 @@ returns-in-None-clause-stands g c =
     let start = c.args.place.now.start in
     let taken = c.args.place.now.taken.items in
     let place = c.decide.new.place in
-    holds_ok g.Q.Exact.fits task place.start place.taken.items place.tried.items place.spares.items c.decide.result
+    holds_ok g.Q.Exact.fits task place.start place.taken.items place.tried.items place.spares.items place.stepper.index c.decide.result
     (walk_stands g.Q.Exact.fits task start place.start taken place.taken.items c.args.decision c.args.place.now.tried.items place.tried.items c.requires.stands.stands c.decide.result
     (subst (λ xs. IfOk c.decide.result (Walks g.Q.Exact.fits (task_from P (map (action_of v) xs) (v c.args.self.now.interval)) start place.start taken place.taken.items c.args.decision)) c.deref.ensures.value c.decide.ensures.walks)
     (then c.decide.result (ap (λ w. w.items)) c.decide.ensures.tried))
-    c.decide.ensures.kin
+    c.decide.ensures.kin (then c.decide.result (λ e. subst (Indexes P) (sym e) c.requires.stands.indexes) c.decide.ensures.index)

@@ -10,9 +10,9 @@ use Rattle.plus_timeline.proofs.entry.EntryStates.reach.Goals as goal
 pub returns-clause-told : goal.returns-clause-told
 returns-clause-told g c =
     let same : c.state.result.now ≡ c.args.self.now.state = c.state.ensures ∙ ap (λ (e : EntryView). e.state) c.self.view_is in
-    subst (λ (s : State). StretchTold g.Q.Exact.value g.Q.Exact.fits (problem_of g.Q.Exact.value c.args.ground.now) (g.Q.Exact.value c.args.until) (g.Q.Exact.value c.args.time) s (process_numbers c.args.running.now.members.items) c.args.running.now.rates (arrived_at c.reach_among.new.ahead.arrival c.reach_among.result)) same c.reach_among.ensures.told
+    subst (λ (s : State). StretchTold g.Q.Exact.value g.Q.Exact.fits (problem_of g.Q.Exact.value c.args.ground.now) (g.Q.Exact.value c.args.until) (g.Q.Exact.value c.args.time) s (process_numbers c.args.running.now.members.items) c.args.running.now.rates (arrived_at c.reach_in.new.ahead.arrival c.reach_in.result)) same c.reach_in.ensures.told
 
 pub returns-clause-reached : goal.returns-clause-reached
 returns-clause-reached g c =
     let same : c.state.result.now ≡ c.args.self.now.state = c.state.ensures ∙ ap (λ (e : EntryView). e.state) c.self.view_is in
-    reached_by g.Q.Exact.value g.Q.Exact.fits (problem_of g.Q.Exact.value c.args.ground.now) _ _ c.state.result.now c.args.self.now.state _ (process_numbers c.args.running.now.members.items) c.args.running.now.rates c.reach_among.new.ahead.arrival c.reach_among.result same c.reach_among.ensures.told c.reach_among.ensures.arrived
+    reached_by g.Q.Exact.value g.Q.Exact.fits (problem_of g.Q.Exact.value c.args.ground.now) _ _ c.state.result.now c.args.self.now.state _ (process_numbers c.args.running.now.members.items) c.args.running.now.rates c.reach_in.new.ahead.arrival c.reach_in.result same c.reach_in.ensures.told c.reach_in.ensures.arrived

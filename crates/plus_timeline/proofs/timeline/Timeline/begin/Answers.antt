@@ -25,4 +25,4 @@ returns g c =
     let n = ap length c.in_ok-cascade.ensures ∙ length-replicate (length events) false ∙ sym (length-map events (event_of g.Q.Exact.value)) in
     first_is P c.args.happenings t c.in_ok-states.states c.in_ok-literals.literals c.are_there-literal.result _ _ _ _ _ c.args.ground.now.fits.initial c.zero-time.ensures c.in_ok-states.ensures
     c.in_ok-literals.ensures (literal_is P t c.in_ok-literals.literals c.are_there-literal.result c.in_ok-literals.ensures c.are_there-literal.ensures)
-    (ap event_numbers c.new.ensures.items) (ap event_numbers c.new-2.ensures.items) (ap process_numbers c.new-3.ensures.items) c.zero.ensures n
+    (ap event_numbers c.new.ensures.items) (ap event_numbers c.new-2.ensures.items) (ap process_numbers c.none.ensures.members) c.none.ensures.rates n

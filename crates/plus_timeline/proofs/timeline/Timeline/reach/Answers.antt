@@ -3,9 +3,9 @@ use Rattle.std.proofs.lemmas.List.{length-map}
 use Rattle.plus_model.specs.Running.{Settled}
 use Rattle.plus_settle.specs.Members.{AreMembers}
 use Rattle.plus_state.specs.View.{problem_of, process_of}
-use Rattle.plus_state.specs.Walk.{event_conditions, process_conditions, OthersFalse}
-use Rattle.plus_settle.specs.Still.Others.{OthersStill}
-use Rattle.plus_timeline.specs.Timeline.{TimelineView, event_numbers, process_numbers}
+use Rattle.plus_state.specs.Looked.{events_looked, processes_looked}
+use Rattle.plus_stretch.specs.Among.{AreKnownAlong}
+use Rattle.plus_timeline.specs.Timeline.{TimelineView, process_numbers}
 use Rattle.plus_timeline.proofs.Members.{members_are, rates_size, settled_as}
 use Rattle.plus_timeline.proofs.timeline.Timeline.reach.Goals as goal
 
@@ -29,14 +29,6 @@ reach-requires-clause-on g c =
     let s : Settled (problem_of g.Q.Exact.value c.args.ground.now) c.self.inside.states.state (process_numbers c.self.inside.running.members.items) c.self.inside.running.rates = settled_as (problem_of g.Q.Exact.value c.args.ground.now) c.self.view_is c.requires.serves c.requires.runs in
     s.confirmed
 
-pub reach-requires-clause-other_events : goal.reach-requires-clause-other_events
-reach-requires-clause-other_events g c =
-    subst (λ (v : TimelineView). OthersStill g.Q.Exact.fits (event_conditions (problem_of g.Q.Exact.value c.args.ground.now)) v.now.state v.rates (event_numbers c.args.events.now)) (sym c.self.view_is) c.requires.other_events
-
-pub reach-requires-clause-silent : goal.reach-requires-clause-silent
-reach-requires-clause-silent g c =
-    subst (λ (v : TimelineView). OthersFalse (event_conditions (problem_of g.Q.Exact.value c.args.ground.now)) v.now.state (event_numbers c.args.events.now)) (sym c.self.view_is) c.requires.silent
-
-pub reach-requires-clause-other_processes : goal.reach-requires-clause-other_processes
-reach-requires-clause-other_processes g c =
-    subst (λ (v : TimelineView). OthersStill g.Q.Exact.fits (process_conditions (problem_of g.Q.Exact.value c.args.ground.now)) v.now.state v.rates (process_numbers c.args.processes.now)) (sym c.self.view_is) c.requires.other_processes
+pub reach-requires-clause-known : goal.reach-requires-clause-known
+reach-requires-clause-known g c =
+    subst (λ (v : TimelineView). AreKnownAlong g.Q.Exact.fits (problem_of g.Q.Exact.value c.args.ground.now) v.now.state v.rates (events_looked c.args.events) (processes_looked c.args.processes)) (sym c.self.view_is) c.requires.known

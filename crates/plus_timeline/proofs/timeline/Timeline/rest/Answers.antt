@@ -1,18 +1,12 @@
-use Rattle.std.proofs.Common.{◌≡◌, Bool, true, false, sym, subst}
-use Rattle.std.specs.Prelude.{Err, Ok, MatchBool}
+use Rattle.std.proofs.Common.{sym, subst}
+use Rattle.std.specs.Prelude.{Err, Ok}
 use Rattle.plus_model.specs.Terms.{State}
 use Rattle.plus_state.specs.View.{problem_of}
 use Rattle.plus_settle.specs.Settles.{SettleAnswers}
 use Rattle.plus_timeline.specs.declared.stop.Stop.{Stop}
 use Rattle.plus_timeline.specs.Advance.{AdvanceTold}
-use Rattle.plus_timeline.proofs.Advancing.{there, closed, unsettled}
+use Rattle.plus_timeline.proofs.Advancing.{where_true, where_false, there, closed, unsettled}
 use Rattle.plus_timeline.proofs.timeline.Timeline.rest.Goals as goal
-
-where_true : (b : Bool) (A B : Type 0) → b ≡ true → MatchBool b A B → A
-where_true b A B e m = subst (λ (x : Bool). MatchBool x A B) e m
-
-where_false : (b : Bool) (A B : Type 0) → b ≡ false → MatchBool b A B → B
-where_false b A B e m = subst (λ (x : Bool). MatchBool x A B) e m
 
 pub returns-in-Ok-false-clause-told : goal.returns-in-Ok-false-clause-told
 returns-in-Ok-false-clause-told g c =
