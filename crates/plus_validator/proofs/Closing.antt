@@ -1,5 +1,5 @@
 -- The beginning and the end of a run.
-use Rattle.std.proofs.Common.{◌≡◌, ℕ, ◌≤◌, true, false, [], ◌∷◌, ◌++◌, refl, ap, sym, subst, ◌∙◌, append-nil, inl, inr, pos, arith}
+use Rattle.std.proofs.Common.{◌≡◌, ℕ, ◌≤◌, true, false, List, [], ◌∷◌, ◌++◌, refl, ap, sym, subst, ◌∙◌, append-nil, inl, inr, pos, arith}
 use Rattle.std.specs.Prelude.{length, if◌then◌else◌}
 use Rattle.plus_fraction.specs.Fraction.{Fraction, whole}
 use Rattle.plus_model.specs.Terms.{Problem}
@@ -11,26 +11,23 @@ use Rattle.plus_number.specs.declared.frac.Frac64.{Frac64}
 use Rattle.plus_number.specs.Frac.{fraction_of, IsFrac64}
 use Rattle.plus_state.specs.View.{Labels}
 use Rattle.plus_timeline.specs.Timeline as timeline
-use Rattle.plus_timeline.specs.Timeline.{begun}
+use Rattle.plus_timeline.specs.Timeline.{TimelineView, begun}
 use Rattle.plus_indexed.specs.Knows.{Knows}
 use Rattle.plus_timeline.specs.declared.next.Next.TheVariants.{Entry}
 use Rattle.plus_report.specs.Report.{report_of, report_from}
 use Rattle.plus_report.specs.Text.{entry_text, literals_text}
 use Rattle.plus_validator.specs.Account.{Account, Progress}
-use Rattle.plus_validator.specs.Standing.{CanGoOn, IsReached, next_text, account_next, EndsBy, AllActed}
+use Rattle.plus_validator.specs.Standing.{IsTold, CanGoOn, IsReached, next_text, EndsBy, AllActed}
+use Rattle.plus_validator.specs.Told.{Telling}
 use Rattle.plus_validator.specs.Running.{IsOnWay, Reaches}
 use Rattle.plus_validator.specs.Playing.{Closes, Begins, closed}
 use Rattle.plus_timeline.proofs.Played.{clear_first, asked_same}
-use Rattle.plus_validator.proofs.Steps.{literals_shown, account_by}
+use Rattle.plus_validator.proofs.Steps.{literals_shown}
 use Rattle.plus_validator.proofs.Lines.{close_played, close_target, close_worked}
 use Rattle.plus_stretch.specs.Tests.{AllPass}
 use Rattle.plus_validator.specs.Asking.{IsClear, NoneFails}
 use Rattle.plus_validator.proofs.Asking.{goal_passes}
 use Rattle.plus_timeline.specs.Asked.{goal_tests}
-
--- before the first entry nothing is told
-abbrev pub nothing : Account
-nothing = record { report = []; entries = 0; firings = 0 }
 
 -- the first entry is written
 first_report : (N : Labels) (P : Problem) (L : Plan) (most : ℕ) (time : Frac64) → fraction_of time ≡ whole (pos 0) → next_text fraction_of N P (begun P most) (Entry time) ≡ report_of N P L (first_part P ∷ [])
@@ -40,9 +37,12 @@ first_report N P L most time e =
     ∙ ap (λ x. entry_text N (whole (pos 0)) P.initial P.initial ++ x) (literals_shown N P (whole (pos 0)) P.initial (literals P (whole (pos 0)) P.initial))
     ∙ sym (append-nil _)
 
-pub begins : (N : Labels) (P : Problem) (most : ℕ) (time : Frac64) (run : Progress) → 1 ≤ most → run.timeline.line ≡ begun P most → Knows IsFrac64 P run.timeline → run.ended ≡ false → fraction_of time ≡ run.timeline.line.now.time → run.account ≡ account_next fraction_of N P run.timeline.line (Entry time) nothing → Begins N P most run
-begins N P most time run some e k n t r =
-    let now : fraction_of time ≡ whole (pos 0) = t ∙ ap (λ v. v.now.time) e in
+pub report_begins : (N : Labels) (P : Problem) (most : ℕ) (time : Frac64) (t : TimelineView) (told : List ℕ) → t ≡ begun P most → fraction_of time ≡ t.now.time → told ≡ next_text fraction_of N P t (Entry time) → (L : Plan) → told ≡ report_of N P L (first_part P ∷ [])
+report_begins N P most time t told e n r = λ L.
+    r ∙ ap (λ v. next_text fraction_of N P v (Entry time)) e ∙ first_report N P L most time (n ∙ ap (λ v. v.now.time) e)
+
+pub begins : {V : Type 0} (P : Problem) (T : Telling P V) (most : ℕ) (run : Progress V) → 1 ≤ most → run.timeline.line ≡ begun P most → Knows IsFrac64 P run.timeline → run.ended ≡ false → ((L : Plan) → T.Tells L (first_part P ∷ []) run.account.told) → run.account.entries ≡ 1 → run.account.firings ≡ 0 → Begins P T most run
+begins P T most run some e k n r one none_fired =
     record {
       rests = record {
         can = record {
@@ -60,7 +60,7 @@ begins N P most time run some e k n t r =
             prefix = prefix_begins P L (subst IsInOrder (sym none) tt);
             now = ap (λ v. v.now) e;
             entries = ap (λ v. v.entries) e;
-            beside = r ∙ ap (λ v. account_next fraction_of N P v (Entry time) nothing) e ∙ account_by (first_report N P L most time now) refl refl;
+            beside = record { tells = r L; entries = one; firings = none_fired };
             clear = clear_first IsFrac64 P L run.timeline.line.most instance;
           };
           not_closed = open_yet;
@@ -73,18 +73,18 @@ begins N P most time run some e k n t r =
     }
 
 -- the text is at its end, and the goal holds
-pub closes : (N : Labels) (P : Problem) (old mid new : Progress) (now : Fraction) → now ≡ old.timeline.line.now.time → CanGoOn P old.timeline → Reaches N P now old mid → AllPass IsFrac64 (goal_tests P mid.timeline.line.now.state) → holds P.goal mid.timeline.line.now.state ≡ true → new.account ≡ mid.account → Closes N P old new
-closes N P old mid new now e c r a g w = record {
+pub closes : {V : Type 0} (P : Problem) (T : Telling P V) (old mid new : Progress V) (now : Fraction) → now ≡ old.timeline.line.now.time → CanGoOn P old.timeline → Reaches P T now old mid → AllPass IsFrac64 (goal_tests P mid.timeline.line.now.state) → holds P.goal mid.timeline.line.now.state ≡ true → new.account ≡ mid.account → Closes P T old new
+closes {V} P T old mid new now e c r a g w = record {
   ends = λ L instance h ready.
-      let on_way : IsOnWay N P (closed L) instance now old.timeline.line.now.acted h old = record {
-        played = close_played N P L instance old.ended h old.timeline.line old.account ready;
-        target_is = close_target N P L instance old.ended h old.timeline.line old.account ready ∙ sym e;
+      let on_way : IsOnWay P T (closed L) instance now old.timeline.line.now.acted h old = record {
+        played = close_played P T L instance old.ended h old.timeline.line old.account ready;
+        target_is = close_target P T L instance old.ended h old.timeline.line old.account ready ∙ sym e;
         acted_is = refl;
       } in
       let there = r.reached (closed L) instance old.timeline.line.now.acted h (inr refl) on_way in
-      let there_now : IsReached N P (closed L) instance old.timeline.line.now.acted old.timeline.line.now.time there.0 mid.timeline.line mid.account =
-      subst (λ x. IsReached N P (closed L) instance old.timeline.line.now.acted x there.0 mid.timeline.line mid.account) e there.1 in
-      let worked : IsWorked P (closed L) mid.timeline.line.now = close_worked N P L instance old.ended h there.0 old.timeline.line mid.timeline.line old.account mid.account ready there_now in
+      let there_now : IsReached P T (closed L) instance old.timeline.line.now.acted old.timeline.line.now.time there.0 mid.timeline.line mid.account =
+      subst (λ x. IsReached P T (closed L) instance old.timeline.line.now.acted x there.0 mid.timeline.line mid.account) e there.1 in
+      let worked : IsWorked P (closed L) mid.timeline.line.now = close_worked P T L instance old.ended h there.0 old.timeline.line mid.timeline.line old.account mid.account ready there_now in
       let passed : NoneFails P (closed L) mid.timeline.line.most instance there.0 =
       subst (AllPass IsFrac64) (asked_same there.1.played)
       (goal_passes P (closed L) mid.timeline.line.most instance mid.timeline.line.entries mid.timeline.line.now refl worked.acted there.1.present there.1.over there.1.passed a) in
@@ -102,7 +102,7 @@ closes N P old mid new now e c r a g w = record {
           few = omega arith;
           clear = subst (λ (m : ℕ). IsClear P (closed L) m instance there.0) r.most there.1.played.clear;
           passed = subst (λ (m : ℕ). NoneFails P (closed L) m instance there.0) r.most passed;
-          written = w ∙ there.1.played.beside;
+          told = subst (λ (x : Account V). IsTold P T (closed L) x there.0) (sym w) there.1.played.beside;
         },
       );
 }

@@ -18,8 +18,6 @@ use Rattle.plus_state.specs.declared.outcome.Breach.TheVariants as breaches
 use Rattle.plus_state.specs.declared.outcome.Limit.{Limit}
 use Rattle.plus_state.specs.declared.outcome.Limit.TheVariants as limits
 use Rattle.plus_state.specs.declared.outcome.Owner.TheVariants as owners
-use Rattle.plus_plan.specs.declared.faults.PlanFault.{PlanFault}
-use Rattle.plus_plan.specs.declared.faults.PlanFault.TheVariants as faults
 use Rattle.plus_timeline.specs.Timeline.{TimelineView}
 use Rattle.plus_timeline.specs.Advance.{Advances, RoundFails, BreaksOff, AdvanceTold}
 use Rattle.plus_timeline.specs.Act.{DoesAct, BreaksAct, ActTold}
@@ -35,7 +33,7 @@ use Rattle.plus_timeline.specs.declared.stop.Stop.{Stop}
 use Rattle.plus_timeline.specs.declared.stop.Stop.TheVariants as stops
 use Rattle.plus_report.specs.Verdicts.{LimitFits, BreachFits}
 use Rattle.plus_validator.specs.declared.halt.Halt.{Halt}
-use Rattle.plus_validator.specs.Halts.{stop_halt, line_halt, NamesOf, HaltFits}
+use Rattle.plus_validator.specs.Halts.{stop_halt, NamesOf, HaltFits}
 use Rattle.plus_instances.proofs.Faults.{conflict_in, no_value_in}
 
 by_stop : (P : Problem) (stop : Stop Frac64) (halt : Halt) → halt ≡ stop_halt stop → NamesOf P (stop_halt stop) → HaltFits P halt

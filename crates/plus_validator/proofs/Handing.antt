@@ -1,5 +1,5 @@
 -- What a run hands on of its report, as it goes.
-use Rattle.std.proofs.Common.{◌≡◌, ℕ, ◌+◌, ◌<◌, ◌≤◌, List, [], ◌++◌, length, take, drop, Option, Some, None, refl, subst, sym, ap, ◌∙◌, arith, append_assoc, append-nil, length-append, length-drop}
+use Rattle.std.proofs.Common.{◌≡◌, ℕ, ◌+◌, ◌≤◌, List, [], ◌++◌, length, take, drop, Option, Some, None, refl, subst, sym, ap, ◌∙◌, arith, append_assoc, append-nil, length-append, length-drop}
 use Rattle.std.specs.Io.KnownBytes.{append_known}
 use Rattle.std.proofs.Math.Seq.{take-append-add}
 use Rattle.std.proofs.lemmas.List.{take-append-drop}
@@ -12,7 +12,10 @@ use Rattle.plus_validator.specs.declared.halt.Halt.TheVariants.{Refused, Memory,
 use Rattle.plus_validator.specs.declared.run.Run.{Run}
 use Rattle.plus_validator.specs.Account.{Progress, progress}
 use Rattle.plus_validator.specs.Halts.{HaltFits, HasCause}
-use Rattle.plus_validator.specs.Handing.{HandsOn, Left, left, IsPartOut, BreaksOffAt}
+use Rattle.plus_validator.specs.Handing.{HandsOn, StaysSo, IsPartOut, Tellings, BreaksOff, RunBreaksOff}
+use Rattle.plus_validator.specs.Told.{reports, report_told}
+use Rattle.plus_validator.specs.declared.memory.Report.{Report}
+use Rattle.plus_validator.proofs.Steps.{account_by}
 
 -- a count that rose later rose
 pub rose_since : (a b n : ℕ) → a ≤ b → Rose b n → Rose a n
@@ -35,7 +38,7 @@ took_none None = refl
 took_none (Some bytes) = ap Some (sym (append-nil bytes))
 
 -- two progresses that tell the same are one
-pub same_progress : (one other : Progress) → one.timeline ≡ other.timeline → one.account ≡ other.account → one.ended ≡ other.ended → one ≡ other
+pub same_progress : {V : Type 0} (one other : Progress V) → one.timeline ≡ other.timeline → one.account ≡ other.account → one.ended ≡ other.ended → one ≡ other
 same_progress one other t a e = λ i. record { timeline = t i; account = a i; ended = e i }
 
 -- nothing is handed on
@@ -62,21 +65,36 @@ hands_then {later' = later'} {first = first} {T = T} {d = d} {e = e} {o = o} {m 
       (f sent (sent ++ h.gone) ((sent ++ h.gone) ++ k.gone) (h.goes sent) (k.goes (sent ++ h.gone)));
 }
 
--- a front of what is kept is handed on, and not all
-pub hands_part : (run : Run) (o n : Option (List ℕ)) → TookPart o n run.report.bytes.items → HandsOn progress left BreaksOffAt run run o n
-hands_part run o n (count, less, t) = record {
-  gone = take count run.report.bytes.items;
+-- a run hands on what its teller does
+pub run_stays : {S V : Type 0} (told : List ℕ → S → V) (telling : Tellings V) (old new : Run S) (o n : Option (List ℕ)) → new.timeline ≡ old.timeline → new.entries ≡ old.entries → new.firings ≡ old.firings → new.ended ≡ old.ended → StaysSo told old.teller new.teller o n → StaysSo (progress told) old new o n
+run_stays told telling old new o n t e f d h = record {
+  gone = h.gone;
+  took = h.took;
+  goes = λ sent. same_progress (progress told (sent ++ h.gone) new) (progress told sent old) t (account_by (h.goes sent) e f) d;
+}
+
+pub run_breaks : {S V : Type 0} (told : List ℕ → S → V) (telling : Tellings V) (old new : Run S) (o n : Option (List ℕ)) → BreaksOff told telling old.teller new.teller o n → RunBreaksOff told telling old new o n
+run_breaks told telling old new o n b = λ N P.
+    let h = b N P in
+    record { gone = h.gone; took = h.took; goes = h.goes }
+
+-- ---- the report
+
+-- a front of what waits is handed on, and not all
+pub hands_part : (r : Report) (o n : Option (List ℕ)) → TookPart o n r.bytes.items → BreaksOff report_told reports r r o n
+hands_part r o n (count, less, t) = λ N P. record {
+  gone = take count r.bytes.items;
   took = t;
   goes = λ sent. (
-    drop count run.report.bytes.items,
-    ap (λ z. sent ++ z) (sym (take-append-drop count run.report.bytes.items)) ∙ sym (append_assoc sent (take count run.report.bytes.items) (drop count run.report.bytes.items)),
-    omega (arith, length-drop count run.report.bytes.items),
+    drop count r.bytes.items,
+    ap (λ z. sent ++ z) (sym (take-append-drop count r.bytes.items)) ∙ sym (append_assoc sent (take count r.bytes.items) (drop count r.bytes.items)),
+    omega (arith, length-drop count r.bytes.items),
   );
 }
 
 -- what is kept stays
-pub kept_behind : (sent : List ℕ) (run : Run) → IsPartOut Memory sent (progress sent run).account.report
-kept_behind sent run = (run.report.bytes.items, refl)
+pub kept_behind : (sent : List ℕ) (run : Run Report) → IsPartOut Memory sent (progress report_told sent run).account.told
+kept_behind sent run = (run.teller.bytes.items, refl)
 
 -- ---- why a run halts
 

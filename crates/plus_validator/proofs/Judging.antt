@@ -1,7 +1,9 @@
 -- What the verdict on a text says.
 use Rattle.std.proofs.Common.{◌≡◌, ℕ, ◌≤◌, Bool, false, List, [], ◌++◌, Option, Some, None, refl, ap, sym, subst, ◌∙◌, append_assoc}
-use Rattle.std.specs.Prelude.{◌≢◌, length, IfErr, IfSome, Result, Ok, Err}
+use Rattle.std.specs.Prelude.{◌≢◌, codes, length, IfErr, IfSome, Result, Ok, Err}
 use Rattle.plus_model.specs.Terms.{Problem}
+use Rattle.plus_model.specs.Plan.{Plan}
+use Rattle.plus_model.specs.History.{Part}
 use Rattle.plus_number.specs.declared.frac.Frac64.{Frac64}
 use Rattle.plus_number.specs.Frac.{fraction_of, IsFrac64}
 use Rattle.plus_state.specs.View.{Labels}
@@ -12,13 +14,14 @@ use Rattle.plus_expansion.specs.Expansion.{expanded, labels_meant}
 use Rattle.plus_report.specs.declared.verdicts.Verdict.{Verdict}
 use Rattle.plus_report.specs.declared.verdicts.Verdict.TheVariants.{Valid, Invalid, Beyond, Other}
 use Rattle.plus_report.specs.Verdicts.{verdict_text, VerdictFits}
-use Rattle.plus_validator.specs.Account.{Account, Progress, progress}
+use Rattle.plus_validator.specs.Account.{Progress, progress}
 use Rattle.plus_validator.specs.declared.run.Run.{Run}
 use Rattle.plus_validator.specs.declared.halt.Halt.{Halt}
 use Rattle.plus_validator.specs.declared.halt.Halt.TheVariants.{Refused, Memory, WriteFault}
+use Rattle.plus_validator.specs.declared.judge.Judged.{Judged}
 use Rattle.plus_validator.specs.declared.judgement.Judgement.{Judgement}
 use Rattle.plus_validator.specs.Halts.{NamesOf, HaltFits}
-use Rattle.plus_validator.specs.Handing.{left}
+use Rattle.plus_validator.specs.Handing.{left, Tellings}
 use Rattle.plus_report.specs.declared.refusals.Early.{Early}
 use Rattle.plus_report.specs.declared.refusals.Early.TheVariants as early
 use Rattle.plus_validator.specs.declared.judge.Outcome.TheVariants as outcomes
@@ -29,10 +32,11 @@ use Rattle.plus_report.specs.Report.{report_of}
 use Rattle.plus_validator.specs.Plans.{pair, plan_of, plan_in}
 use Rattle.plus_validator.specs.Refused.{IsRefused}
 use Rattle.plus_validator.specs.Stopped.{IsStoppedInText}
+use Rattle.plus_validator.specs.Told.{reports, report_told}
+use Rattle.plus_validator.specs.declared.memory.Report.{Report}
 use Rattle.plus_validator.specs.Feeding.{IsPlayedOut, StopsOn}
-use Rattle.plus_validator.specs.Judged.{GivesVerdict, SumsUp, IsPlain, IsJudged}
-use Rattle.plus_validator.proofs.Played.{accepted}
-use Rattle.plus_validator.specs.Accepted.{IsAccepted}
+use Rattle.plus_validator.specs.Judged.{GivesVerdict, Says, SumsUp, IsPlain, IsJudged}
+use Rattle.plus_validator.proofs.Played.{Written, Accepted, accepted}
 use Rattle.plus_timeline.specs.Played.{entries_of}
 use Rattle.plus_validator.specs.Asking.{firings_of, instances_of}
 use Rattle.plus_validator.specs.Validates.{IsRead, IsRefusal, IsRefusedIn}
@@ -111,59 +115,59 @@ valid_or_not (Invalid b) = is_not (λ h. cc h)
 valid_or_not (Beyond l) = is_not (λ h. cc h)
 valid_or_not (Other e) = is_not (λ h. early_never e h)
 
-module _ (d : Domain) (p : tree.Problem) (N : Labels) (P : Problem) (most : ℕ) (bytes : List ℕ) (old : Progress) (sent : List ℕ) (run : Run) (z : IsGroundable IsFrac64 d p) where
-  abbrev new : Progress
-  new = progress sent run
+-- the text of a verdict on the ground form of a pair
+abbrev verdict_meant : Domain → tree.Problem → Verdict Frac64 → List ℕ
+verdict_meant d p v = verdict_text fraction_of (labels_meant d p) (expanded d p) v
 
-  -- what is sent and what is summed up are the report and the verdict's line
-  written_is : (played : Result (Unit {0}) Halt) (j : Judgement) → SumsUp N P run played j → sent ++ j.bytes.items ≡ new.account.report ++ verdict_text fraction_of N P j.judged.verdict
-  written_is played j u = ap (λ t. sent ++ t) u.bytes ∙ sym (append_assoc sent run.report.bytes.items (verdict_text fraction_of N P j.judged.verdict))
+-- ---- of any teller
 
-  -- accepted, with what is counted
-  abbrev Counted : List ℕ → Type 0
-  Counted written = (length bytes ≤ 1048576) × (a : IsAccepted d p most bytes written) × (new.account.entries ≡ entries_of a.history) × (new.account.firings ≡ firings_of a.history)
+module _ {S V : Type 0} (told : List ℕ → S → V) (telling : Tellings V) (d : Domain) (p : tree.Problem) (N : Labels) (P : Problem) (most : ℕ) (bytes : List ℕ) (old : Progress V) (sent : List ℕ) (run : Run S) (z : IsGroundable IsFrac64 d p) where
+  abbrev new : Progress V
+  new = progress told sent run
 
-  says : (written : List ℕ) (played : Result (Unit {0}) Halt) (v : Verdict Frac64) → v ≡ Valid → P ≡ expanded d p → N ≡ labels_meant d p → Begins N P most old → IsPlayedOut (pair d p) N P bytes old sent run played → IfErr played (HaltFits P) → GivesVerdict played v → written ≡ new.account.report ++ verdict_text fraction_of N P v → Counted written
-  says written (Ok u) v i e n b r f g k =
-      let a = accepted d p N P most bytes written old new z r.within e n b r.plays (k ∙ ap (λ x. new.account.report ++ verdict_text fraction_of N P x) i) in
-      (r.within, a.0, a.1, a.2)
-  says written (Err (Refused Valid)) v i e n b r f g k = absurd f.names
-  says written (Err (Refused (Invalid x))) v i e n b r f g k = absurd (let h : Invalid x ≡ Valid = sym g ∙ i in cc h)
-  says written (Err (Refused (Beyond l))) v i e n b r f g k = absurd (let h : Beyond l ≡ Valid = sym g ∙ i in cc h)
-  says written (Err (Refused (Other x))) v i e n b r f g k = absurd (let h : Other x ≡ Valid = sym g ∙ i in cc h)
-  says written (Err Memory) v i e n b r f g k = absurd g
-  says written (Err WriteFault) v i e n b r f g k = absurd g
+  says : (written : Written telling d p new.account.told (codes "valid\n")) (played : Result (Unit {0}) Halt) (v : Verdict Frac64) → v ≡ Valid → P ≡ expanded d p → N ≡ labels_meant d p → Begins P (telling N P) most old → IsPlayedOut (pair d p) P (telling N P) told bytes old sent run played → IfErr played (HaltFits P) → GivesVerdict played v → (length bytes ≤ 1048576) × Accepted telling d p most bytes new.account (codes "valid\n") written
+  says written (Ok u) v i e n b r f g = (r.within, accepted telling d p N P most bytes old new z r.within e n b r.plays written)
+  says written (Err (Refused Valid)) v i e n b r f g = absurd f.names
+  says written (Err (Refused (Invalid x))) v i e n b r f g = absurd (let h : Invalid x ≡ Valid = sym g ∙ i in cc h)
+  says written (Err (Refused (Beyond l))) v i e n b r f g = absurd (let h : Beyond l ≡ Valid = sym g ∙ i in cc h)
+  says written (Err (Refused (Other x))) v i e n b r f g = absurd (let h : Other x ≡ Valid = sym g ∙ i in cc h)
+  says written (Err Memory) v i e n b r f g = absurd g
+  says written (Err WriteFault) v i e n b r f g = absurd g
 
   -- refused with this verdict, with what is counted
-  record Refuses (v : Verdict Frac64) (written : List ℕ) : Type 0 where
+  record Refuses (v : Verdict Frac64) (w : Written telling d p new.account.told (verdict_meant d p v)) : Type 0 where
     text : List ℕ
     goes_on : Bool
     read : IsRead bytes text goes_on
-    refused : IsRefused d p most text goes_on (outcome_of v) written
+    plan : Plan
+    history : List Part
+    tells : (telling (labels_meant d p) (expanded d p)).Tells plan history new.account.told
+    refused : IsRefused d p most text goes_on (outcome_of v) (w plan history tells).0
     verdict : v ≡ refused.verdict
     entries : new.account.entries ≡ entries_of refused.refusal.history
     firings : new.account.firings ≡ firings_of refused.refusal.history
 
   -- a refusal tells where the run halts
-  says_why : (written : List ℕ) (played : Result (Unit {0}) Halt) (v : Verdict Frac64) → P ≡ expanded d p → N ≡ labels_meant d p → Begins N P most old → IsPlayedOut (pair d p) N P bytes old sent run played → GivesVerdict played v → outcome_of v ≢ outcomes.Valid → written ≡ new.account.report ++ verdict_text fraction_of N P v → Refuses v written
-  says_why written (Ok u) v e n b s g o k = absurd (o (ap outcome_of g))
-  says_why written (Err Memory) v e n b s g o k = absurd g
-  says_why written (Err WriteFault) v e n b s g o k = absurd g
-  says_why written (Err (Refused w)) v e n b s g o k =
+  says_why : (played : Result (Unit {0}) Halt) (v : Verdict Frac64) (w : Written telling d p new.account.told (verdict_meant d p v)) → P ≡ expanded d p → N ≡ labels_meant d p → Begins P (telling N P) most old → IsPlayedOut (pair d p) P (telling N P) told bytes old sent run played → GivesVerdict played v → outcome_of v ≢ outcomes.Valid → Refuses v w
+  says_why (Ok u) v w e n b s g o = absurd (o (ap outcome_of g))
+  says_why (Err Memory) v w e n b s g o = absurd g
+  says_why (Err WriteFault) v w e n b s g o = absurd g
+  says_why (Err (Refused w)) v written e n b s g o =
       let start = b.ready (plan_of (pair d p) [] false) (instances_of (pair d p) []) refl refl in
-      let at : StopsOn (pair d p) N P old.timeline.line.most bytes (left sent run) (Refused w) = s.stops start.0 start.1 in
-      let here : IsStoppedInText (pair d p) N P old.timeline.line.most at.goes_on at.whole at.piece new.account w = at.stopped in
-      let there : IsStoppedInText (pair d p) (labels_meant d p) (expanded d p) most at.goes_on at.whole at.piece new.account v =
-      subst (λ M. IsStoppedInText (pair d p) M (expanded d p) most at.goes_on at.whole at.piece new.account v) n
-      (subst (λ Q. IsStoppedInText (pair d p) N Q most at.goes_on at.whole at.piece new.account v) e
-      (subst (λ m. IsStoppedInText (pair d p) N P m at.goes_on at.whole at.piece new.account v) b.rests.most_is
-      (subst (IsStoppedInText (pair d p) N P old.timeline.line.most at.goes_on at.whole at.piece new.account) (sym g) here))) in
-      let text_is : verdict_text fraction_of N P v ≡ verdict_text fraction_of (labels_meant d p) (expanded d p) v =
-      ap (λ M. verdict_text fraction_of M P v) n ∙ ap (λ Q. verdict_text fraction_of (labels_meant d p) Q v) e in
+      let at : StopsOn (pair d p) P (telling N P) old.timeline.line.most bytes (left told sent run) (Refused w) = s.stops start.0 start.1 in
+      let here : IsStoppedInText (pair d p) P (telling N P) old.timeline.line.most at.goes_on at.whole at.piece new.account w = at.stopped in
+      let there : IsStoppedInText (pair d p) (expanded d p) (telling (labels_meant d p) (expanded d p)) most at.goes_on at.whole at.piece new.account v =
+      subst (λ (M : Labels). IsStoppedInText (pair d p) (expanded d p) (telling M (expanded d p)) most at.goes_on at.whole at.piece new.account v) n
+      (subst (λ (Q : Problem). IsStoppedInText (pair d p) Q (telling N Q) most at.goes_on at.whole at.piece new.account v) e
+      (subst (λ m. IsStoppedInText (pair d p) P (telling N P) m at.goes_on at.whole at.piece new.account v) b.rests.most_is
+      (subst (IsStoppedInText (pair d p) P (telling N P) old.timeline.line.most at.goes_on at.whole at.piece new.account) (sym g) here))) in
       record {
         text = at.text;
         goes_on = at.goes_on;
         read = at.read;
+        plan = plan_in (pair d p) there.refusal.reading;
+        history = there.refusal.history;
+        tells = there.told.tells;
         refused = record {
           groundable = z;
           whole = at.whole;
@@ -172,62 +176,84 @@ module _ (d : Domain) (p : tree.Problem) (N : Labels) (P : Problem) (most : ℕ)
           verdict = v;
           outcome_is = refl;
           refusal = there.refusal;
-          written = k ∙ both (verdict_text fraction_of N P v) (verdict_text fraction_of (labels_meant d p) (expanded d p) v) new.account.report
-              (report_of (labels_meant d p) (expanded d p) (plan_in (pair d p) there.refusal.reading) there.refusal.history)
-              (ap (λ (a : Account). a.report) there.written) text_is;
+          written = (written (plan_in (pair d p) there.refusal.reading) there.refusal.history there.told.tells).1;
         };
         verdict = refl;
-        entries = ap (λ (a : Account). a.entries) there.written;
-        firings = ap (λ (a : Account). a.firings) there.written;
+        entries = there.told.entries;
+        firings = there.told.firings;
       }
 
   -- the verdict, its line and the counts
-  whole : (j : Judgement) (played : Result (Unit {0}) Halt) → ValidOrNot j.judged.verdict → P ≡ expanded d p → N ≡ labels_meant d p → Begins N P most old → IsPlayedOut (pair d p) N P bytes old sent run played → IfErr played (HaltFits P) → SumsUp N P run played j → JudgesText d p most bytes j.judged
-  whole j played (is_valid i) e n b s f u =
-      let a = says (sent ++ j.bytes.items) played j.judged.verdict i e n b s f u.gives (written_is played j u) in
+  whole : (j : Judged) (played : Result (Unit {0}) Halt) → ((v : Verdict Frac64) → v ≡ j.verdict → Written telling d p new.account.told (verdict_meant d p v)) → ValidOrNot j.verdict → P ≡ expanded d p → N ≡ labels_meant d p → Begins P (telling N P) most old → IsPlayedOut (pair d p) P (telling N P) told bytes old sent run played → IfErr played (HaltFits P) → Says N P run played j → JudgesText d p most bytes j
+  whole j played w (is_valid i) e n b s f u =
+      let a = says (w Valid (sym i)) played j.verdict i e n b s f u.gives in
       verdicts.judged bytes false (refl, a.0) (verdicts.accepted refl (record {
         verdict = i;
         line = u.line ∙ ap (verdict_text fraction_of N P) i;
-        bytes = sent ++ j.bytes.items;
-        accepted = a.1;
-        entries = u.entries ∙ a.2;
-        firings = u.firings ∙ a.3;
+        bytes = (w Valid (sym i) a.1.plan a.1.history a.1.tells).0;
+        accepted = a.1.accepted;
+        entries = u.entries ∙ a.1.entries;
+        firings = u.firings ∙ a.1.firings;
       }))
-  whole j played (is_not x) e n b s f u =
-      let a = says_why (sent ++ j.bytes.items) played j.judged.verdict e n b s u.gives x (written_is played j u) in
+  whole j played w (is_not x) e n b s f u =
+      let a = says_why played j.verdict (w j.verdict refl) e n b s u.gives x in
       verdicts.judged a.text a.goes_on a.read (verdicts.refused (record {
-        refusal = plain_refusal (outcome_of j.judged.verdict) (verdict_plain j.judged.verdict) x;
-        line = u.line ∙ ap (λ M. verdict_text fraction_of M P j.judged.verdict) n ∙ ap (λ Q. verdict_text fraction_of (labels_meant d p) Q j.judged.verdict) e;
-        bytes = sent ++ j.bytes.items;
+        refusal = plain_refusal (outcome_of j.verdict) (verdict_plain j.verdict) x;
+        line = u.line ∙ ap (λ M. verdict_text fraction_of M P j.verdict) n ∙ ap (λ Q. verdict_text fraction_of (labels_meant d p) Q j.verdict) e;
+        bytes = (w j.verdict refl a.plan a.history a.tells).0;
         refused = a.refused;
         verdict = a.verdict;
         entries = u.entries ∙ a.entries;
         firings = u.firings ∙ a.firings;
       }))
 
-  refused_so : (j : Judgement) → j.outcome ≡ outcome_of j.judged.verdict → Refuses j.judged.verdict (sent ++ j.bytes.items) → IsRefusedIn d p most bytes j.outcome (sent ++ j.bytes.items)
-  refused_so j o a = record {
+  -- what was not written might have been
+  pub judged_silently : (j : Judged) (played : Result (Unit {0}) Halt) → P ≡ expanded d p → N ≡ labels_meant d p → Begins P (telling N P) most old → IsPlayedOut (pair d p) P (telling N P) told bytes old sent run played → IfErr played (HaltFits P) → Says N P run played j → JudgesText d p most bytes j
+  judged_silently j played e n b s f u =
+      whole j played (λ v i L h t. (report_of (labels_meant d p) (expanded d p) L h ++ verdict_meant d p v, refl)) (valid_or_not j.verdict) e n b s f u
+
+-- ---- the report
+
+module _ (d : Domain) (p : tree.Problem) (N : Labels) (P : Problem) (most : ℕ) (bytes : List ℕ) (old : Progress (List ℕ)) (sent : List ℕ) (run : Run Report) (z : IsGroundable IsFrac64 d p) where
+  -- what is sent and what is summed up are the report and the verdict's line
+  abbrev all_told : List ℕ
+  all_told = (progress report_told sent run).account.told
+
+  written_is : (played : Result (Unit {0}) Halt) (j : Judgement) → SumsUp N P run played j → sent ++ j.bytes.items ≡ all_told ++ verdict_text fraction_of N P j.judged.verdict
+  written_is played j u = ap (λ t. sent ++ t) u.bytes ∙ sym (append_assoc sent run.teller.bytes.items (verdict_text fraction_of N P j.judged.verdict))
+
+  -- it is what was written
+  abbrev in_fact : (j : Judgement) (played : Result (Unit {0}) Halt) → P ≡ expanded d p → N ≡ labels_meant d p → SumsUp N P run played j → (v : Verdict Frac64) → v ≡ j.judged.verdict → Written reports d p all_told (verdict_meant d p v)
+  in_fact j played e n u v i = λ L h t. (
+    sent ++ j.bytes.items,
+    written_is played j u ∙ both (verdict_text fraction_of N P j.judged.verdict) (verdict_meant d p v) all_told (report_of (labels_meant d p) (expanded d p) L h) t
+        (ap (λ M. verdict_text fraction_of M P j.judged.verdict) n ∙ ap (λ Q. verdict_text fraction_of (labels_meant d p) Q j.judged.verdict) e ∙ ap (verdict_meant d p) (sym i)),
+  )
+
+  refused_so : (j : Judgement) (played : Result (Unit {0}) Halt) (e : P ≡ expanded d p) (n : N ≡ labels_meant d p) (u : SumsUp N P run played j) → Refuses report_told reports d p N P most bytes old sent run z j.judged.verdict (in_fact j played e n u j.judged.verdict refl) → IsRefusedIn d p most bytes j.outcome (sent ++ j.bytes.items)
+  refused_so j played e n u a = record {
     text = a.text;
     goes_on = a.goes_on;
     read = a.read;
-    refused = subst (λ (y : Outcome). IsRefused d p most a.text a.goes_on y (sent ++ j.bytes.items)) (sym o) a.refused;
+    refused = subst (λ (y : Outcome). IsRefused d p most a.text a.goes_on y (sent ++ j.bytes.items)) (sym u.outcome) a.refused;
   }
 
-  pub judged : (j : Judgement) (played : Result (Unit {0}) Halt) → P ≡ expanded d p → N ≡ labels_meant d p → Begins N P most old → IsPlayedOut (pair d p) N P bytes old sent run played → IfErr played (HaltFits P) → SumsUp N P run played j → IsJudged d p most bytes (sent ++ j.bytes.items) j
+  pub judged : (j : Judgement) (played : Result (Unit {0}) Halt) → P ≡ expanded d p → N ≡ labels_meant d p → Begins P (reports N P) most old → IsPlayedOut (pair d p) P (reports N P) report_told bytes old sent run played → IfErr played (HaltFits P) → SumsUp N P run played j → IsJudged d p most bytes (sent ++ j.bytes.items) j
   judged j played e n b s f u =
       let v = j.judged.verdict in
+      let w = in_fact j played e n u in
       record {
-        valid = λ h. (says (sent ++ j.bytes.items) played v (valid_only v (sym u.outcome ∙ h)) e n b s f u.gives (written_is played j u)).1;
-        refused = λ x. refused_so j u.outcome (says_why (sent ++ j.bytes.items) played v e n b s u.gives (λ z. x (u.outcome ∙ z)) (written_is played j u));
+        valid = λ h. let i = valid_only v (sym u.outcome ∙ h) in (says report_told reports d p N P most bytes old sent run z (w Valid (sym i)) played v i e n b s f u.says.gives).1.accepted;
+        refused = λ x. refused_so j played e n u (says_why report_told reports d p N P most bytes old sent run z played v (w v refl) e n b s u.says.gives (λ z. x (u.outcome ∙ z)));
         plain = subst IsPlain (sym u.outcome) (verdict_plain v);
-        judged = whole j played (valid_or_not v) e n b s f u;
+        judged = whole report_told reports d p N P most bytes old sent run z j.judged played w (valid_or_not v) e n b s f u.says;
       }
 
 -- an outcome that is summed up is no fault
-pub sums_plain : (N : Labels) (P : Problem) (run : Run) (played : Result (Unit {0}) Halt) (j : Judgement) → SumsUp N P run played j → IsPlain j.outcome
+pub sums_plain : (N : Labels) (P : Problem) (run : Run Report) (played : Result (Unit {0}) Halt) (j : Judgement) → SumsUp N P run played j → IsPlain j.outcome
 sums_plain N P run played j u = subst IsPlain (sym u.outcome) (verdict_plain j.judged.verdict)
 
 -- a fact for the bytes under a name
-pub judged_told : (d : Domain) (p : tree.Problem) (N : Labels) (P : Problem) (most : ℕ) (told : Option (List ℕ)) (old : Progress) (sent : List ℕ) (run : Run) → IsGroundable IsFrac64 d p → (j : Judgement) (played : Result (Unit {0}) Halt) → P ≡ expanded d p → N ≡ labels_meant d p → Begins N P most old → IfSome told (λ bytes. IsPlayedOut (pair d p) N P bytes old sent run played) → IfErr played (HaltFits P) → SumsUp N P run played j → IfSome told (λ bytes. IsJudged d p most bytes (sent ++ j.bytes.items) j)
+pub judged_told : (d : Domain) (p : tree.Problem) (N : Labels) (P : Problem) (most : ℕ) (told : Option (List ℕ)) (old : Progress (List ℕ)) (sent : List ℕ) (run : Run Report) → IsGroundable IsFrac64 d p → (j : Judgement) (played : Result (Unit {0}) Halt) → P ≡ expanded d p → N ≡ labels_meant d p → Begins P (reports N P) most old → IfSome told (λ bytes. IsPlayedOut (pair d p) P (reports N P) report_told bytes old sent run played) → IfErr played (HaltFits P) → SumsUp N P run played j → IfSome told (λ bytes. IsJudged d p most bytes (sent ++ j.bytes.items) j)
 judged_told d p N P most None old sent run z j played e n b s f u = tt
 judged_told d p N P most (Some bytes) old sent run z j played e n b s f u = judged d p N P most bytes old sent run z j played e n b s f u

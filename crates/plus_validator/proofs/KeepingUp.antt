@@ -1,16 +1,12 @@
 -- What the first lines of a text tell is a beginning of what more of it tells; and so a plan is read at most one piece ahead of its report.
-use Rattle.std.proofs.Common.{◌≡◌, ◌⊎◌, ℕ, ◌+◌, ◌<◌, ◌≤◌, false, true, List, [], ◌∷◌, ◌++◌, map, length, take, Option, Some, refl, subst, sym, ap, ◌∙◌, arith, append-nil, append_assoc, length-append, inl, inr}
+use Rattle.std.proofs.Common.{◌≡◌, ℕ, ◌+◌, ◌<◌, false, true, List, [], ◌∷◌, ◌++◌, map, length, take, refl, subst, sym, ap, ◌∙◌, arith, append-nil, append_assoc, length-append, inl, inr}
 use Rattle.std.specs.Prelude.{◌≢◌, All, Result, Ok}
 use Rattle.std.proofs.lemmas.List.{length-take-le}
 use Rattle.std.proofs.lemmas.List.Elements.{All-head, All-tail}
-use Rattle.plus_io.specs.Limits.{piece_size}
-use Rattle.plus_io.specs.Files.{IsPrefix, Takes}
-use Rattle.plus_io.specs.Taken.{Took, TookPart}
 use Rattle.plus_model.specs.Terms as terms
 use Rattle.plus_model.specs.Plan.{Plan}
 use Rattle.plus_model.specs.History.{Part}
-use Rattle.plus_model.specs.History.{View}
-use Rattle.plus_model.specs.Trajectory.{HasBegun, Follow, Prefix, first_part, first_view}
+use Rattle.plus_model.specs.Trajectory.{HasBegun, Prefix}
 use Rattle.plus_model.specs.Laws.{Begins}
 use Rattle.plus_model.proofs.Later.{prefix_goes_on}
 use Rattle.plus_model.proofs.Longest.{worked_is_longest}
@@ -23,14 +19,15 @@ use Rattle.plus_plan.specs.Lines.{numbered, plan_lines}
 use Rattle.plus_plan.specs.Pieces.{AtLine}
 use Rattle.plus_plan.proofs.Cuttings.{behind_line, numbered-append}
 use Rattle.plus_model.specs.Terms.{State}
-use Rattle.plus_report.specs.Report.{part_text, state_after, report_from, report_of}
+use Rattle.plus_report.specs.Report.{report_of}
 use Rattle.plus_report.proofs.ReportLemmas.{report_of-grown}
 use Rattle.plus_validator.specs.Plans.{Pair, lines_meant, plan_of}
 use Rattle.plus_validator.specs.Asking.{instances_of}
 use Rattle.plus_validator.specs.Refused.{IsWaiting}
-use Rattle.plus_validator.specs.Leaving.{IsToldSoFar, TellsSoFar, KeepsUp, unread, ahead}
+use Rattle.plus_validator.specs.Leaving.{IsToldSoFar, TellsSoFar, unread, ahead}
 use Rattle.plus_validator.specs.KeepingUp.{MoreTellsMore, ReadsOnePieceAhead}
-use Rattle.plus_validator.proofs.TextStops.{lines_meant-more, goes_on, begun_more, unbegun_is, report_more}
+use Rattle.plus_validator.specs.Told.{report_more}
+use Rattle.plus_validator.proofs.TextStops.{lines_meant-more, goes_on, begun_more, unbegun_is}
 
 -- ---- whole lines
 

@@ -1,9 +1,8 @@
 -- What of a report is out, and what is told by it.
-use Rattle.std.proofs.Common.{◌≡◌, ℕ, ◌<◌, ◌≤◌, Bool, true, false, List, [], ◌∷◌, ◌++◌, map, length, take, Option, Some, None, refl, subst, sym, ap, ◌∙◌, arith, append-nil, append_assoc, length-append, inl, inr}
+use Rattle.std.proofs.Common.{◌≡◌, ℕ, ◌<◌, Bool, true, false, List, [], ◌∷◌, ◌++◌, map, length, take, Option, Some, None, refl, subst, sym, ap, ◌∙◌, arith, append-nil, append_assoc, length-append, inl, inr}
 use Rattle.std.specs.Prelude.{All, IfSome, IfErr, Result, Ok, Err}
 use Rattle.std.proofs.lemmas.List.{take_at}
 use Rattle.plus_io.specs.Taken.{Took}
-use Rattle.plus_io.proofs.Pieces.{Takes-append}
 use Rattle.plus_model.specs.Terms.{Problem}
 use Rattle.plus_model.specs.History.{Part}
 use Rattle.plus_model.specs.Trajectory.{Prefix}
@@ -33,6 +32,8 @@ use Rattle.plus_validator.specs.Plans.{Pair, pair, plan_of, plan_in, Reading, re
 use Rattle.plus_validator.specs.Playing.{Begins, ReadiedFor}
 use Rattle.plus_validator.specs.Refused.{IsWaiting, IsPlayedOn, IsCut, WholeLines, Cause}
 use Rattle.plus_validator.specs.Stopped.{IsCutShortInText, IsStoppedInText}
+use Rattle.plus_validator.specs.Told.{reports, report_told}
+use Rattle.plus_validator.specs.declared.memory.Report.{Report}
 use Rattle.plus_validator.specs.Validates.{IsRead}
 use Rattle.plus_validator.specs.Feeding.{HasPlayed, HaltsWith, PlaysText, IsPlayedOut}
 use Rattle.plus_validator.specs.Leaving.{IsToldSoFar, TellsSoFar, TellsOnWay, TookSoFar, LeavesReport, BreaksOffSoFar, KeepsUp, unread, ahead}
@@ -43,12 +44,12 @@ use Rattle.plus_validator.proofs.TextStops.{waiting_report, waiting_for, lines_t
 
 -- ---- the report of the lines read so far
 
-told_in : (d : Pair) (N : Labels) (P : Problem) (most : ℕ) (text : List ℕ) (first now : Progress) (lines : List Line) (reader : Pending) → IsGroundable IsFrac64 d.domain d.problem → Begins N P most first → IsIdle reader → reader.closed ≡ false → HasGiven Timed text lines reader → HasPlayed d N P lines first now → IsToldSoFar d N P most text now.account.report
+told_in : (d : Pair) (N : Labels) (P : Problem) (most : ℕ) (text : List ℕ) (first now : Progress (List ℕ)) (lines : List Line) (reader : Pending) → IsGroundable IsFrac64 d.domain d.problem → Begins P (reports N P) most first → IsIdle reader → reader.closed ≡ false → HasGiven Timed text lines reader → HasPlayed d P (reports N P) lines first now → IsToldSoFar d N P most text now.account.told
 told_in d N P most text first now lines reader z b i o given played =
     let start = b.ready (plan_of d [] false) (instances_of d []) refl refl in
     let there = played.ready start.0 start.1 in
     let same : now.timeline.line.most ≡ most = played.rests.most_is ∙ b.rests.most_is in
-    let reported = waiting_report d N P lines most there.0 now played.rests.can same there.1 in
+    let reported = waiting_report d P (reports N P) lines most there.0 now played.rests.can same there.1 in
     record {
       groundable = z;
       whole = given.given;
@@ -61,14 +62,14 @@ told_in d N P most text first now lines reader z b i o given played =
       prefix = reported.prefix;
       few = reported.few;
       clear = reported.clear;
-      waits = waiting_for d N P lines most there.0 now same there.1;
-      written = ap (λ (a : Account). a.report) reported.written;
+      waits = waiting_for d P (reports N P) lines most there.0 now same there.1;
+      written = reported.told.tells;
     }
 
-pub told_so_far : (d : Domain) (p : tree.Problem) (N : Labels) (P : Problem) (most : ℕ) (text : List ℕ) (first now : Progress) (lines : List Line) (reader : Pending) → IsGroundable IsFrac64 d p → P ≡ expanded d p → N ≡ labels_meant d p → Begins N P most first → IsIdle reader → reader.closed ≡ false → HasGiven Timed text lines reader → HasPlayed (pair d p) N P lines first now → TellsSoFar d p most text now.account.report
+pub told_so_far : (d : Domain) (p : tree.Problem) (N : Labels) (P : Problem) (most : ℕ) (text : List ℕ) (first now : Progress (List ℕ)) (lines : List Line) (reader : Pending) → IsGroundable IsFrac64 d p → P ≡ expanded d p → N ≡ labels_meant d p → Begins P (reports N P) most first → IsIdle reader → reader.closed ≡ false → HasGiven Timed text lines reader → HasPlayed (pair d p) P (reports N P) lines first now → TellsSoFar d p most text now.account.told
 told_so_far d p N P most text first now lines reader z e n b i o given played =
-    subst (λ M. IsToldSoFar (pair d p) M (expanded d p) most text now.account.report) n
-    (subst (λ Q. IsToldSoFar (pair d p) N Q most text now.account.report) e
+    subst (λ M. IsToldSoFar (pair d p) M (expanded d p) most text now.account.told) n
+    (subst (λ Q. IsToldSoFar (pair d p) N Q most text now.account.told) e
     (told_in (pair d p) N P most text first now lines reader z b i o given played))
 
 -- what is written later changes nothing of that
@@ -125,7 +126,7 @@ module _ (d : Pair) (P : Problem) (most : ℕ) (whole : List ℕ) (before : List
   })
 
 -- what is out where a plan is refused
-stopped_cut : (d : Pair) (N : Labels) (P : Problem) (most : ℕ) (goes_on : Bool) (whole piece : List ℕ) (account : Account) (v : Verdict Frac64) (out : List ℕ) → IsStoppedInText d N P most goes_on whole piece account v → IsPartOut Memory out account.report → IsCutShortInText d N P most goes_on whole out Memory
+stopped_cut : (d : Pair) (N : Labels) (P : Problem) (most : ℕ) (goes_on : Bool) (whole piece : List ℕ) (account : Account (List ℕ)) (v : Verdict Frac64) (out : List ℕ) → IsStoppedInText d P (reports N P) most goes_on whole piece account v → IsPartOut Memory out account.told → IsCutShortInText d P (reports N P) most goes_on whole out Memory
 stopped_cut d N P most goes_on whole piece account v out s o =
     let r = s.refusal in
     record {
@@ -134,7 +135,7 @@ stopped_cut d N P most goes_on whole piece account v out s o =
       cut = record {
         history = r.history;
         account = account;
-        reported = record { prefix = r.prefix; few = r.few; clear = r.clear; written = s.written };
+        reported = record { prefix = r.prefix; few = r.few; clear = r.clear; told = s.told };
         part = o;
       };
     }
@@ -145,19 +146,19 @@ record IsPartTold (d : Domain) (p : tree.Problem) (most : ℕ) (bytes out : List
   told : TellsOnWay d p most bytes report
   part : IsPartOut halt out report
 
-module _ (d : Domain) (p : tree.Problem) (N : Labels) (P : Problem) (most : ℕ) (first : Progress) (z : IsGroundable IsFrac64 d p) (e : P ≡ expanded d p) (n : N ≡ labels_meant d p) (b : Begins N P most first) where
-  abbrev start : (h : List Part) × ReadiedFor (pair d p) N P [] h first
+module _ (d : Domain) (p : tree.Problem) (N : Labels) (P : Problem) (most : ℕ) (first : Progress (List ℕ)) (z : IsGroundable IsFrac64 d p) (e : P ≡ expanded d p) (n : N ≡ labels_meant d p) (b : Begins P (reports N P) most first) where
+  abbrev start : (h : List Part) × ReadiedFor (pair d p) P (reports N P) [] h first
   start = b.ready (plan_of (pair d p) [] false) (instances_of (pair d p) []) refl refl
 
   module _ (bytes : List ℕ) where
-    cut_told : (text : List ℕ) (goes_on : Bool) (whole piece out : List ℕ) (halt : Halt) → IsRead bytes text goes_on → WholeLines goes_on text whole piece → IsCutShortInText (pair d p) N P first.timeline.line.most goes_on whole out halt → IsPartTold d p most bytes out halt
+    cut_told : (text : List ℕ) (goes_on : Bool) (whole piece out : List ℕ) (halt : Halt) → IsRead bytes text goes_on → WholeLines goes_on text whole piece → IsCutShortInText (pair d p) P (reports N P) first.timeline.line.most goes_on whole out halt → IsPartTold d p most bytes out halt
     cut_told text goes_on whole piece out halt r c s =
-        let k : IsCutShortInText (pair d p) (labels_meant d p) (expanded d p) most goes_on whole out halt =
-        subst (λ M. IsCutShortInText (pair d p) M (expanded d p) most goes_on whole out halt) n
-        (subst (λ Q. IsCutShortInText (pair d p) N Q most goes_on whole out halt) e
-        (subst (λ m. IsCutShortInText (pair d p) N P m goes_on whole out halt) b.rests.most_is s)) in
+        let k : IsCutShortInText (pair d p) (expanded d p) (reports (labels_meant d p) (expanded d p)) most goes_on whole out halt =
+        subst (λ (M : Labels). IsCutShortInText (pair d p) (expanded d p) (reports M (expanded d p)) most goes_on whole out halt) n
+        (subst (λ (Q : Problem). IsCutShortInText (pair d p) Q (reports N Q) most goes_on whole out halt) e
+        (subst (λ m. IsCutShortInText (pair d p) P (reports N P) m goes_on whole out halt) b.rests.most_is s)) in
         record {
-          report = k.cut.account.report;
+          report = k.cut.account.told;
           told = record {
             groundable = z;
             text = text;
@@ -172,41 +173,41 @@ module _ (d : Domain) (p : tree.Problem) (N : Labels) (P : Problem) (most : ℕ)
             prefix = k.cut.reported.prefix;
             few = k.cut.reported.few;
             clear = k.cut.reported.clear;
-            written = ap (λ (a : Account). a.report) k.cut.reported.written;
+            written = k.cut.reported.told.tells;
           };
           part = k.cut.part;
         }
 
     -- the text is played
-    played_told : (out : List ℕ) (new : Progress) → IsPartOut Memory out new.account.report → PlaysText (pair d p) N P bytes first new → IsPartTold d p most bytes out Memory
+    played_told : (out : List ℕ) (new : Progress (List ℕ)) → IsPartOut Memory out new.account.told → PlaysText (pair d p) P (reports N P) bytes first new → IsPartTold d p most bytes out Memory
     played_told out new o s =
         let finish = s.plays.ends start.0 start.1 in
         cut_told bytes false bytes [] out Memory (refl, s.within) refl
-        (end_cut (pair d p) N P first.timeline.line.most bytes s.plays.lines out Memory s.plays.read s.plays.times (s.works start.0 start.1) (record {
+        (end_cut (pair d p) P (reports N P) first.timeline.line.most bytes s.plays.lines out Memory s.plays.read s.plays.times (s.works start.0 start.1) (record {
           history = finish.0;
           account = new.account;
-          reported = record { prefix = finish.1.happens.prefix; few = finish.1.few; clear = finish.1.clear; written = finish.1.written };
+          reported = record { prefix = finish.1.happens.prefix; few = finish.1.few; clear = finish.1.clear; told = finish.1.told };
           part = o;
         }))
 
     -- the run halts in it
-    refused_told : (new : Left) (v : Verdict Frac64) → IsPartOut Memory new.out new.account.report → HaltsWith (pair d p) N P bytes first new (Refused v) → IsPartTold d p most bytes new.out Memory
+    refused_told : (new : Left (List ℕ)) (v : Verdict Frac64) → IsPartOut Memory new.out new.account.told → HaltsWith (pair d p) P (reports N P) bytes first new (Refused v) → IsPartTold d p most bytes new.out Memory
     refused_told new v o s =
         let k = s.stops start.0 start.1 in
         cut_told k.text k.goes_on k.whole k.piece new.out Memory k.read k.cut
         (stopped_cut (pair d p) N P first.timeline.line.most k.goes_on k.whole k.piece new.account v new.out k.stopped o)
 
-    wanting_told : (new : Left) → HaltsWith (pair d p) N P bytes first new Memory → IsPartTold d p most bytes new.out Memory
+    wanting_told : (new : Left (List ℕ)) → HaltsWith (pair d p) P (reports N P) bytes first new Memory → IsPartTold d p most bytes new.out Memory
     wanting_told new s = (let k = s.stops start.0 start.1 in cut_told k.text k.goes_on k.whole k.piece new.out Memory k.read k.cut k.stopped)
 
-    broken_told : (new : Left) → HaltsWith (pair d p) N P bytes first new WriteFault → IsPartTold d p most bytes new.out WriteFault
+    broken_told : (new : Left (List ℕ)) → HaltsWith (pair d p) P (reports N P) bytes first new WriteFault → IsPartTold d p most bytes new.out WriteFault
     broken_told new s = (let k = s.stops start.0 start.1 in cut_told k.text k.goes_on k.whole k.piece new.out WriteFault k.read k.cut k.stopped)
 
     -- what is out, however it was played
-    some_told : (sent : List ℕ) (run : Run) (played : Result (Unit {0}) Halt) → IfErr played (HaltFits P) → IsPlayedOut (pair d p) N P bytes first sent run played → IsPartTold d p most bytes sent Memory
-    some_told sent run (Ok u) f s = played_told sent (progress sent run) (kept_behind sent run) s
-    some_told sent run (Err (Refused v)) f s = refused_told (left sent run) v (kept_behind sent run) s
-    some_told sent run (Err Memory) f s = wanting_told (left sent run) s
+    some_told : (sent : List ℕ) (run : Run Report) (played : Result (Unit {0}) Halt) → IfErr played (HaltFits P) → IsPlayedOut (pair d p) P (reports N P) report_told bytes first sent run played → IsPartTold d p most bytes sent Memory
+    some_told sent run (Ok u) f s = played_told sent (progress report_told sent run) (kept_behind sent run) s
+    some_told sent run (Err (Refused v)) f s = refused_told (left report_told sent run) v (kept_behind sent run) s
+    some_told sent run (Err Memory) f s = wanting_told (left report_told sent run) s
     some_told sent run (Err WriteFault) f s = absurd f.names
 
     took_some : (old new : Option (List ℕ)) (out : List ℕ) → Took old new out → IsPartTold d p most bytes out Memory → TookSoFar d p most bytes old new
@@ -231,13 +232,13 @@ module _ (d : Domain) (p : tree.Problem) (N : Labels) (P : Problem) (most : ℕ)
   at_some (Some x) A B f h = f x h
 
   -- what is out is some of the report
-  pub leaves_played : (bytes : Option (List ℕ)) (sent : List ℕ) (run : Run) (played : Result (Unit {0}) Halt) (old new : Option (List ℕ)) → IfErr played (HaltFits P) → Took old new sent → IfSome bytes (λ text. IsPlayedOut (pair d p) N P text first sent run played) → LeavesReport d p most bytes old new
+  pub leaves_played : (bytes : Option (List ℕ)) (sent : List ℕ) (run : Run Report) (played : Result (Unit {0}) Halt) (old new : Option (List ℕ)) → IfErr played (HaltFits P) → Took old new sent → IfSome bytes (λ text. IsPlayedOut (pair d p) P (reports N P) report_told text first sent run played) → LeavesReport d p most bytes old new
   leaves_played bytes sent run played old new f t s =
-      inr (at_some bytes (λ text. IsPlayedOut (pair d p) N P text first sent run played) (λ text. TookSoFar d p most text old new)
+      inr (at_some bytes (λ text. IsPlayedOut (pair d p) P (reports N P) report_told text first sent run played) (λ text. TookSoFar d p most text old new)
       (λ text k. took_some text old new sent t (some_told text sent run played f k)) s)
 
   -- or the sink failed
-  pub leaves_broken : (bytes : Option (List ℕ)) (sent : List ℕ) (run : Run) (old new : Option (List ℕ)) → Took old new sent → IfSome bytes (λ text. HaltsWith (pair d p) N P text first (left sent run) WriteFault) → IfSome bytes (λ text. BreaksOffSoFar d p most text old new)
+  pub leaves_broken : (bytes : Option (List ℕ)) (sent : List ℕ) (run : Run Report) (old new : Option (List ℕ)) → Took old new sent → IfSome bytes (λ text. HaltsWith (pair d p) P (reports N P) text first (left report_told sent run) WriteFault) → IfSome bytes (λ text. BreaksOffSoFar d p most text old new)
   leaves_broken bytes sent run old new t s =
-      at_some bytes (λ text. HaltsWith (pair d p) N P text first (left sent run) WriteFault) (λ text. BreaksOffSoFar d p most text old new)
-      (λ text k. took_part text old new sent t (broken_told text (left sent run) k)) s
+      at_some bytes (λ text. HaltsWith (pair d p) P (reports N P) text first (left report_told sent run) WriteFault) (λ text. BreaksOffSoFar d p most text old new)
+      (λ text k. took_part text old new sent t (broken_told text (left report_told sent run) k)) s

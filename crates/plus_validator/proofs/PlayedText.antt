@@ -1,12 +1,11 @@
 -- A plan text whose lines are played, and where in it the run halts.
 use Rattle.std.proofs.Common.{◌≡◌, ℕ, ◌+◌, ◌<◌, ◌≤◌, Bool, true, false, ◌==◌, List, [], ◌∷◌, ◌++◌, map, length, take, refl, subst, sym, ap, ◌∙◌, arith, append-nil, inl, inr, ◌⊎◌, if◌then◌else◌, ◌||◌, eqb-true}
-use Rattle.std.specs.Prelude.{Result, Ok, Err, nat_lt, All, ◌≢◌}
+use Rattle.std.specs.Prelude.{Result, Ok, Err, nat_lt, ◌≢◌}
 use Rattle.std.proofs.lemmas.Bool.{cases_lt}
 use Rattle.std.proofs.lemmas.Grind.{common_steps}
 use Rattle.std.proofs.lemmas.List.Elements.{All-nil, All-cons}
 use Rattle.plus_model.specs.Terms.{Problem}
 use Rattle.plus_model.specs.History.{Part}
-use Rattle.plus_state.specs.View.{Labels}
 use Rattle.plus_io.specs.Limits.{text_limit}
 use Rattle.plus_plan.specs.declared.forms.Line.{Line}
 use Rattle.plus_plan.specs.declared.forms.PlanForm.TheVariants.{Timed}
@@ -17,7 +16,7 @@ use Rattle.plus_plan.specs.Lines.{plan_lines}
 use Rattle.plus_plan.specs.Spells.{line_limit}
 use Rattle.plus_play.specs.Cut.{has_lf, whole_lines, last_piece, cut_piece, text_lines}
 use Rattle.plus_play.specs.Rules.{Why, on_line, no_line, too_long, at_end, handing, Stands, BeginsWith, ComesNext}
-use Rattle.plus_play.proofs.Fronts.{whole_none, lines_short, lines_over, lines_count}
+use Rattle.plus_play.proofs.Fronts.{lines_short, lines_over, lines_count}
 use Rattle.plus_report.specs.declared.verdicts.Verdict.TheVariants.{Other}
 use Rattle.plus_report.specs.declared.refusals.Early.TheVariants.{LineTooLong, TooLong}
 use Rattle.plus_report.specs.declared.refusals.Text.TheVariants as texts
@@ -28,9 +27,9 @@ use Rattle.plus_validator.specs.Halts.{line_halt}
 use Rattle.plus_validator.specs.Handing.{Left, left_by, IsPartOut}
 use Rattle.plus_validator.specs.Plans.{Pair}
 use Rattle.plus_validator.specs.Playing.{ReadiedFor}
-use Rattle.plus_validator.specs.Refused.{cut_verdict, IsCut, WholeLines}
-use Rattle.plus_validator.specs.Stopped.{StopsInText, IsStoppedInText, IsCutShortInText}
-use Rattle.plus_validator.specs.Validates.{IsRead}
+use Rattle.plus_validator.specs.Refused.{cut_verdict, IsCut}
+use Rattle.plus_validator.specs.Stopped.{StopsInText, IsCutShortInText}
+use Rattle.plus_validator.specs.Told.{Telling}
 use Rattle.plus_validator.specs.Feeding.{HasPlayed, StopsOn}
 use Rattle.plus_validator.specs.PlayRules.{HaltsBy}
 use Rattle.plus_validator.proofs.Cutting.{NoLf, not_ten}
@@ -127,27 +126,27 @@ short_verdict n size h = grind (arith, common_steps)
 
 -- ---- where the run halts
 
-module _ (d : Pair) (N : Labels) (P : Problem) (first before : Progress) (lines : List Line) (played : HasPlayed d N P lines first before) (bytes : List ℕ) (new : Left) (g : List Part) (ready : ReadiedFor d N P [] g first) where
+module _ {V : Type 0} (d : Pair) (P : Problem) (T : Telling P V) (first before : Progress V) (lines : List Line) (played : HasPlayed d P T lines first before) (bytes : List ℕ) (new : Left V) (g : List Part) (ready : ReadiedFor d P T [] g first) where
   abbrev most : ℕ
   most = first.timeline.line.most
 
   -- what the run leaves tells the account before
   module _ (same : new.account ≡ before.account) where
-    left_so : (goes_on : Bool) (whole piece : List ℕ) (halt : Halt) → StopsInText d N P most goes_on whole piece (left_by new.out before) halt → StopsInText d N P most goes_on whole piece new halt
-    left_so goes_on whole piece halt h = subst (λ (a : Account). StopsInText d N P most goes_on whole piece (record { out = new.out; account = a }) halt) (sym same) h
+    left_so : (goes_on : Bool) (whole piece : List ℕ) (halt : Halt) → StopsInText d P T most goes_on whole piece (left_by new.out before) halt → StopsInText d P T most goes_on whole piece new halt
+    left_so goes_on whole piece halt h = subst (λ (a : Account V). StopsInText d P T most goes_on whole piece (record { out = new.out; account = a }) halt) (sym same) h
 
   -- the halt where these lines of a text, cut so, are played
   abbrev HaltsHere : Bool → List ℕ → List ℕ → Halt → Type 0
-  HaltsHere goes_on whole piece halt = StopsInText d N P most goes_on whole piece new halt
+  HaltsHere goes_on whole piece halt = StopsInText d P T most goes_on whole piece new halt
 
   -- the text is within its limit, and what is said of its lines tells where the run halts
-  on_all : (halt : Halt) → length bytes ≤ text_limit → HaltsHere false bytes [] halt → StopsOn d N P most bytes new halt
+  on_all : (halt : Halt) → length bytes ≤ text_limit → HaltsHere false bytes [] halt → StopsOn d P T most bytes new halt
   on_all halt w h = record { text = bytes; goes_on = false; read = (refl, w); whole = bytes; piece = []; cut = refl; stopped = h }
 
   abbrev within : List ℕ
   within = take text_limit bytes
 
-  on_cut : (halt : Halt) → text_limit < length bytes → HaltsHere true (whole_lines within) (last_piece within) halt → StopsOn d N P most bytes new halt
+  on_cut : (halt : Halt) → text_limit < length bytes → HaltsHere true (whole_lines within) (last_piece within) halt → StopsOn d P T most bytes new halt
   on_cut halt w h = record {
     text = within;
     goes_on = true;
@@ -213,29 +212,29 @@ module _ (d : Pair) (N : Labels) (P : Problem) (first before : Progress) (lines 
   within_is w rest e = sym (lines_short Timed bytes w) ∙ e
 
   -- a fault of the program behind the lines
-  fault_halts : (halt : Halt) → BeginsWith Timed bytes lines → ((goes_on : Bool) (whole piece : List ℕ) → IsCutShortInText d N P most goes_on whole new.out halt → HaltsHere goes_on whole piece halt)
-      → IsPartOut halt new.out before.account.report → StopsOn d N P most bytes new halt
+  fault_halts : (halt : Halt) → BeginsWith Timed bytes lines → ((goes_on : Bool) (whole piece : List ℕ) → IsCutShortInText d P T most goes_on whole new.out halt → HaltsHere goes_on whole piece halt)
+      → IsPartOut halt new.out (T.bytes before.account.told) → StopsOn d P T most bytes new halt
   fault_halts halt b f o = elim (cases_lt text_limit (length bytes)) [
     | inl w ↦ (let more = begins_over w b in
-        on_cut halt w (f true (whole_lines within) (last_piece within) (cut_behind d N P first before lines played (whole_lines within) [] true (last_piece within) more.0 new.out halt g more.1 o ready)))
-    | inr w ↦ on_all halt w (f false bytes [] (cut_behind d N P first before lines played bytes [] false [] b.0 new.out halt g (within_is w b.0 b.1) o ready))
+        on_cut halt w (f true (whole_lines within) (last_piece within) (cut_behind d P T first before lines played (whole_lines within) [] true (last_piece within) more.0 new.out halt g more.1 o ready)))
+    | inr w ↦ on_all halt w (f false bytes [] (cut_behind d P T first before lines played bytes [] false [] b.0 new.out halt g (within_is w b.0 b.1) o ready))
   ]
 
   -- a line that is played no further
-  line_halts : (line : Line) (halt : Halt) → ComesNext Timed bytes lines (Ok line) → HaltsBy d N P (on_line line) before new halt → StopsOn d N P most bytes new halt
+  line_halts : (line : Line) (halt : Halt) → ComesNext Timed bytes lines (Ok line) → HaltsBy d P T (on_line line) before new halt → StopsOn d P T most bytes new halt
   line_halts line halt s h = elim (cases_lt text_limit (length bytes)) [
     | inl w ↦ on_cut halt w (elim (next_over w (Ok line) s) [
-      | inl more ↦ next_stops d N P first before lines played (whole_lines within) more.0 true (last_piece within) new line halt g more.1 h ready
+      | inl more ↦ next_stops d P T first before lines played (whole_lines within) more.0 true (last_piece within) new line halt g more.1 h ready
       | inr (all, is, long) ↦ absurd (let k : Ok line ≡ Err (faults.LineTooLong number) = is in cc k)
     ])
-    | inr w ↦ on_all halt w (next_stops d N P first before lines played bytes s.0 false [] new line halt g (within_is w (Ok line ∷ s.0) s.1) h ready)
+    | inr w ↦ on_all halt w (next_stops d P T first before lines played bytes s.0 false [] new line halt g (within_is w (Ok line ∷ s.0) s.1) h ready)
   ]
 
-  module _ (same : new.account ≡ before.account) (part : IsPartOut Memory new.out before.account.report) where
+  module _ (same : new.account ≡ before.account) (part : IsPartOut Memory new.out (T.bytes before.account.told)) where
     -- what is no line, in the whole lines of the text
     bad_in : (goes_on : Bool) (whole piece : List ℕ) (fault : PlanFault) (behind : Results) → plan_lines Timed whole ≡ map Ok lines ++ Err fault ∷ behind → HaltsHere goes_on whole piece (line_halt fault)
     bad_in goes_on whole piece fault behind e =
-        left_so same goes_on whole piece (line_halt fault) (bad_stops d N P first before lines played whole behind goes_on piece fault new.out g e part ready)
+        left_so same goes_on whole piece (line_halt fault) (bad_stops d P T first before lines played whole behind goes_on piece fault new.out g e part ready)
 
     -- the piece of a line that is cut off is longer than a line may be
     long_in : whole_said ≡ map Ok lines → line_limit < length (last_piece within) → (n : ℕ) → n ≡ number → HaltsHere true (whole_lines within) (last_piece within) (Refused (Other (LineTooLong n)))
@@ -243,9 +242,9 @@ module _ (d : Pair) (N : Labels) (P : Problem) (first before : Progress) (lines 
         let v : Other (LineTooLong n) ≡ Other (cut_verdict (length lines + 1) (length (last_piece within))) =
         ap (λ k. Other (LineTooLong k)) (e ∙ ap (λ k. k + 1) (lines_count Timed (whole_lines within) lines all)) ∙ ap Other (sym (long_verdict (length lines + 1) (length (last_piece within)) long)) in
         left_so same true (whole_lines within) (last_piece within) (Refused (Other (LineTooLong n)))
-        (cut_stops d N P (whole_lines within) first before lines played all (last_piece within) (Other (LineTooLong n)) g v ready)
+        (cut_stops d P T (whole_lines within) first before lines played all (last_piece within) (Other (LineTooLong n)) g v ready)
 
-    not_line_halts : (n start last : ℕ) → ComesNext Timed bytes lines (Err (faults.NotLine n start last)) → StopsOn d N P most bytes new (line_halt (faults.NotLine n start last))
+    not_line_halts : (n start last : ℕ) → ComesNext Timed bytes lines (Err (faults.NotLine n start last)) → StopsOn d P T most bytes new (line_halt (faults.NotLine n start last))
     not_line_halts n start last s = elim (cases_lt text_limit (length bytes)) [
       | inl w ↦ on_cut (line_halt (faults.NotLine n start last)) w (elim (next_over w (Err (faults.NotLine n start last)) s) [
         | inl more ↦ bad_in true (whole_lines within) (last_piece within) (faults.NotLine n start last) more.0 more.1
@@ -254,7 +253,7 @@ module _ (d : Pair) (N : Labels) (P : Problem) (first before : Progress) (lines 
       | inr w ↦ on_all (line_halt (faults.NotLine n start last)) w (bad_in false bytes [] (faults.NotLine n start last) s.0 (within_is w (Err (faults.NotLine n start last) ∷ s.0) s.1))
     ]
 
-    long_line_halts : (n : ℕ) → ComesNext Timed bytes lines (Err (faults.LineTooLong n)) → StopsOn d N P most bytes new (line_halt (faults.LineTooLong n))
+    long_line_halts : (n : ℕ) → ComesNext Timed bytes lines (Err (faults.LineTooLong n)) → StopsOn d P T most bytes new (line_halt (faults.LineTooLong n))
     long_line_halts n s = elim (cases_lt text_limit (length bytes)) [
       | inl w ↦ on_cut (line_halt (faults.LineTooLong n)) w (elim (next_over w (Err (faults.LineTooLong n)) s) [
         | inl more ↦ bad_in true (whole_lines within) (last_piece within) (faults.LineTooLong n) more.0 more.1
@@ -264,18 +263,18 @@ module _ (d : Pair) (N : Labels) (P : Problem) (first before : Progress) (lines 
     ]
 
   -- the text goes on behind its limit
-  over_halts : new.account ≡ before.account → text_limit < length bytes → text_lines Timed bytes ≡ map Ok lines → StopsOn d N P most bytes new (Refused (Other (TooLong texts.Plan)))
+  over_halts : new.account ≡ before.account → text_limit < length bytes → text_lines Timed bytes ≡ map Ok lines → StopsOn d P T most bytes new (Refused (Other (TooLong texts.Plan)))
   over_halts same w e =
       let all = all_over w e in
       on_cut (Refused (Other (TooLong texts.Plan))) w (left_so same true (whole_lines within) (last_piece within) (Refused (Other (TooLong texts.Plan)))
-      (cut_stops d N P (whole_lines within) first before lines played all.0 (last_piece within) (Other (TooLong texts.Plan)) g (ap Other (sym (short_verdict (length lines + 1) (length (last_piece within)) all.1))) ready))
+      (cut_stops d P T (whole_lines within) first before lines played all.0 (last_piece within) (Other (TooLong texts.Plan)) g (ap Other (sym (short_verdict (length lines + 1) (length (last_piece within)) all.1))) ready))
 
   -- wherever it halts
-  pub halts_on : (why : Why) (halt : Halt) → Stands Timed bytes lines why → HaltsBy d N P why before new halt → StopsOn d N P most bytes new halt
+  pub halts_on : (why : Why) (halt : Halt) → Stands Timed bytes lines why → HaltsBy d P T why before new halt → StopsOn d P T most bytes new halt
   halts_on (on_line line) halt s h = line_halts line halt s h
-  halts_on (no_line (faults.NotLine n start last)) halt s h = subst (StopsOn d N P most bytes new) (sym h.0) (not_line_halts h.1 h.2 n start last s)
-  halts_on (no_line (faults.LineTooLong n)) halt s h = subst (StopsOn d N P most bytes new) (sym h.0) (long_line_halts h.1 h.2 n s)
-  halts_on (no_line faults.Memory) halt s h = subst (StopsOn d N P most bytes new) (sym h.0) (fault_halts Memory s (λ goes_on whole piece k. k) h.2)
-  halts_on too_long halt s h = subst (StopsOn d N P most bytes new) (sym h.0) (over_halts h.1 s.over s.read)
-  halts_on at_end halt s h = on_all halt s.within (halts_after_all d N P bytes first before lines played s.read new halt g h ready)
-  halts_on handing halt s h = subst (StopsOn d N P most bytes new) (sym h.0) (fault_halts WriteFault s (λ goes_on whole piece k. k) h.1)
+  halts_on (no_line (faults.NotLine n start last)) halt s h = subst (StopsOn d P T most bytes new) (sym h.0) (not_line_halts h.1 h.2 n start last s)
+  halts_on (no_line (faults.LineTooLong n)) halt s h = subst (StopsOn d P T most bytes new) (sym h.0) (long_line_halts h.1 h.2 n s)
+  halts_on (no_line faults.Memory) halt s h = subst (StopsOn d P T most bytes new) (sym h.0) (fault_halts Memory s (λ goes_on whole piece k. k) h.2)
+  halts_on too_long halt s h = subst (StopsOn d P T most bytes new) (sym h.0) (over_halts h.1 s.over s.read)
+  halts_on at_end halt s h = on_all halt s.within (halts_after_all d P T bytes first before lines played s.read new halt g h ready)
+  halts_on handing halt s h = subst (StopsOn d P T most bytes new) (sym h.0) (fault_halts WriteFault s (λ goes_on whole piece k. k) h.1)

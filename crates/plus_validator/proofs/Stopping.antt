@@ -12,7 +12,6 @@ use Rattle.plus_model.specs.Trajectory.{HasBegun, next_line, view_of}
 use Rattle.plus_model.specs.Breach as model
 use Rattle.plus_number.specs.declared.frac.Frac64.{Frac64}
 use Rattle.plus_number.specs.Frac.{fraction_of, IsFrac64}
-use Rattle.plus_state.specs.View.{Labels}
 use Rattle.plus_state.specs.declared.outcome.Breach.{Breach}
 use Rattle.plus_state.specs.declared.outcome.Breach.TheVariants as breaches
 use Rattle.plus_timeline.specs.Timeline.{TimelineView}
@@ -36,7 +35,8 @@ use Rattle.plus_report.specs.Report.{called_label}
 use Rattle.plus_validator.specs.declared.halt.Halt.{Halt}
 use Rattle.plus_validator.specs.declared.halt.Halt.TheVariants.{Refused, Memory, WriteFault}
 use Rattle.plus_validator.specs.Halts.{stop_halt, CallHalts, CallVerdict}
-use Rattle.plus_validator.specs.Standing.{IsPlayed, CanGoOn, CanReach, IsReached}
+use Rattle.plus_validator.specs.Standing.{IsTold, IsPlayed, CanGoOn, CanReach, IsReached}
+use Rattle.plus_validator.specs.Told.{Telling}
 use Rattle.plus_validator.specs.Running.{IsOnWay, Steps}
 use Rattle.plus_validator.specs.Handing.{Left, left_by, IsPartOut}
 use Rattle.plus_validator.specs.Refused.{BreachNames, NamesNone, NamesLine, Stands, IsBroken}
@@ -58,21 +58,21 @@ and_then None P Q f h = h
 and_then (Some x) P Q f h = f x h
 
 -- what is told of what is played
-pub reported : (N : Labels) (P : Problem) (L : Plan) (instance : ℕ → List Test) (h : List Part) (t : TimelineView) (old new : Account) → IsPlayed N P L instance h t old → t.entries ≤ t.most → new ≡ old → IsReported N P L t.most instance h new
-reported N P L instance h t old new p w e = record {
+pub reported : {V : Type 0} (P : Problem) (T : Telling P V) (L : Plan) (instance : ℕ → List Test) (h : List Part) (t : TimelineView) (old new : Account V) → IsPlayed P T L instance h t old → t.entries ≤ t.most → new ≡ old → IsReported P T L t.most instance h new
+reported {V} P T L instance h t old new p w e = record {
   prefix = p.prefix;
   few = subst (λ n. n ≤ t.most) p.entries w;
   clear = p.clear;
-  written = e ∙ p.beside;
+  told = subst (λ (x : Account V). IsTold P T L x h) (sym e) p.beside;
 }
 
 -- a fault comes where this is played
-pub cut_short : (N : Labels) (P : Problem) (L : Plan) (instance : ℕ → List Test) (h : List Part) (t : TimelineView) (account : Account) (out : List ℕ) (halt : Halt) → IsPlayed N P L instance h t account → t.entries ≤ t.most → IsPartOut halt out account.report → IsCutShort N P L t.most instance out halt
-cut_short N P L instance h t account out halt p w o = record { history = h; account = account; reported = reported N P L instance h t account account p w refl; part = o }
+pub cut_short : {V : Type 0} (P : Problem) (T : Telling P V) (L : Plan) (instance : ℕ → List Test) (h : List Part) (t : TimelineView) (account : Account V) (out : List ℕ) (halt : Halt) → IsPlayed P T L instance h t account → t.entries ≤ t.most → IsPartOut halt out (T.bytes account.told) → IsCutShort P T L t.most instance out halt
+cut_short P T L instance h t account out halt p w o = record { history = h; account = account; reported = reported P T L instance h t account account p w refl; part = o }
 
 -- ---- a test that fails at the view of a history that is played
 
-module _ (N : Labels) (P : Problem) (L : Plan) (instance : ℕ → List Test) (h : List Part) (t : TimelineView) (account : Account) (p : IsPlayed N P L instance h t account) where
+module _ {V : Type 0} (P : Problem) (T : Telling P V) (L : Plan) (instance : ℕ → List Test) (h : List Part) (t : TimelineView) (account : Account V) (p : IsPlayed P T L instance h t account) where
   -- it fails at the history
   pub fails_at : (test : Test) → FirstFailing IsFrac64 (asked P L t.most instance t.entries t.now) test → Fails P L t.most instance h test
   fails_at test f = subst (λ (ts : List Test). FirstFailing IsFrac64 ts test) (asked_same p) f
@@ -103,133 +103,133 @@ names_none P u v breaches.Goal s = tt
 
 -- ---- on the way to a time
 
-pub advance_stops : (N : Labels) (P : Problem) (L : Plan) (instance : ℕ → List Test) (u : Fraction) (acted : ℕ) (h : List Part) (old new : Progress) (out : List ℕ) (stop : Stop Frac64) → HasBegun L → CanReach P u old.timeline → IsOnWay N P L instance u acted h old → AdvanceTold fraction_of IsFrac64 P u old.timeline.line new.timeline.line (Err stop) → new.account ≡ old.account → IsPartOut Memory out old.account.report → StopsOnWay N P L old.timeline.line.most instance (left_by out new) (stop_halt stop)
-advance_stops N P L instance u acted h old new out (stops.Breach b) begun c w k r o = record {
+pub advance_stops : {V : Type 0} (P : Problem) (T : Telling P V) (L : Plan) (instance : ℕ → List Test) (u : Fraction) (acted : ℕ) (h : List Part) (old new : Progress V) (out : List ℕ) (stop : Stop Frac64) → HasBegun L → CanReach P u old.timeline → IsOnWay P T L instance u acted h old → AdvanceTold fraction_of IsFrac64 P u old.timeline.line new.timeline.line (Err stop) → new.account ≡ old.account → IsPartOut Memory out (T.bytes old.account.told) → StopsOnWay P T L old.timeline.line.most instance (left_by out new) (stop_halt stop)
+advance_stops P T L instance u acted h old new out (stops.Breach b) begun c w k r o = record {
   stopped = record {
     history = h;
-    reported = reported N P L instance h old.timeline.line old.account new.account w.played c.goes.within r;
-    stands = broken_at N P L instance h old.timeline.line old.account w.played b begun (advance_breaks fraction_of P L old.timeline.line u b w.target_is k.means)
+    reported = reported P T L instance h old.timeline.line old.account new.account w.played c.goes.within r;
+    stands = broken_at P T L instance h old.timeline.line old.account w.played b begun (advance_breaks fraction_of P L old.timeline.line u b w.target_is k.means)
         (and_then (breach_of fraction_of old.timeline.line.now.acted b) (λ x. FirstFailing IsFrac64 (way_tests P u old.timeline.line) (breach x)) (λ x. FirstFailing IsFrac64 (asked P L old.timeline.line.most instance old.timeline.line.entries old.timeline.line.now) (breach x))
         (λ x f. way_fails IsFrac64 P L instance u old.timeline.line (breach x) w.target_is f) k.first);
   };
   names = names_none P _ old.timeline.line.now b k.means;
 }
-advance_stops N P L instance u acted h old new out (stops.Limit l) begun c w k r o = record {
+advance_stops P T L instance u acted h old new out (stops.Limit l) begun c w k r o = record {
   stopped = record {
     history = h;
-    reported = reported N P L instance h old.timeline.line old.account new.account w.played c.goes.within r;
-    stands = fails_at N P L instance h old.timeline.line old.account w.played (of_limit fraction_of l) (way_fails IsFrac64 P L instance u old.timeline.line (of_limit fraction_of l) w.target_is k.first);
+    reported = reported P T L instance h old.timeline.line old.account new.account w.played c.goes.within r;
+    stands = fails_at P T L instance h old.timeline.line old.account w.played (of_limit fraction_of l) (way_fails IsFrac64 P L instance u old.timeline.line (of_limit fraction_of l) w.target_is k.first);
   };
   names = tt;
 }
-advance_stops N P L instance u acted h old new out stops.Ended begun c w k r o = cut_short N P L instance h old.timeline.line old.account out Memory w.played c.goes.within o
-advance_stops N P L instance u acted h old new out stops.Memory begun c w k r o = cut_short N P L instance h old.timeline.line old.account out Memory w.played c.goes.within o
+advance_stops P T L instance u acted h old new out stops.Ended begun c w k r o = cut_short P T L instance h old.timeline.line old.account out Memory w.played c.goes.within o
+advance_stops P T L instance u acted h old new out stops.Memory begun c w k r o = cut_short P T L instance h old.timeline.line old.account out Memory w.played c.goes.within o
 
-pub advance_halts_on : (N : Labels) (P : Problem) (u : Fraction) (old new : Progress) (out : List ℕ) (stop : Stop Frac64) (halt : Halt) → CanReach P u old.timeline → halt ≡ stop_halt stop → AdvanceTold fraction_of IsFrac64 P u old.timeline.line new.timeline.line (Err stop) → new.account ≡ old.account → IsPartOut Memory out old.account.report → HaltsOnWay N P u old (left_by out new) halt
-advance_halts_on N P u old new out stop halt c e k r o = record {
-  stops = λ L instance acted h begun w. subst (StopsOnWay N P L old.timeline.line.most instance (left_by out new)) (sym e) (advance_stops N P L instance u acted h old new out stop begun c w k r o);
+pub advance_halts_on : {V : Type 0} (P : Problem) (T : Telling P V) (u : Fraction) (old new : Progress V) (out : List ℕ) (stop : Stop Frac64) (halt : Halt) → CanReach P u old.timeline → halt ≡ stop_halt stop → AdvanceTold fraction_of IsFrac64 P u old.timeline.line new.timeline.line (Err stop) → new.account ≡ old.account → IsPartOut Memory out (T.bytes old.account.told) → HaltsOnWay P T u old (left_by out new) halt
+advance_halts_on P T u old new out stop halt c e k r o = record {
+  stops = λ L instance acted h begun w. subst (StopsOnWay P T L old.timeline.line.most instance (left_by out new)) (sym e) (advance_stops P T L instance u acted h old new out stop begun c w k r o);
 }
 
 -- memory is wanting on the way
-pub way_wants : (N : Labels) (P : Problem) (u : Fraction) (old : Progress) (new : Left) → CanReach P u old.timeline → IsPartOut Memory new.out old.account.report → HaltsOnWay N P u old new Memory
-way_wants N P u old new c o = record {
-  stops = λ L instance acted h begun w. cut_short N P L instance h old.timeline.line old.account new.out Memory w.played c.goes.within o;
+pub way_wants : {V : Type 0} (P : Problem) (T : Telling P V) (u : Fraction) (old : Progress V) (new : Left V) → CanReach P u old.timeline → IsPartOut Memory new.out (T.bytes old.account.told) → HaltsOnWay P T u old new Memory
+way_wants P T u old new c o = record {
+  stops = λ L instance acted h begun w. cut_short P T L instance h old.timeline.line old.account new.out Memory w.played c.goes.within o;
 }
 
 -- the sink fails behind a step
-pub way_breaks : (N : Labels) (P : Problem) (u : Fraction) (old mid : Progress) (new : Left) (there : Bool) → Steps N P u old mid there → IsPartOut WriteFault new.out mid.account.report → HaltsOnWay N P u old new WriteFault
-way_breaks N P u old mid new true s o = record {
+pub way_breaks : {V : Type 0} (P : Problem) (T : Telling P V) (u : Fraction) (old mid : Progress V) (new : Left V) (there : Bool) → Steps P T u old mid there → IsPartOut WriteFault new.out (T.bytes mid.account.told) → HaltsOnWay P T u old new WriteFault
+way_breaks P T u old mid new true s o = record {
   stops = λ L instance acted h begun w.
       let x = s.reached L instance acted h begun w in
-      subst (λ k. IsCutShort N P L k instance new.out WriteFault) s.most (cut_short N P L instance x.0 mid.timeline.line mid.account new.out WriteFault x.1.played s.can.within o);
+      subst (λ k. IsCutShort P T L k instance new.out WriteFault) s.most (cut_short P T L instance x.0 mid.timeline.line mid.account new.out WriteFault x.1.played s.can.within o);
 }
-way_breaks N P u old mid new false s o = record {
+way_breaks P T u old mid new false s o = record {
   stops = λ L instance acted h begun w.
       let x = s.on_way L instance acted h begun w in
-      subst (λ k. IsCutShort N P L k instance new.out WriteFault) s.most (cut_short N P L instance x.0 mid.timeline.line mid.account new.out WriteFault x.1.played s.can.goes.within o);
+      subst (λ k. IsCutShort P T L k instance new.out WriteFault) s.most (cut_short P T L instance x.0 mid.timeline.line mid.account new.out WriteFault x.1.played s.can.goes.within o);
 }
 
 -- several steps, and then a halt
-pub along_halts : (N : Labels) (P : Problem) (u : Fraction) (start run : Progress) (new : Left) (halt : Halt) → Along N P u start run → HaltsOnWay N P u run new halt → HaltsOnWay N P u start new halt
-along_halts N P u start run new halt a s = record {
+pub along_halts : {V : Type 0} (P : Problem) (T : Telling P V) (u : Fraction) (start run : Progress V) (new : Left V) (halt : Halt) → Along P T u start run → HaltsOnWay P T u run new halt → HaltsOnWay P T u start new halt
+along_halts P T u start run new halt a s = record {
   stops = λ L instance acted h begun w.
       let x = a.on_way L instance acted h begun w in
-      subst (λ m. StopsOnWay N P L m instance new halt) a.most (s.stops L instance acted x.0 begun x.1);
+      subst (λ m. StopsOnWay P T L m instance new halt) a.most (s.stops L instance acted x.0 begun x.1);
 }
 
 -- ---- an action that is due
 
 -- memory is wanting at it
-pub act_wants : (w : Pair) (N : Labels) (P : Problem) (n : ℕ) (k : Call) (old : Progress) (new : Left) → CanGoOn P old.timeline → IsPartOut Memory new.out old.account.report → HaltsInAct w N P n k old new Memory
-act_wants w N P n k old new c o = record {
-  stops = λ L instance h begun i r d. cut_short N P L instance h old.timeline.line old.account new.out Memory r.played c.within o;
+pub act_wants : {V : Type 0} (w : Pair) (P : Problem) (T : Telling P V) (n : ℕ) (k : Call) (old : Progress V) (new : Left V) → CanGoOn P old.timeline → IsPartOut Memory new.out (T.bytes old.account.told) → HaltsInAct w P T n k old new Memory
+act_wants w P T n k old new c o = record {
+  stops = λ L instance h begun i r d. cut_short P T L instance h old.timeline.line old.account new.out Memory r.played c.within o;
 }
 
 -- the verdict stands at the history that is played, and names this line
-stopped_in : (N : Labels) (P : Problem) (L : Plan) (instance : ℕ → List Test) (n : ℕ) (h : List Part) (old new : Progress) (v : Verdict Frac64) → CanGoOn P old.timeline → IsPlayed N P L instance h old.timeline.line old.account → new.account ≡ old.account → Stands P L old.timeline.line.most instance h v → NamesLine n (called_label (next_line L old.timeline.line.now)) v → IsStoppedIn N P L old.timeline.line.most instance n new.account v
-stopped_in N P L instance n h old new v c p r s m = record {
+stopped_in : {V : Type 0} (P : Problem) (T : Telling P V) (L : Plan) (instance : ℕ → List Test) (n : ℕ) (h : List Part) (old new : Progress V) (v : Verdict Frac64) → CanGoOn P old.timeline → IsPlayed P T L instance h old.timeline.line old.account → new.account ≡ old.account → Stands P L old.timeline.line.most instance h v → NamesLine n (called_label (next_line L old.timeline.line.now)) v → IsStoppedIn P T L old.timeline.line.most instance n new.account v
+stopped_in P T L instance n h old new v c p r s m = record {
   stopped = record {
     history = h;
-    reported = reported N P L instance h old.timeline.line old.account new.account p c.within r;
+    reported = reported P T L instance h old.timeline.line old.account new.account p c.within r;
     stands = s;
   };
   names = subst (λ (w : View). NamesLine n (called_label (next_line L w)) v) p.now m;
 }
 
 -- what the line that is due asks
-due_fails : (N : Labels) (P : Problem) (L : Plan) (instance : ℕ → List Test) (h : List Part) (t : TimelineView) (account : Account) (call : Called) (test : Test) → IsReached N P L instance t.now.acted t.now.time h t account → next_line L t.now ≡ Some (ActLine t.now.time call) → FirstFailing IsFrac64 (line_tests P L instance t.now (Some (ActLine t.now.time call))) test → FirstFailing IsFrac64 (asked P L t.most instance t.entries t.now) test
-due_fails N P L instance h t account call test r d f = line_fails P L t.most instance t.entries t.now (Some (ActLine t.now.time call)) test d r.present r.over r.passed f
+due_fails : {V : Type 0} (P : Problem) (T : Telling P V) (L : Plan) (instance : ℕ → List Test) (h : List Part) (t : TimelineView) (account : Account V) (call : Called) (test : Test) → IsReached P T L instance t.now.acted t.now.time h t account → next_line L t.now ≡ Some (ActLine t.now.time call) → FirstFailing IsFrac64 (line_tests P L instance t.now (Some (ActLine t.now.time call))) test → FirstFailing IsFrac64 (asked P L t.most instance t.entries t.now) test
+due_fails P T L instance h t account call test r d f = line_fails P L t.most instance t.entries t.now (Some (ActLine t.now.time call)) test d r.present r.over r.passed f
 
 -- it calls no action
-unknown_stops : (N : Labels) (P : Problem) (n : ℕ) (name : List ℕ) (run : Progress) (v : Verdict Frac64) (L : Plan) (instance : ℕ → List Test) (h : List Part) → CanGoOn P run.timeline → v ≡ Invalid (breaches.UnknownAction n name) → HasBegun L → IsReached N P L instance run.timeline.line.now.acted run.timeline.line.now.time h run.timeline.line run.account → next_line L run.timeline.line.now ≡ Some (ActLine run.timeline.line.now.time (plan.UnknownAction name)) → IsStoppedIn N P L run.timeline.line.most instance n run.account v
-unknown_stops N P n name run v L instance h c e begun r d =
-    subst (IsStoppedIn N P L run.timeline.line.most instance n run.account) (sym e)
-    (stopped_in N P L instance n h run run (Invalid (breaches.UnknownAction n name)) c r.played refl
-    (broken_at N P L instance h run.timeline.line run.account r.played (breaches.UnknownAction n name) begun (refl, record { present = r.present; due = d })
-    (due_fails N P L instance h run.timeline.line run.account (plan.UnknownAction name) (breach (model.UnknownAction run.timeline.line.now.acted name)) r d (breach_fails (model.UnknownAction run.timeline.line.now.acted name) [])))
+unknown_stops : {V : Type 0} (P : Problem) (T : Telling P V) (n : ℕ) (name : List ℕ) (run : Progress V) (v : Verdict Frac64) (L : Plan) (instance : ℕ → List Test) (h : List Part) → CanGoOn P run.timeline → v ≡ Invalid (breaches.UnknownAction n name) → HasBegun L → IsReached P T L instance run.timeline.line.now.acted run.timeline.line.now.time h run.timeline.line run.account → next_line L run.timeline.line.now ≡ Some (ActLine run.timeline.line.now.time (plan.UnknownAction name)) → IsStoppedIn P T L run.timeline.line.most instance n run.account v
+unknown_stops P T n name run v L instance h c e begun r d =
+    subst (IsStoppedIn P T L run.timeline.line.most instance n run.account) (sym e)
+    (stopped_in P T L instance n h run run (Invalid (breaches.UnknownAction n name)) c r.played refl
+    (broken_at P T L instance h run.timeline.line run.account r.played (breaches.UnknownAction n name) begun (refl, record { present = r.present; due = d })
+    (due_fails P T L instance h run.timeline.line run.account (plan.UnknownAction name) (breach (model.UnknownAction run.timeline.line.now.acted name)) r d (breach_fails (model.UnknownAction run.timeline.line.now.acted name) [])))
     refl)
 
-wrong_stops : (N : Labels) (P : Problem) (n : ℕ) (name : List ℕ) (run : Progress) (v : Verdict Frac64) (L : Plan) (instance : ℕ → List Test) (h : List Part) → CanGoOn P run.timeline → v ≡ Invalid (breaches.WrongArguments n name) → HasBegun L → IsReached N P L instance run.timeline.line.now.acted run.timeline.line.now.time h run.timeline.line run.account → next_line L run.timeline.line.now ≡ Some (ActLine run.timeline.line.now.time (plan.WrongArguments name)) → IsStoppedIn N P L run.timeline.line.most instance n run.account v
-wrong_stops N P n name run v L instance h c e begun r d =
-    subst (IsStoppedIn N P L run.timeline.line.most instance n run.account) (sym e)
-    (stopped_in N P L instance n h run run (Invalid (breaches.WrongArguments n name)) c r.played refl
-    (broken_at N P L instance h run.timeline.line run.account r.played (breaches.WrongArguments n name) begun (refl, record { present = r.present; due = d })
-    (due_fails N P L instance h run.timeline.line run.account (plan.WrongArguments name) (breach (model.WrongArguments run.timeline.line.now.acted name)) r d (breach_fails (model.WrongArguments run.timeline.line.now.acted name) [])))
+wrong_stops : {V : Type 0} (P : Problem) (T : Telling P V) (n : ℕ) (name : List ℕ) (run : Progress V) (v : Verdict Frac64) (L : Plan) (instance : ℕ → List Test) (h : List Part) → CanGoOn P run.timeline → v ≡ Invalid (breaches.WrongArguments n name) → HasBegun L → IsReached P T L instance run.timeline.line.now.acted run.timeline.line.now.time h run.timeline.line run.account → next_line L run.timeline.line.now ≡ Some (ActLine run.timeline.line.now.time (plan.WrongArguments name)) → IsStoppedIn P T L run.timeline.line.most instance n run.account v
+wrong_stops P T n name run v L instance h c e begun r d =
+    subst (IsStoppedIn P T L run.timeline.line.most instance n run.account) (sym e)
+    (stopped_in P T L instance n h run run (Invalid (breaches.WrongArguments n name)) c r.played refl
+    (broken_at P T L instance h run.timeline.line run.account r.played (breaches.WrongArguments n name) begun (refl, record { present = r.present; due = d })
+    (due_fails P T L instance h run.timeline.line run.account (plan.WrongArguments name) (breach (model.WrongArguments run.timeline.line.now.acted name)) r d (breach_fails (model.WrongArguments run.timeline.line.now.acted name) [])))
     refl)
 
 -- a limit of its instance is passed
-instance_fails : (w : Pair) (N : Labels) (P : Problem) (k : Call) (action : Action) (run : Progress) (L : Plan) (instance : ℕ → List Test) (h : List Part) (test : Test) → called_of w.domain w.problem k.name k.args ≡ Instance action → instance run.timeline.line.now.acted ≡ call_tests w k → IsReached N P L instance run.timeline.line.now.acted run.timeline.line.now.time h run.timeline.line run.account → next_line L run.timeline.line.now ≡ Some (ActLine run.timeline.line.now.time (called_of w.domain w.problem k.name k.args)) → FirstFailing IsFrac64 (call_tests w k) test → Fails P L run.timeline.line.most instance h test
-instance_fails w N P k action run L instance h test i n r d f =
-    fails_at N P L instance h run.timeline.line run.account r.played test
-    (due_fails N P L instance h run.timeline.line run.account (Instance action) test r (d ∙ ap (λ x. Some (ActLine run.timeline.line.now.time x)) i)
+instance_fails : {V : Type 0} (w : Pair) (P : Problem) (T : Telling P V) (k : Call) (action : Action) (run : Progress V) (L : Plan) (instance : ℕ → List Test) (h : List Part) (test : Test) → called_of w.domain w.problem k.name k.args ≡ Instance action → instance run.timeline.line.now.acted ≡ call_tests w k → IsReached P T L instance run.timeline.line.now.acted run.timeline.line.now.time h run.timeline.line run.account → next_line L run.timeline.line.now ≡ Some (ActLine run.timeline.line.now.time (called_of w.domain w.problem k.name k.args)) → FirstFailing IsFrac64 (call_tests w k) test → Fails P L run.timeline.line.most instance h test
+instance_fails w P T k action run L instance h test i n r d f =
+    fails_at P T L instance h run.timeline.line run.account r.played test
+    (due_fails P T L instance h run.timeline.line run.account (Instance action) test r (d ∙ ap (λ x. Some (ActLine run.timeline.line.now.time x)) i)
     (fails_left (instance run.timeline.line.now.acted) (act_tests run.timeline.line.now.acted action run.timeline.line.now.state) test (subst (λ (ts : List Test). FirstFailing IsFrac64 ts test) (sym n) f)))
 
-call_stops : (w : Pair) (N : Labels) (P : Problem) (n : ℕ) (k : Call) (fault : InstanceFault) (run : Progress) (v : Verdict Frac64) (L : Plan) (instance : ℕ → List Test) (h : List Part) → CanGoOn P run.timeline → RefusesCall IsFrac64 w.domain k.name (called_of w.domain w.problem k.name k.args) fault → CallVerdict fault n k.name v → HasBegun L → instance run.timeline.line.now.acted ≡ call_tests w k → IsReached N P L instance run.timeline.line.now.acted run.timeline.line.now.time h run.timeline.line run.account → next_line L run.timeline.line.now ≡ Some (ActLine run.timeline.line.now.time (called_of w.domain w.problem k.name k.args)) → IsStoppedIn N P L run.timeline.line.most instance n run.account v
-call_stops w N P n k instances.UnknownAction run v L instance h c f e begun i r d =
-    unknown_stops N P n k.name run v L instance h c e begun r (d ∙ ap (λ x. Some (ActLine run.timeline.line.now.time x)) f)
-call_stops w N P n k instances.WrongArguments run v L instance h c f e begun i r d =
-    wrong_stops N P n k.name run v L instance h c e begun r (d ∙ ap (λ x. Some (ActLine run.timeline.line.now.time x)) f)
-call_stops w N P n k instances.TooManyNodes run v L instance h c f e begun i r d =
-    subst (IsStoppedIn N P L run.timeline.line.most instance n run.account) (sym e)
-    (stopped_in N P L instance n h run run (Other (TooMany kinds.Nodes 1000000)) c r.played refl
-    (refl, refl, instance_fails w N P k f.action run L instance h (too_many_nodes 1000000) f.is i r d (call_too_large w k f)) tt)
-call_stops w N P n k (instances.Literal span) run v L instance h c f e begun i r d =
-    subst (IsStoppedIn N P L run.timeline.line.most instance n run.account) (sym e)
-    (stopped_in N P L instance n h run run (Other (Literal texts.Domain span.start span.«end»)) c r.played refl
-    (instance_fails w N P k f.action run L instance h (no_number span.start span.«end») f.is i r d (call_unfit w k span f)) tt)
-call_stops w N P n k instances.Memory run v L instance h c f e begun i r d = absurd e
+call_stops : {V : Type 0} (w : Pair) (P : Problem) (T : Telling P V) (n : ℕ) (k : Call) (fault : InstanceFault) (run : Progress V) (v : Verdict Frac64) (L : Plan) (instance : ℕ → List Test) (h : List Part) → CanGoOn P run.timeline → RefusesCall IsFrac64 w.domain k.name (called_of w.domain w.problem k.name k.args) fault → CallVerdict fault n k.name v → HasBegun L → instance run.timeline.line.now.acted ≡ call_tests w k → IsReached P T L instance run.timeline.line.now.acted run.timeline.line.now.time h run.timeline.line run.account → next_line L run.timeline.line.now ≡ Some (ActLine run.timeline.line.now.time (called_of w.domain w.problem k.name k.args)) → IsStoppedIn P T L run.timeline.line.most instance n run.account v
+call_stops w P T n k instances.UnknownAction run v L instance h c f e begun i r d =
+    unknown_stops P T n k.name run v L instance h c e begun r (d ∙ ap (λ x. Some (ActLine run.timeline.line.now.time x)) f)
+call_stops w P T n k instances.WrongArguments run v L instance h c f e begun i r d =
+    wrong_stops P T n k.name run v L instance h c e begun r (d ∙ ap (λ x. Some (ActLine run.timeline.line.now.time x)) f)
+call_stops w P T n k instances.TooManyNodes run v L instance h c f e begun i r d =
+    subst (IsStoppedIn P T L run.timeline.line.most instance n run.account) (sym e)
+    (stopped_in P T L instance n h run run (Other (TooMany kinds.Nodes 1000000)) c r.played refl
+    (refl, refl, instance_fails w P T k f.action run L instance h (too_many_nodes 1000000) f.is i r d (call_too_large w k f)) tt)
+call_stops w P T n k (instances.Literal span) run v L instance h c f e begun i r d =
+    subst (IsStoppedIn P T L run.timeline.line.most instance n run.account) (sym e)
+    (stopped_in P T L instance n h run run (Other (Literal texts.Domain span.start span.«end»)) c r.played refl
+    (instance_fails w P T k f.action run L instance h (no_number span.start span.«end») f.is i r d (call_unfit w k span f)) tt)
+call_stops w P T n k instances.Memory run v L instance h c f e begun i r d = absurd e
 
-pub call_halts_in : (w : Pair) (N : Labels) (P : Problem) (n : ℕ) (k : Call) (fault : InstanceFault) (run : Progress) (out : List ℕ) (halt : Halt) → CanGoOn P run.timeline → RefusesCall IsFrac64 w.domain k.name (called_of w.domain w.problem k.name k.args) fault → CallHalts fault n k.name halt → IsPartOut Memory out run.account.report → HaltsInAct w N P n k run (left_by out run) halt
-call_halts_in w N P n k fault run out (Refused v) c f e o = record {
-  stops = λ L instance h begun i r d. call_stops w N P n k fault run v L instance h c f e begun i r d;
+pub call_halts_in : {V : Type 0} (w : Pair) (P : Problem) (T : Telling P V) (n : ℕ) (k : Call) (fault : InstanceFault) (run : Progress V) (out : List ℕ) (halt : Halt) → CanGoOn P run.timeline → RefusesCall IsFrac64 w.domain k.name (called_of w.domain w.problem k.name k.args) fault → CallHalts fault n k.name halt → IsPartOut Memory out (T.bytes run.account.told) → HaltsInAct w P T n k run (left_by out run) halt
+call_halts_in w P T n k fault run out (Refused v) c f e o = record {
+  stops = λ L instance h begun i r d. call_stops w P T n k fault run v L instance h c f e begun i r d;
 }
-call_halts_in w N P n k fault run out Memory c f e o = act_wants w N P n k run (left_by out run) c o
-call_halts_in w N P n k fault run out WriteFault c f e o = absurd e
+call_halts_in w P T n k fault run out Memory c f e o = act_wants w P T n k run (left_by out run) c o
+call_halts_in w P T n k fault run out WriteFault c f e o = absurd e
 
 -- what the action asks fails
-act_fails : (w : Pair) (N : Labels) (P : Problem) (k : Call) (action : Action) (run : Progress) (L : Plan) (instance : ℕ → List Test) (h : List Part) (test : Test) → IsInstance IsFrac64 w.domain k.name (called_of w.domain w.problem k.name k.args) action → instance run.timeline.line.now.acted ≡ call_tests w k → IsReached N P L instance run.timeline.line.now.acted run.timeline.line.now.time h run.timeline.line run.account → next_line L run.timeline.line.now ≡ Some (ActLine run.timeline.line.now.time (Instance action)) → FirstFailing IsFrac64 (act_tests run.timeline.line.now.acted action run.timeline.line.now.state) test → FirstFailing IsFrac64 (asked P L run.timeline.line.most instance run.timeline.line.entries run.timeline.line.now) test
-act_fails w N P k action run L instance h test i n r d f =
-    due_fails N P L instance h run.timeline.line run.account (Instance action) test r d
+act_fails : {V : Type 0} (w : Pair) (P : Problem) (T : Telling P V) (k : Call) (action : Action) (run : Progress V) (L : Plan) (instance : ℕ → List Test) (h : List Part) (test : Test) → IsInstance IsFrac64 w.domain k.name (called_of w.domain w.problem k.name k.args) action → instance run.timeline.line.now.acted ≡ call_tests w k → IsReached P T L instance run.timeline.line.now.acted run.timeline.line.now.time h run.timeline.line run.account → next_line L run.timeline.line.now ≡ Some (ActLine run.timeline.line.now.time (Instance action)) → FirstFailing IsFrac64 (act_tests run.timeline.line.now.acted action run.timeline.line.now.state) test → FirstFailing IsFrac64 (asked P L run.timeline.line.most instance run.timeline.line.entries run.timeline.line.now) test
+act_fails w P T k action run L instance h test i n r d f =
+    due_fails P T L instance h run.timeline.line run.account (Instance action) test r d
     (fails_right (instance run.timeline.line.now.acted) (act_tests run.timeline.line.now.acted action run.timeline.line.now.state) test (subst (AllPass IsFrac64) (sym n) (call_passes w k action i)) f)
 
 act_names : (action : Action) (n : ℕ) (s : State) (b : Breach Frac64) (label : List ℕ) → label ≡ action.label → BreaksAct action n s b → BreachNames n label b
@@ -246,22 +246,22 @@ act_names action n s (breaches.Coupled x y) label e r = tt
 act_names action n s (breaches.NoFirstMoment x t) label e r = tt
 act_names action n s breaches.Goal label e r = tt
 
-act_stops : (w : Pair) (N : Labels) (P : Problem) (n : ℕ) (k : Call) (action : Action) (old new : Progress) (out : List ℕ) (stop : Stop Frac64) (L : Plan) (instance : ℕ → List Test) (h : List Part) → CanGoOn P old.timeline → IsInstance IsFrac64 w.domain k.name (called_of w.domain w.problem k.name k.args) action → ActTold {A = Unit {0}} fraction_of IsFrac64 P action n old.timeline.line new.timeline.line (Err stop) → new.account ≡ old.account → HasBegun L → instance old.timeline.line.now.acted ≡ call_tests w k → IsReached N P L instance old.timeline.line.now.acted old.timeline.line.now.time h old.timeline.line old.account → next_line L old.timeline.line.now ≡ Some (ActLine old.timeline.line.now.time (Instance action)) → IsPartOut Memory out old.account.report → StopsIn N P L old.timeline.line.most instance n (left_by out new) (stop_halt stop)
-act_stops w N P n k action old new out (stops.Breach b) L instance h c i t r begun m q d o =
-    stopped_in N P L instance n h old new (Invalid b) c q.played r
-    (broken_at N P L instance h old.timeline.line old.account q.played b begun (act_breaks fraction_of P L old.timeline.line action n b q.present d t.means)
+act_stops : {V : Type 0} (w : Pair) (P : Problem) (T : Telling P V) (n : ℕ) (k : Call) (action : Action) (old new : Progress V) (out : List ℕ) (stop : Stop Frac64) (L : Plan) (instance : ℕ → List Test) (h : List Part) → CanGoOn P old.timeline → IsInstance IsFrac64 w.domain k.name (called_of w.domain w.problem k.name k.args) action → ActTold {A = Unit {0}} fraction_of IsFrac64 P action n old.timeline.line new.timeline.line (Err stop) → new.account ≡ old.account → HasBegun L → instance old.timeline.line.now.acted ≡ call_tests w k → IsReached P T L instance old.timeline.line.now.acted old.timeline.line.now.time h old.timeline.line old.account → next_line L old.timeline.line.now ≡ Some (ActLine old.timeline.line.now.time (Instance action)) → IsPartOut Memory out (T.bytes old.account.told) → StopsIn P T L old.timeline.line.most instance n (left_by out new) (stop_halt stop)
+act_stops w P T n k action old new out (stops.Breach b) L instance h c i t r begun m q d o =
+    stopped_in P T L instance n h old new (Invalid b) c q.played r
+    (broken_at P T L instance h old.timeline.line old.account q.played b begun (act_breaks fraction_of P L old.timeline.line action n b q.present d t.means)
     (and_then (breach_of fraction_of old.timeline.line.now.acted b) (λ x. FirstFailing IsFrac64 (act_tests old.timeline.line.now.acted action old.timeline.line.now.state) (breach x)) (λ x. FirstFailing IsFrac64 (asked P L old.timeline.line.most instance old.timeline.line.entries old.timeline.line.now) (breach x))
-    (λ x f. act_fails w N P k action old L instance h (breach x) i m q d f) t.first))
+    (λ x f. act_fails w P T k action old L instance h (breach x) i m q d f) t.first))
     (act_names action n old.timeline.line.now.state b (called_label (next_line L old.timeline.line.now)) (ap called_label d) t.means)
-act_stops w N P n k action old new out (stops.Limit l) L instance h c i t r begun m q d o =
-    stopped_in N P L instance n h old new (Beyond l) c q.played r
-    (fails_at N P L instance h old.timeline.line old.account q.played (of_limit fraction_of l) (act_fails w N P k action old L instance h (of_limit fraction_of l) i m q d t.first)) tt
-act_stops w N P n k action old new out stops.Ended L instance h c i t r begun m q d o = cut_short N P L instance h old.timeline.line old.account out Memory q.played c.within o
-act_stops w N P n k action old new out stops.Memory L instance h c i t r begun m q d o = cut_short N P L instance h old.timeline.line old.account out Memory q.played c.within o
+act_stops w P T n k action old new out (stops.Limit l) L instance h c i t r begun m q d o =
+    stopped_in P T L instance n h old new (Beyond l) c q.played r
+    (fails_at P T L instance h old.timeline.line old.account q.played (of_limit fraction_of l) (act_fails w P T k action old L instance h (of_limit fraction_of l) i m q d t.first)) tt
+act_stops w P T n k action old new out stops.Ended L instance h c i t r begun m q d o = cut_short P T L instance h old.timeline.line old.account out Memory q.played c.within o
+act_stops w P T n k action old new out stops.Memory L instance h c i t r begun m q d o = cut_short P T L instance h old.timeline.line old.account out Memory q.played c.within o
 
-pub act_halts_in : (w : Pair) (N : Labels) (P : Problem) (n : ℕ) (k : Call) (action : Action) (old new : Progress) (out : List ℕ) (stop : Stop Frac64) (halt : Halt) → CanGoOn P old.timeline → IsInstance IsFrac64 w.domain k.name (called_of w.domain w.problem k.name k.args) action → halt ≡ stop_halt stop → ActTold {A = Unit {0}} fraction_of IsFrac64 P action n old.timeline.line new.timeline.line (Err stop) → new.account ≡ old.account → IsPartOut Memory out old.account.report → HaltsInAct w N P n k old (left_by out new) halt
-act_halts_in w N P n k action old new out stop halt c i e t r o = record {
+pub act_halts_in : {V : Type 0} (w : Pair) (P : Problem) (T : Telling P V) (n : ℕ) (k : Call) (action : Action) (old new : Progress V) (out : List ℕ) (stop : Stop Frac64) (halt : Halt) → CanGoOn P old.timeline → IsInstance IsFrac64 w.domain k.name (called_of w.domain w.problem k.name k.args) action → halt ≡ stop_halt stop → ActTold {A = Unit {0}} fraction_of IsFrac64 P action n old.timeline.line new.timeline.line (Err stop) → new.account ≡ old.account → IsPartOut Memory out (T.bytes old.account.told) → HaltsInAct w P T n k old (left_by out new) halt
+act_halts_in w P T n k action old new out stop halt c i e t r o = record {
   stops = λ L instance h begun m q d.
-      subst (StopsIn N P L old.timeline.line.most instance n (left_by out new)) (sym e)
-      (act_stops w N P n k action old new out stop L instance h c i t r begun m q (d ∙ ap (λ x. Some (ActLine old.timeline.line.now.time x)) i.is) o);
+      subst (StopsIn P T L old.timeline.line.most instance n (left_by out new)) (sym e)
+      (act_stops w P T n k action old new out stop L instance h c i t r begun m q (d ∙ ap (λ x. Some (ActLine old.timeline.line.now.time x)) i.is) o);
 }

@@ -1,7 +1,7 @@
 -- A run that halts in a text: the plan is refused.
 use Rattle.std.proofs.Common.{◌≡◌, ℕ, ◌+◌, ◌<◌, Bool, true, false, List, [], ◌∷◌, ◌++◌, refl, ap, sym, subst, ◌∙◌, inl, inr, append_assoc, append-nil, arith, length-append}
 use Rattle.std.specs.Prelude.{◌≢◌, ◌⊎◌, All, Option, Some, None, Result, Ok, Err, IsSomeAnd, length, map}
-use Rattle.plus_model.specs.Terms.{State, Problem}
+use Rattle.plus_model.specs.Terms.{Problem}
 use Rattle.plus_model.specs.Plan as model
 use Rattle.plus_model.specs.Plan.{Plan}
 use Rattle.plus_model.specs.History.{Part}
@@ -16,7 +16,6 @@ use Rattle.plus_model.proofs.LineFinal.{line_breach_is_final}
 use Rattle.plus_model.proofs.Longest.{breach_is_longest, worked_is_longest, unbegun_is_longest}
 use Rattle.plus_number.specs.declared.frac.Frac64.{Frac64}
 use Rattle.plus_number.specs.Frac.{fraction_of}
-use Rattle.plus_state.specs.View.{Labels}
 use Rattle.plus_state.specs.declared.outcome.Breach.{Breach}
 use Rattle.plus_state.specs.declared.outcome.Breach.TheVariants as breaches
 use Rattle.plus_plan.specs.declared.forms.Time.{Time}
@@ -33,14 +32,14 @@ use Rattle.plus_report.specs.declared.refusals.Early.{Early}
 use Rattle.plus_report.specs.declared.refusals.Early.TheVariants as early
 use Rattle.plus_report.specs.declared.refusals.Early.TheVariants.{BadLine, LineTooLong}
 use Rattle.plus_report.specs.declared.refusals.Text.TheVariants as texts
-use Rattle.plus_report.specs.Report.{part_text, state_after, report_from, report_of}
-use Rattle.plus_validator.specs.Account.{Account, Progress, account_of}
+use Rattle.plus_validator.specs.Account.{Account, Progress}
 use Rattle.plus_validator.specs.declared.halt.Halt.{Halt}
 use Rattle.plus_validator.specs.declared.halt.Halt.TheVariants.{Refused, Memory, WriteFault}
 use Rattle.plus_validator.specs.Halts.{line_halt}
 use Rattle.plus_validator.specs.Handing.{Left, left_by, IsPartOut}
 use Rattle.plus_validator.specs.Plans.{Pair, line_meant, lines_meant, plan_of, reading_of, HasValue}
 use Rattle.plus_validator.specs.Standing.{CanGoOn}
+use Rattle.plus_validator.specs.Told.{Telling}
 use Rattle.plus_validator.specs.Playing.{ReadiedFor}
 use Rattle.plus_validator.specs.Refused.{IsBroken, StandsEarly, Stands, AreWorked, NamesFault, IsWaiting, TimeFault, after_end, no_value, goes_back, cut_verdict, NonePlays, BreachRefutes, Refutes, IsOfText, IsNoLimit, number_in}
 use Rattle.plus_validator.specs.Stopped.{IsReported, IsWorkedOut, IsCutShort, IsCutShortIn, IsCutShortInText, StopsOnWay, StopsInLine, HaltsInLine, HaltsAtEnd, IsStoppedInText, StopsInText}
@@ -246,17 +245,6 @@ are_worked d P ls more closed most g h v a c w p s (inr n) = record {
 
 -- ---- a fault comes where the lines before are worked
 
-report_from_more : (N : Labels) (P : Problem) (L : Plan) (s : State) (a b : List Part) → (more : List ℕ) × (report_from N P L s (a ++ b) ≡ report_from N P L s a ++ more)
-unfolding report_from
-report_from_more N P L s [] b = (report_from N P L s b, refl)
-report_from_more N P L s (p ∷ a) b =
-    let k = report_from_more N P L (state_after s p) a b in
-    (k.0, ap (λ t. part_text N P L s p ++ t) k.1 ∙ sym (append_assoc (part_text N P L s p) (report_from N P L (state_after s p) a) k.0))
-
-pub report_more : (N : Labels) (P : Problem) (L : Plan) (a b : List Part) → (more : List ℕ) × (report_of N P L (a ++ b) ≡ report_of N P L a ++ more)
-unfolding report_of
-report_more N P L a b = report_from_more N P L P.initial a b
-
 -- what is out of a report is out of a longer one
 part_longer : (halt : Halt) (out report more : List ℕ) → IsPartOut halt out report → IsPartOut halt out (report ++ more)
 part_longer (Refused v) out report more o = (o.0 ++ more, ap (λ t. t ++ more) o.1 ∙ append_assoc out o.0 more)
@@ -268,43 +256,46 @@ part_longer WriteFault out report more o = (
 )
 
 -- a fault comes in one history with these lines, in a beginning of which they are worked
-record IsCutBehind (d : Pair) (N : Labels) (P : Problem) (M : Plan) (most : ℕ) (instance : ℕ → List Test) (ls : List Line) (out : List ℕ) (halt : Halt) : Type 0 where
-  cut : IsCutShort N P M most instance out halt
+record IsCutBehind {V : Type 0} (d : Pair) (P : Problem) (T : Telling P V) (M : Plan) (most : ℕ) (instance : ℕ → List Test) (ls : List Line) (out : List ℕ) (halt : Halt) : Type 0 where
+  cut : IsCutShort P T M most instance out halt
   worked : AreWorked d P most ls cut.history
 
-module _ (d : Pair) (N : Labels) (P : Problem) (ls more : List Line) (closed : Bool) (most : ℕ) (g : List Part) (account : Account) (out : List ℕ) (halt : Halt)
-    (r : IsReported N P (plan_of d ls false) most (instances_of d ls) g account) (w : IsWaiting P (plan_of d ls false) most (instances_of d ls) g)
-    (s : IsCutShort N P (plan_of d (ls ++ more) closed) most (instances_of d (ls ++ more)) out halt) where
+module _ {V : Type 0} (d : Pair) (P : Problem) (T : Telling P V) (ls more : List Line) (closed : Bool) (most : ℕ) (g : List Part) (account : Account V) (out : List ℕ) (halt : Halt)
+    (r : IsReported P T (plan_of d ls false) most (instances_of d ls) g account) (w : IsWaiting P (plan_of d ls false) most (instances_of d ls) g)
+    (s : IsCutShort P T (plan_of d (ls ++ more) closed) most (instances_of d (ls ++ more)) out halt) where
   abbrev L : Plan
   L = plan_of d ls false
 
   abbrev M : Plan
   M = plan_of d (ls ++ more) closed
 
+  more_lines : M ≡ record { lines = L.lines ++ lines_meant d more; closed = closed }
+  more_lines = λ i. record { lines = lines_meant-more d ls more i; closed = closed }
+
   worked_in : (h : List Part) → Begins g h → AreWorked d P most ls h
   worked_in h b = record { front = g; prefix = r.prefix; waits = w; begins = b }
 
   -- it comes before they are worked
-  cut_sooner : Prefix P M g → HasBegun M → Begins s.history g → IsCutBehind d N P M most (instances_of d (ls ++ more)) ls out halt
+  cut_sooner : Prefix P M g → HasBegun M → Begins s.history g → IsCutBehind d P T M most (instances_of d (ls ++ more)) ls out halt
   cut_sooner p b x =
-      let k = report_more N P M s.history x.rest in
+      let told : T.Tells M g account.told = subst (λ (A : Plan). T.Tells A g account.told) (sym more_lines) (T.stays L (lines_meant d more) closed g account.told r.prefix r.told.tells) in
+      let k = T.grows M s.history x.rest s.account.told account.told s.reported.told.tells (subst (λ (f : List Part). T.Tells M f account.told) x.is told) in
       record {
         cut = record {
           history = g;
-          account = account_of N P M g;
+          account = account;
           reported = record {
             prefix = p;
             few = r.few;
             clear = clear_grows P L M most (instances_of d ls) (instances_of d (ls ++ more)) (goes_on d ls more false closed) (instances_agree d ls more) g r.prefix r.clear;
-            written = refl;
+            told = record { tells = told; entries = r.told.entries; firings = r.told.firings };
           };
-          part = subst (IsPartOut halt out) (sym (ap (report_of N P M) x.is ∙ k.1))
-              (part_longer halt out (report_of N P M s.history) k.0 (subst (IsPartOut halt out) (ap (λ (a : Account). a.report) s.reported.written) s.part));
+          part = subst (IsPartOut halt out) (sym k.1) (part_longer halt out (T.bytes s.account.told) k.0 s.part);
         };
         worked = worked_in g (record { rest = []; is = sym (append-nil g) });
       }
 
-  cut_begun : HasBegun M → IsCutBehind d N P M most (instances_of d (ls ++ more)) ls out halt
+  cut_begun : HasBegun M → IsCutBehind d P T M most (instances_of d (ls ++ more)) ls out halt
   cut_begun b =
       let p = prefix_goes_on P L M g r.prefix (goes_on d ls more false closed) s.reported.prefix.ordered b in
       elim (one_path P M g s.history p s.reported.prefix) [
@@ -312,7 +303,7 @@ module _ (d : Pair) (N : Labels) (P : Problem) (ls more : List Line) (closed : B
         | inr x ↦ cut_sooner p b x
       ]
 
-  cut_worked : (HasBegun M) ⊎ (HasBegun M → ⊥) → IsCutBehind d N P M most (instances_of d (ls ++ more)) ls out halt
+  cut_worked : (HasBegun M) ⊎ (HasBegun M → ⊥) → IsCutBehind d P T M most (instances_of d (ls ++ more)) ls out halt
   cut_worked (inl b) = cut_begun b
   cut_worked (inr n) = record {
     cut = s;
@@ -325,24 +316,24 @@ module _ (d : Pair) (N : Labels) (P : Problem) (ls more : List Line) (closed : B
 -- ---- what the run leaves
 
 -- the report is that of the lines read, which are worked
-pub waiting_report : (d : Pair) (N : Labels) (P : Problem) (ls : List Line) (most : ℕ) (h : List Part) (run : Progress) → CanGoOn P run.timeline → run.timeline.line.most ≡ most → ReadiedFor d N P ls h run → IsReported N P (plan_of d ls false) most (instances_of d ls) h run.account
-waiting_report d N P ls most h run c m r =
-    subst (λ k. IsReported N P (plan_of d ls false) k (instances_of d ls) h run.account) m
-    (reported N P (plan_of d ls false) (instances_of d ls) h run.timeline.line run.account run.account r.played c.within refl)
+pub waiting_report : {V : Type 0} (d : Pair) (P : Problem) (T : Telling P V) (ls : List Line) (most : ℕ) (h : List Part) (run : Progress V) → CanGoOn P run.timeline → run.timeline.line.most ≡ most → ReadiedFor d P T ls h run → IsReported P T (plan_of d ls false) most (instances_of d ls) h run.account
+waiting_report d P T ls most h run c m r =
+    subst (λ k. IsReported P T (plan_of d ls false) k (instances_of d ls) h run.account) m
+    (reported P T (plan_of d ls false) (instances_of d ls) h run.timeline.line run.account run.account r.played c.within refl)
 
-pub waiting_for : (d : Pair) (N : Labels) (P : Problem) (ls : List Line) (most : ℕ) (h : List Part) (run : Progress) → run.timeline.line.most ≡ most → ReadiedFor d N P ls h run → IsWaiting P (plan_of d ls false) most (instances_of d ls) h
-waiting_for d N P ls most h run m r =
-    subst (λ k. IsWaiting P (plan_of d ls false) k (instances_of d ls) h) m (waits N P (plan_of d ls false) (instances_of d ls) h run r)
+pub waiting_for : {V : Type 0} (d : Pair) (P : Problem) (T : Telling P V) (ls : List Line) (most : ℕ) (h : List Part) (run : Progress V) → run.timeline.line.most ≡ most → ReadiedFor d P T ls h run → IsWaiting P (plan_of d ls false) most (instances_of d ls) h
+waiting_for d P T ls most h run m r =
+    subst (λ k. IsWaiting P (plan_of d ls false) k (instances_of d ls) h) m (waits P T (plan_of d ls false) (instances_of d ls) h run r)
 
 -- the lines that are played are worked
-pub works_out : (d : Pair) (N : Labels) (P : Problem) (start run : Progress) (lines : List Line) → HasPlayed d N P lines start run → (h : List Part) → ReadiedFor d N P [] h start → IsWorkedOut d N P start.timeline.line.most lines
-works_out d N P start run lines r h ready =
+pub works_out : {V : Type 0} (d : Pair) (P : Problem) (T : Telling P V) (start run : Progress V) (lines : List Line) → HasPlayed d P T lines start run → (h : List Part) → ReadiedFor d P T [] h start → IsWorkedOut d P T start.timeline.line.most lines
+works_out d P T start run lines r h ready =
     let a = r.ready h ready in
     record {
       history = a.0;
       account = run.account;
-      reported = waiting_report d N P lines start.timeline.line.most a.0 run r.rests.can r.rests.most_is a.1;
-      waits = waiting_for d N P lines start.timeline.line.most a.0 run r.rests.most_is a.1;
+      reported = waiting_report d P T lines start.timeline.line.most a.0 run r.rests.can r.rests.most_is a.1;
+      waits = waiting_for d P T lines start.timeline.line.most a.0 run r.rests.most_is a.1;
     }
 
 -- the next line is the last of those read
@@ -351,13 +342,13 @@ lines_then [] line behind = refl
 lines_then (x ∷ lines) line behind = ap (λ rs. Ok x ∷ rs) (lines_then lines line behind)
 
 -- the lines of these whole lines begin with those that are played
-module _ (d : Pair) (N : Labels) (P : Problem) (start run : Progress) (lines : List Line) (r : HasPlayed d N P lines start run) (whole : List ℕ) (behind : List (Result Line PlanFault)) (more : Bool) (piece : List ℕ) where
+module _ {V : Type 0} (d : Pair) (P : Problem) (T : Telling P V) (start run : Progress V) (lines : List Line) (r : HasPlayed d P T lines start run) (whole : List ℕ) (behind : List (Result Line PlanFault)) (more : Bool) (piece : List ℕ) where
   -- the verdict on a next line that is none
-  none_next : (fault : PlanFault) (v : Verdict Frac64) (h : List Part) → plan_lines Timed whole ≡ map Ok lines ++ Err fault ∷ behind → NamesFault fault v → Refutes d P (lines ++ []) v → ReadiedFor d N P [] h start → IsStoppedInText d N P start.timeline.line.most more whole piece run.account v
+  none_next : (fault : PlanFault) (v : Verdict Frac64) (h : List Part) → plan_lines Timed whole ≡ map Ok lines ++ Err fault ∷ behind → NamesFault fault v → Refutes d P (lines ++ []) v → ReadiedFor d P T [] h start → IsStoppedInText d P T start.timeline.line.most more whole piece run.account v
   none_next fault v h e n f ready =
       let a = r.ready h ready in
-      let w = waiting_report d N P lines start.timeline.line.most a.0 run r.rests.can r.rests.most_is a.1 in
-      let k = waiting_for d N P lines start.timeline.line.most a.0 run r.rests.most_is a.1 in
+      let w = waiting_report d P T lines start.timeline.line.most a.0 run r.rests.can r.rests.most_is a.1 in
+      let k = waiting_for d P T lines start.timeline.line.most a.0 run r.rests.most_is a.1 in
       let longest = waiting_longest d P lines start.timeline.line.most (instances_of d lines) a.0 w.prefix k in
       record {
         refusal = record {
@@ -375,14 +366,14 @@ module _ (d : Pair) (N : Labels) (P : Problem) (start run : Progress) (lines : L
           longest = λ _. longest;
           final = f;
         };
-        written = w.written;
+        told = w.told;
       }
 
   -- a fault comes behind them
-  pub cut_behind : (rest : List (Result Line PlanFault)) (out : List ℕ) (halt : Halt) (h : List Part) → plan_lines Timed whole ≡ map Ok lines ++ rest → IsPartOut halt out run.account.report → ReadiedFor d N P [] h start → IsCutShortInText d N P start.timeline.line.most more whole out halt
+  pub cut_behind : (rest : List (Result Line PlanFault)) (out : List ℕ) (halt : Halt) (h : List Part) → plan_lines Timed whole ≡ map Ok lines ++ rest → IsPartOut halt out (T.bytes run.account.told) → ReadiedFor d P T [] h start → IsCutShortInText d P T start.timeline.line.most more whole out halt
   cut_behind rest out halt h e o ready =
       let a = r.ready h ready in
-      let w = waiting_report d N P lines start.timeline.line.most a.0 run r.rests.can r.rests.most_is a.1 in
+      let w = waiting_report d P T lines start.timeline.line.most a.0 run r.rests.can r.rests.most_is a.1 in
       record {
         reading = reading_of lines false;
         cut = record { history = a.0; account = run.account; reported = w; part = o };
@@ -398,21 +389,21 @@ module _ (d : Pair) (N : Labels) (P : Problem) (start run : Progress) (lines : L
           worked = record {
             front = a.0;
             prefix = w.prefix;
-            waits = waiting_for d N P lines start.timeline.line.most a.0 run r.rests.most_is a.1;
+            waits = waiting_for d P T lines start.timeline.line.most a.0 run r.rests.most_is a.1;
             begins = record { rest = []; is = sym (append-nil a.0) };
           };
         };
       }
 
-  pub bad_stops : (fault : PlanFault) (out : List ℕ) (h : List Part) → plan_lines Timed whole ≡ map Ok lines ++ Err fault ∷ behind → IsPartOut Memory out run.account.report → ReadiedFor d N P [] h start → StopsInText d N P start.timeline.line.most more whole piece (left_by out run) (line_halt fault)
+  pub bad_stops : (fault : PlanFault) (out : List ℕ) (h : List Part) → plan_lines Timed whole ≡ map Ok lines ++ Err fault ∷ behind → IsPartOut Memory out (T.bytes run.account.told) → ReadiedFor d P T [] h start → StopsInText d P T start.timeline.line.most more whole piece (left_by out run) (line_halt fault)
   bad_stops (faults.NotLine n begin last) out h e o ready = none_next (faults.NotLine n begin last) (Other (BadLine n begin last)) h e refl tt ready
   bad_stops (faults.LineTooLong n) out h e o ready = none_next (faults.LineTooLong n) (Other (LineTooLong n)) h e refl tt ready
   bad_stops faults.Memory out h e o ready = cut_behind (Err faults.Memory ∷ behind) out Memory h e o ready
 
   -- one comes in the next line, or on the way to it
-  cut_with : (line : Line) (out : List ℕ) (halt : Halt) (g : List Part) → IsReported N P (plan_of d lines false) start.timeline.line.most (instances_of d lines) g run.account → IsWaiting P (plan_of d lines false) start.timeline.line.most (instances_of d lines) g → plan_lines Timed whole ≡ map Ok lines ++ Ok line ∷ behind → IsCutShortIn d N P lines start.timeline.line.most line out halt → IsCutShortInText d N P start.timeline.line.most more whole out halt
+  cut_with : (line : Line) (out : List ℕ) (halt : Halt) (g : List Part) → IsReported P T (plan_of d lines false) start.timeline.line.most (instances_of d lines) g run.account → IsWaiting P (plan_of d lines false) start.timeline.line.most (instances_of d lines) g → plan_lines Timed whole ≡ map Ok lines ++ Ok line ∷ behind → IsCutShortIn d P T lines start.timeline.line.most line out halt → IsCutShortInText d P T start.timeline.line.most more whole out halt
   cut_with line out halt g ready w e s =
-      let k = cut_worked d N P lines (line ∷ []) false start.timeline.line.most g run.account out halt ready w s.cut (is_begun (lines_meant d (lines ++ line ∷ []))) in
+      let k = cut_worked d P T lines (line ∷ []) false start.timeline.line.most g run.account out halt ready w s.cut (is_begun (lines_meant d (lines ++ line ∷ []))) in
       record {
         reading = reading_of (lines ++ line ∷ []) false;
         cut = k.cut;
@@ -429,7 +420,7 @@ module _ (d : Pair) (N : Labels) (P : Problem) (start run : Progress) (lines : L
         };
       }
 
-  line_stops : (new : Left) (line : Line) (halt : Halt) (g : List Part) → IsReported N P (plan_of d lines false) start.timeline.line.most (instances_of d lines) g run.account → IsWaiting P (plan_of d lines false) start.timeline.line.most (instances_of d lines) g → plan_lines Timed whole ≡ map Ok lines ++ Ok line ∷ behind → StopsInLine d N P lines start.timeline.line.most line new halt → StopsInText d N P start.timeline.line.most more whole piece new halt
+  line_stops : (new : Left V) (line : Line) (halt : Halt) (g : List Part) → IsReported P T (plan_of d lines false) start.timeline.line.most (instances_of d lines) g run.account → IsWaiting P (plan_of d lines false) start.timeline.line.most (instances_of d lines) g → plan_lines Timed whole ≡ map Ok lines ++ Ok line ∷ behind → StopsInLine d P T lines start.timeline.line.most line new halt → StopsInText d P T start.timeline.line.most more whole piece new halt
   line_stops new line Memory g ready w e s = cut_with line new.out Memory g ready w e s
   line_stops new line WriteFault g ready w e s = cut_with line new.out WriteFault g ready w e s
   line_stops new line (Refused v) g ready w e (inl b) =
@@ -450,7 +441,7 @@ module _ (d : Pair) (N : Labels) (P : Problem) (start run : Progress) (lines : L
           longest = λ _. longest;
           final = time_refutes d P lines line b.history b.meant b.time (number_in line) v b.meant_is b.why;
         };
-        written = b.reported.written;
+        told = b.reported.told;
       }
   line_stops new line (Refused v) g ready w e (inr b) =
       let k = b.stopped in
@@ -479,25 +470,25 @@ module _ (d : Pair) (N : Labels) (P : Problem) (start run : Progress) (lines : L
           longest = stands_longest P (plan_of d ls false) start.timeline.line.most (instances_of d ls) k.stopped.history v k.stopped.stands;
           final = stands_refutes d P ls start.timeline.line.most (instances_of d ls) k.stopped.history v k.stopped.stands;
         };
-        written = k.stopped.reported.written;
+        told = k.stopped.reported.told;
       }
 
   -- the next line halts the run
-  pub next_stops : (new : Left) (line : Line) (halt : Halt) (h : List Part) → plan_lines Timed whole ≡ map Ok lines ++ Ok line ∷ behind → HaltsInLine d N P line run new halt → ReadiedFor d N P [] h start → StopsInText d N P start.timeline.line.most more whole piece new halt
+  pub next_stops : (new : Left V) (line : Line) (halt : Halt) (h : List Part) → plan_lines Timed whole ≡ map Ok lines ++ Ok line ∷ behind → HaltsInLine d P T line run new halt → ReadiedFor d P T [] h start → StopsInText d P T start.timeline.line.most more whole piece new halt
   next_stops new line halt h e s ready =
       let a = r.ready h ready in
-      line_stops new line halt a.0 (waiting_report d N P lines start.timeline.line.most a.0 run r.rests.can r.rests.most_is a.1)
-      (waiting_for d N P lines start.timeline.line.most a.0 run r.rests.most_is a.1) e
-      (subst (λ m. StopsInLine d N P lines m line new halt) r.rests.most_is (s.stops lines a.0 a.1))
+      line_stops new line halt a.0 (waiting_report d P T lines start.timeline.line.most a.0 run r.rests.can r.rests.most_is a.1)
+      (waiting_for d P T lines start.timeline.line.most a.0 run r.rests.most_is a.1) e
+      (subst (λ m. StopsInLine d P T lines m line new halt) r.rests.most_is (s.stops lines a.0 a.1))
 
 -- ---- all lines are worked
 
-pub end_cut : (d : Pair) (N : Labels) (P : Problem) (most : ℕ) (text : List ℕ) (lines : List Line) (out : List ℕ) (halt : Halt) → plan_lines Timed text ≡ map Ok lines → All HasValue lines → IsWorkedOut d N P most lines → IsCutShort N P (plan_of d lines true) most (instances_of d lines) out halt → IsCutShortInText d N P most false text out halt
-end_cut d N P most text lines out halt said times g s =
-    let k : IsCutBehind d N P (plan_of d lines true) most (instances_of d lines) lines out halt =
-    subst (λ (ls : List Line). IsCutBehind d N P (plan_of d ls true) most (instances_of d ls) lines out halt) (append-nil lines)
-    (cut_worked d N P lines [] true most g.history g.account out halt g.reported g.waits
-    (subst (λ (ls : List Line). IsCutShort N P (plan_of d ls true) most (instances_of d ls) out halt) (sym (append-nil lines)) s) (inl (inr refl))) in
+pub end_cut : {V : Type 0} (d : Pair) (P : Problem) (T : Telling P V) (most : ℕ) (text : List ℕ) (lines : List Line) (out : List ℕ) (halt : Halt) → plan_lines Timed text ≡ map Ok lines → All HasValue lines → IsWorkedOut d P T most lines → IsCutShort P T (plan_of d lines true) most (instances_of d lines) out halt → IsCutShortInText d P T most false text out halt
+end_cut d P T most text lines out halt said times g s =
+    let k : IsCutBehind d P T (plan_of d lines true) most (instances_of d lines) lines out halt =
+    subst (λ (ls : List Line). IsCutBehind d P T (plan_of d ls true) most (instances_of d ls) lines out halt) (append-nil lines)
+    (cut_worked d P T lines [] true most g.history g.account out halt g.reported g.waits
+    (subst (λ (ls : List Line). IsCutShort P T (plan_of d ls true) most (instances_of d ls) out halt) (sym (append-nil lines)) s) (inl (inr refl))) in
     record {
       reading = reading_of lines true;
       cut = k.cut;
@@ -514,18 +505,18 @@ end_cut d N P most text lines out halt said times g s =
       };
     }
 
-module _ (d : Pair) (N : Labels) (P : Problem) (text : List ℕ) (old mid : Progress) (lines : List Line) (r : HasPlayed d N P lines old mid) (said : plan_lines Timed text ≡ map Ok lines) where
-  end_worked : (g h : List Part) (v : Verdict Frac64) → IsReported N P (plan_of d lines false) old.timeline.line.most (instances_of d lines) g mid.account → IsWaiting P (plan_of d lines false) old.timeline.line.most (instances_of d lines) g → Prefix P (plan_of d lines true) h → Stands P (plan_of d lines true) old.timeline.line.most (instances_of d lines) h v → AreWorked d P old.timeline.line.most lines h
+module _ {V : Type 0} (d : Pair) (P : Problem) (T : Telling P V) (text : List ℕ) (old mid : Progress V) (lines : List Line) (r : HasPlayed d P T lines old mid) (said : plan_lines Timed text ≡ map Ok lines) where
+  end_worked : (g h : List Part) (v : Verdict Frac64) → IsReported P T (plan_of d lines false) old.timeline.line.most (instances_of d lines) g mid.account → IsWaiting P (plan_of d lines false) old.timeline.line.most (instances_of d lines) g → Prefix P (plan_of d lines true) h → Stands P (plan_of d lines true) old.timeline.line.most (instances_of d lines) h v → AreWorked d P old.timeline.line.most lines h
   end_worked g h v a w p s =
       are_worked d P lines [] true old.timeline.line.most g h v a.prefix a.clear w
       (subst (λ (ls : List Line). Prefix P (plan_of d ls true) h) (sym (append-nil lines)) p)
       (subst (λ (ls : List Line). Stands P (plan_of d ls true) old.timeline.line.most (instances_of d ls) h v) (sym (append-nil lines)) s) (inl (inr refl))
 
-  end_stops : (new : Left) (halt : Halt) (g : List Part) → IsReported N P (plan_of d lines false) old.timeline.line.most (instances_of d lines) g mid.account → IsWaiting P (plan_of d lines false) old.timeline.line.most (instances_of d lines) g → StopsOnWay N P (plan_of d lines true) old.timeline.line.most (instances_of d lines) new halt → StopsInText d N P old.timeline.line.most false text [] new halt
+  end_stops : (new : Left V) (halt : Halt) (g : List Part) → IsReported P T (plan_of d lines false) old.timeline.line.most (instances_of d lines) g mid.account → IsWaiting P (plan_of d lines false) old.timeline.line.most (instances_of d lines) g → StopsOnWay P T (plan_of d lines true) old.timeline.line.most (instances_of d lines) new halt → StopsInText d P T old.timeline.line.most false text [] new halt
   end_stops new Memory g ready w s =
-      end_cut d N P old.timeline.line.most text lines new.out Memory said r.times (record { history = g; account = mid.account; reported = ready; waits = w }) s
+      end_cut d P T old.timeline.line.most text lines new.out Memory said r.times (record { history = g; account = mid.account; reported = ready; waits = w }) s
   end_stops new WriteFault g ready w s =
-      end_cut d N P old.timeline.line.most text lines new.out WriteFault said r.times (record { history = g; account = mid.account; reported = ready; waits = w }) s
+      end_cut d P T old.timeline.line.most text lines new.out WriteFault said r.times (record { history = g; account = mid.account; reported = ready; waits = w }) s
   end_stops new (Refused v) g ready w s = record {
     refusal = record {
       before = lines;
@@ -542,23 +533,23 @@ module _ (d : Pair) (N : Labels) (P : Problem) (text : List ℕ) (old mid : Prog
       longest = stands_longest P (plan_of d lines true) old.timeline.line.most (instances_of d lines) s.stopped.history v s.stopped.stands;
       final = subst (λ (ls : List Line). Refutes d P ls v) (sym (append-nil lines)) (end_refutes d P lines old.timeline.line.most (instances_of d lines) s.stopped.history v s.stopped.stands);
     };
-    written = s.stopped.reported.written;
+    told = s.stopped.reported.told;
   }
 
   -- the text is at its end
-  pub halts_after_all : (new : Left) (halt : Halt) (h : List Part) → HaltsAtEnd N P mid new halt → ReadiedFor d N P [] h old → StopsInText d N P old.timeline.line.most false text [] new halt
+  pub halts_after_all : (new : Left V) (halt : Halt) (h : List Part) → HaltsAtEnd P T mid new halt → ReadiedFor d P T [] h old → StopsInText d P T old.timeline.line.most false text [] new halt
   halts_after_all new halt h s ready =
       let a = r.ready h ready in
-      end_stops new halt a.0 (waiting_report d N P lines old.timeline.line.most a.0 mid r.rests.can r.rests.most_is a.1)
-      (waiting_for d N P lines old.timeline.line.most a.0 mid r.rests.most_is a.1)
-      (subst (λ m. StopsOnWay N P (plan_of d lines true) m (instances_of d lines) new halt) r.rests.most_is (s.stops (plan_of d lines false) (instances_of d lines) a.0 a.1))
+      end_stops new halt a.0 (waiting_report d P T lines old.timeline.line.most a.0 mid r.rests.can r.rests.most_is a.1)
+      (waiting_for d P T lines old.timeline.line.most a.0 mid r.rests.most_is a.1)
+      (subst (λ m. StopsOnWay P T (plan_of d lines true) m (instances_of d lines) new halt) r.rests.most_is (s.stops (plan_of d lines false) (instances_of d lines) a.0 a.1))
 
   -- the text goes on behind a piece of a line
-  pub cut_stops : (piece : List ℕ) (v : Verdict Frac64) (h : List Part) → v ≡ Other (cut_verdict (length lines + 1) (length piece)) → ReadiedFor d N P [] h old → IsStoppedInText d N P old.timeline.line.most true text piece mid.account v
+  pub cut_stops : (piece : List ℕ) (v : Verdict Frac64) (h : List Part) → v ≡ Other (cut_verdict (length lines + 1) (length piece)) → ReadiedFor d P T [] h old → IsStoppedInText d P T old.timeline.line.most true text piece mid.account v
   cut_stops piece v h e ready =
       let a = r.ready h ready in
-      let w = waiting_report d N P lines old.timeline.line.most a.0 mid r.rests.can r.rests.most_is a.1 in
-      let k = waiting_for d N P lines old.timeline.line.most a.0 mid r.rests.most_is a.1 in
+      let w = waiting_report d P T lines old.timeline.line.most a.0 mid r.rests.can r.rests.most_is a.1 in
+      let k = waiting_for d P T lines old.timeline.line.most a.0 mid r.rests.most_is a.1 in
       let longest = waiting_longest d P lines old.timeline.line.most (instances_of d lines) a.0 w.prefix k in
       record {
         refusal = record {
@@ -576,5 +567,5 @@ module _ (d : Pair) (N : Labels) (P : Problem) (text : List ℕ) (old mid : Prog
           longest = λ _. longest;
           final = subst (Refutes d P (lines ++ [])) (sym e) tt;
         };
-        written = w.written;
+        told = w.told;
       }

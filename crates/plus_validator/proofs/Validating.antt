@@ -20,6 +20,8 @@ use Rattle.plus_validator.specs.Halts.{HaltFits}
 use Rattle.plus_validator.specs.Playing.{Begins}
 use Rattle.plus_validator.specs.Leaving.{LeavesReport, StopsWriting, at_end, KeepsUp}
 use Rattle.plus_validator.specs.Streaming.{IsPlayedFrom}
+use Rattle.plus_validator.specs.Told.{reports}
+use Rattle.plus_validator.specs.declared.memory.Report.{Report}
 use Rattle.plus_validator.specs.Judged.{IsPlain, IsJudged, SumsUp, Concludes, told, broken, no_memory}
 use Rattle.plus_validator.specs.Validates.{Accepts, Refuses, BreaksOff, IsWhole, RefusesPair, RefusesPairInPart, IsRefusal, IsRefusedIn, EndsUngrounded}
 use Rattle.plus_validator.proofs.Judging.{judged_told, sums_plain}
@@ -100,8 +102,8 @@ judged_writes o p e = subst IsPlain e p
 
 -- ---- the plan is played, and what is left is written
 
-module _ (d : Domain) (p : Problem) (N : Labels) (P : terms.Problem) (most : ℕ) (bytes : Option (List ℕ)) (first : Progress) (run : Run) (played : Result (Unit {0}) Halt) (old mid : Option (List ℕ))
-    (z : IsGroundable IsFrac64 d p) (e : P ≡ expanded d p) (n : N ≡ labels_meant d p) (b : Begins N P most first) (f : IsPlayedFrom d p N P bytes first run old mid played) (fits : IfErr played (HaltFits P)) where
+module _ (d : Domain) (p : Problem) (N : Labels) (P : terms.Problem) (most : ℕ) (bytes : Option (List ℕ)) (first : Progress (List ℕ)) (run : Run Report) (played : Result (Unit {0}) Halt) (old mid : Option (List ℕ))
+    (z : IsGroundable IsFrac64 d p) (e : P ≡ expanded d p) (n : N ≡ labels_meant d p) (b : Begins P (reports N P) most first) (f : IsPlayedFrom d p N P bytes first run old mid played) (fits : IfErr played (HaltFits P)) where
   module _ (j : Judgement) (u : SumsUp N P run played j) where
     judged_here : IfSome bytes (λ text. IsJudged d p most text (f.sent ++ j.bytes.items) j)
     judged_here = judged_told d p N P most bytes first f.sent run z j played e n b f.out fits u
@@ -142,7 +144,7 @@ module _ (d : Domain) (p : Problem) (N : Labels) (P : terms.Problem) (most : ℕ
     ends_wanting (no_memory o same) h = subst (LeavesReport d p most bytes old) (sym same) (leaves_played d p N P most first z e n b bytes f.sent run played old mid fits f.took f.out)
 
 -- what is written behind it changes nothing of how far the reading was ahead
-pub ends_keeping : (d : Domain) (p : Problem) (N : Labels) (P : terms.Problem) (most : ℕ) (bytes rest : Option (List ℕ)) (run : Run) (played : Result (Unit {0}) Halt) (old mid new : Option (List ℕ)) (before now : ℕ) (outcome : Outcome) → KeepsUp d p most bytes rest old mid → Concludes N P run played before now mid new outcome → KeepsUp d p most bytes rest old new
+pub ends_keeping : (d : Domain) (p : Problem) (N : Labels) (P : terms.Problem) (most : ℕ) (bytes rest : Option (List ℕ)) (run : Run Report) (played : Result (Unit {0}) Halt) (old mid new : Option (List ℕ)) (before now : ℕ) (outcome : Outcome) → KeepsUp d p most bytes rest old mid → Concludes N P run played before now mid new outcome → KeepsUp d p most bytes rest old new
 ends_keeping d p N P most bytes rest run played old mid new before now outcome k (told j u o t) = keeps_more d p most bytes rest old mid new j.bytes.items k t
 ends_keeping d p N P most bytes rest run played old mid new before now outcome k (broken j u o r t) = keeps_more d p most bytes rest old mid new (take t.0 j.bytes.items) k t.2
 ends_keeping d p N P most bytes rest run played old mid new before now outcome k (no_memory o same) = subst (KeepsUp d p most bytes rest old) (sym same) k

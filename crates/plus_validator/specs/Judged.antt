@@ -14,8 +14,10 @@ use Rattle.plus_report.specs.Verdicts.{verdict_text}
 use Rattle.plus_validator.specs.declared.halt.Halt.{Halt}
 use Rattle.plus_validator.specs.declared.halt.Halt.TheVariants.{Refused, Memory, WriteFault}
 use Rattle.plus_validator.specs.declared.judgement.Judgement.{Judgement}
+use Rattle.plus_validator.specs.declared.judge.Judged.{Judged}
 use Rattle.plus_validator.specs.declared.judge.Outcome.{Outcome}
 use Rattle.plus_validator.specs.declared.judge.Outcome.TheVariants as outcomes
+use Rattle.plus_validator.specs.declared.memory.Report.{Report}
 use Rattle.plus_validator.specs.declared.run.Run.{Run}
 use Rattle.plus_validator.specs.Accepted.{IsAccepted}
 use Rattle.plus_validator.specs.Outcomes.{outcome_of}
@@ -29,17 +31,21 @@ GivesVerdict (Err (Refused w)) v = v ≡ w
 GivesVerdict (Err Memory) v = ⊥
 GivesVerdict (Err WriteFault) v = ⊥
 
--- what is said of a plan that was played so: its verdict, what is kept of the report with the verdict's line, and what is counted
-pub record SumsUp (N : Labels) (P : Problem) (run : Run) (played : Result (Unit {0}) Halt) (j : Judgement) : Type 0 where
-  pub gives : GivesVerdict played j.judged.verdict
+-- what is said of a plan that was played so: its verdict with its line, and what is counted
+pub record Says {S : Type 0} (N : Labels) (P : Problem) (run : Run S) (played : Result (Unit {0}) Halt) (j : Judged) : Type 0 where
+  pub gives : GivesVerdict played j.verdict
+  pub line : j.line.items ≡ verdict_text fraction_of N P j.verdict
+  pub entries : j.entries ≡ run.entries
+  pub firings : j.firings ≡ run.firings
+
+-- and what is kept of the report with that line
+pub record SumsUp (N : Labels) (P : Problem) (run : Run Report) (played : Result (Unit {0}) Halt) (j : Judgement) : Type 0 where
+  pub says : Says N P run played j.judged
   pub outcome : j.outcome ≡ outcome_of j.judged.verdict
-  pub bytes : j.bytes.items ≡ run.report.bytes.items ++ verdict_text fraction_of N P j.judged.verdict
-  pub line : j.judged.line.items ≡ verdict_text fraction_of N P j.judged.verdict
-  pub entries : j.judged.entries ≡ run.entries
-  pub firings : j.judged.firings ≡ run.firings
+  pub bytes : j.bytes.items ≡ run.teller.bytes.items ++ verdict_text fraction_of N P j.judged.verdict
 
 -- That is written, or the sink failed and took a part of it, or memory is wanting and nothing is written.
-pub data Concludes (N : Labels) (P : Problem) (run : Run) (played : Result (Unit {0}) Halt) (before now : ℕ) (old new : Option (List ℕ)) (outcome : Outcome) : Type 0 where
+pub data Concludes (N : Labels) (P : Problem) (run : Run Report) (played : Result (Unit {0}) Halt) (before now : ℕ) (old new : Option (List ℕ)) (outcome : Outcome) : Type 0 where
   told : (j : Judgement) → SumsUp N P run played j → outcome ≡ j.outcome → Took old new j.bytes.items → Concludes N P run played before now old new outcome
   broken :
       (j : Judgement) → SumsUp N P run played j → outcome ≡ outcomes.WriteFault → Rose before now → TookPart old new j.bytes.items

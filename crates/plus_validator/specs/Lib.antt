@@ -10,6 +10,7 @@ pub mod Verdicts
 pub mod Leaving
 pub mod Tame
 -- Inner words.
+pub mod Told
 pub mod Account
 pub mod Handing
 pub mod Standing

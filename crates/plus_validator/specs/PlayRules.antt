@@ -15,84 +15,89 @@ use Rattle.plus_validator.specs.declared.halt.Halt.TheVariants.{Refused, Memory,
 use Rattle.plus_validator.specs.declared.playing.Playing.{Playing}
 use Rattle.plus_validator.specs.Account.{Progress, progress}
 use Rattle.plus_validator.specs.Halts.{line_halt, HasCause}
-use Rattle.plus_validator.specs.Handing.{Left, left, IsPartOut}
+use Rattle.plus_validator.specs.Handing.{Left, left, IsPartOut, Tellings, IsAllOut}
 use Rattle.plus_validator.specs.Plans.{Pair, pair_in}
 use Rattle.plus_validator.specs.Playing.{IsGroundOf, IsResting, Begins, Closes}
 use Rattle.plus_validator.specs.Stopped.{HaltsInLine, HaltsAtEnd}
 use Rattle.plus_validator.specs.Feeding.{HasPlayed}
+use Rattle.plus_validator.specs.Told.{Telling}
 
 -- ---- what is played
 
 -- the pair, and the labels and the problem of its ground form
-abbrev pub pair_of : Playing → Pair
+abbrev pub pair_of : {S : Type 0} → Playing S → Pair
 pair_of now = pair_in now.instances.numbering.now.typed.now
 
-abbrev pub labels_in : Playing → Labels
+abbrev pub labels_in : {S : Type 0} → Playing S → Labels
 labels_in now = labels_of now.ground.now
 
-abbrev pub problem_in : Playing → Problem
+abbrev pub problem_in : {S : Type 0} → Playing S → Problem
 problem_in now = problem_of fraction_of now.ground.now
 
+-- how it is told over it
+abbrev pub telling_in : {S V : Type 0} → Tellings V → (now : Playing S) → Telling (problem_in now) V
+telling_in telling now = telling (labels_in now) (problem_in now)
+
 -- nothing is played: the first entry is made
-pub record IsFresh (most : ℕ) (now : Playing) : Type 0 where
-  pub begins : Begins (labels_in now) (problem_in now) most (progress [] now.run)
+pub record IsFresh {S V : Type 0} (told : List ℕ → S → V) (telling : Tellings V) (most : ℕ) (now : Playing S) : Type 0 where
+  pub begins : Begins (problem_in now) (telling_in telling now) most (progress told [] now.run)
   pub made : AreMade now.instances
 
 -- it may go on: the ground form is that of the pair, and the run stands at a moment
-pub record CanPlay (now : Playing) : Type 0 where
+pub record CanPlay {S : Type 0} (now : Playing S) : Type 0 where
   pub expands : IsGroundOf now.instances.numbering.now.typed.now.domain now.instances.numbering.now.typed.now.problem now.ground.now
   pub made : AreMade now.instances
   pub rests : IsResting (problem_in now) now.run.timeline.line.most now.run.timeline
 
 -- ---- what is told
 
-module _ {O : Type 0} (taken : O → Option (List ℕ)) (faults : O → ℕ) where
+module _ {S V O : Type 0} (told : List ℕ → S → V) (telling : Tellings V) (taken : O → Option (List ℕ)) (faults : O → ℕ) where
   -- these first bytes of the report are handed on, in one play of one pair
-  pub record Hands (first : Playing) (start : O) (now : Playing) (out : O) (sent : List ℕ) : Type 0 where
+  pub record Hands (first : Playing S) (start : O) (now : Playing S) (out : O) (sent : List ℕ) : Type 0 where
     pub numbering : now.instances.numbering ≡ first.instances.numbering
     pub ground : now.ground ≡ first.ground
     pub took : Took (taken start) (taken out) sent
     pub no_fall : faults start ≤ faults out
 
   -- these lines are played
-  pub record PlaysLines (first : Playing) (start : O) (lines : List Line) (now : Playing) (out : O) : Type 0 where
+  pub record PlaysLines (first : Playing S) (start : O) (lines : List Line) (now : Playing S) (out : O) : Type 0 where
     pub sent : List ℕ
     pub hands : Hands first start now out sent
-    pub played : HasPlayed (pair_of now) (labels_in now) (problem_in now) lines (progress [] first.run) (progress sent now.run)
+    pub played : HasPlayed (pair_of now) (problem_in now) (telling_in telling now) lines (progress told [] first.run) (progress told sent now.run)
 
   -- they are all, and the goal holds
-  pub record PlaysToEnd (first : Playing) (start : O) (lines : List Line) (now : Playing) (out : O) : Type 0 where
+  pub record PlaysToEnd (first : Playing S) (start : O) (lines : List Line) (now : Playing S) (out : O) : Type 0 where
     pub sent : List ℕ
     pub hands : Hands first start now out sent
-    pub before : Progress
-    pub played : HasPlayed (pair_of now) (labels_in now) (problem_in now) lines (progress [] first.run) before
-    pub closes : Closes (labels_in now) (problem_in now) before (progress sent now.run)
+    pub before : Progress V
+    pub played : HasPlayed (pair_of now) (problem_in now) (telling_in telling now) lines (progress told [] first.run) before
+    pub closes : Closes (problem_in now) (telling_in telling now) before (progress told sent now.run)
 
 -- where the run halts, which was so before, and what it leaves
-abbrev pub HaltsBy : Pair → Labels → Problem → Why → Progress → Left → Halt → Type 0
-HaltsBy d N P (on_line line) before new halt = HaltsInLine d N P line before new halt
-HaltsBy d N P (no_line fault) before new halt = (halt ≡ line_halt fault) × (new.account ≡ before.account) × IsPartOut Memory new.out before.account.report
-HaltsBy d N P too_long before new halt = (halt ≡ Refused (Other (TooLong texts.Plan))) × (new.account ≡ before.account)
-HaltsBy d N P at_end before new halt = HaltsAtEnd N P before new halt
-HaltsBy d N P handing before new halt = (halt ≡ WriteFault) × IsPartOut WriteFault new.out before.account.report
+abbrev pub HaltsBy : {V : Type 0} → Pair → (P : Problem) → Telling P V → Why → Progress V → Left V → Halt → Type 0
+HaltsBy d P T (on_line line) before new halt = HaltsInLine d P T line before new halt
+HaltsBy d P T (no_line fault) before new halt = (halt ≡ line_halt fault) × (new.account ≡ before.account) × IsPartOut Memory new.out (T.bytes before.account.told)
+HaltsBy d P T too_long before new halt = (halt ≡ Refused (Other (TooLong texts.Plan))) × (new.account ≡ before.account)
+HaltsBy d P T at_end before new halt = HaltsAtEnd P T before new halt
+HaltsBy d P T handing before new halt = (halt ≡ WriteFault) × IsPartOut WriteFault new.out (T.bytes before.account.told)
 
-module _ {O : Type 0} (taken : O → Option (List ℕ)) (faults : O → ℕ) where
+module _ {S V O : Type 0} (told : List ℕ → S → V) (telling : Tellings V) (taken : O → Option (List ℕ)) (faults : O → ℕ) where
   -- these lines are played, and then the run halts: the ids that its verdict names are those of the problem, or the sink failed
-  pub record HaltsBehind (first : Playing) (start : O) (lines : List Line) (why : Why) (now : Playing) (out : O) (halt : Halt) : Type 0 where
+  pub record HaltsBehind (first : Playing S) (start : O) (lines : List Line) (why : Why) (now : Playing S) (out : O) (halt : Halt) : Type 0 where
     pub sent : List ℕ
-    pub hands : Hands taken faults first start now out sent
-    pub before : Progress
-    pub played : HasPlayed (pair_of now) (labels_in now) (problem_in now) lines (progress [] first.run) before
-    pub by : HaltsBy (pair_of now) (labels_in now) (problem_in now) why before (left sent now.run) halt
+    pub hands : Hands told telling taken faults first start now out sent
+    pub before : Progress V
+    pub played : HasPlayed (pair_of now) (problem_in now) (telling_in telling now) lines (progress told [] first.run) before
+    pub by : HaltsBy (pair_of now) (problem_in now) (telling_in telling now) why before (left told sent now.run) halt
     pub cause : HasCause (problem_in now) (faults start) (faults out) halt
 
   -- what a plan that is played says of the lines
-  abbrev pub play_rules : Rules Playing O Halt
+  abbrev pub play_rules : Rules (Playing S) O Halt
   play_rules = record {
     told = taken;
     Can = λ now out. CanPlay now;
-    Handed = λ now out. now.run.report.bytes.items ≡ [];
-    Played = λ first start lines now out. PlaysLines taken faults first start lines now out;
-    Ended = λ first start lines now out. PlaysToEnd taken faults first start lines now out;
+    Handed = λ now out. IsAllOut told telling now.run.teller;
+    Played = λ first start lines now out. PlaysLines told telling taken faults first start lines now out;
+    Ended = λ first start lines now out. PlaysToEnd told telling taken faults first start lines now out;
     Stops = λ first start lines why now out halt. HaltsBehind first start lines why now out halt;
   }

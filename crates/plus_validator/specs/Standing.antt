@@ -1,31 +1,39 @@
--- How a run of a plan stands: its timeline and its report are those of one history of the lines read.
-use Rattle.std.specs.Prelude.{◌≡◌, ◌⊎◌, ℕ, ◌+◌, ◌<◌, Bool, true, false, List, [], ◌∷◌, ◌++◌, length, None, pos, All, if◌then◌else◌}
+-- How a run of a plan stands: its timeline and what it tells are those of one history of the lines read.
+use Rattle.std.specs.Prelude.{◌≡◌, ◌⊎◌, ℕ, ◌+◌, ◌<◌, Bool, true, false, List, [], ◌∷◌, ◌++◌, length, Some, None, pos, All, if◌then◌else◌}
 use Rattle.plus_fraction.specs.Fraction.{Fraction, whole}
-use Rattle.plus_model.specs.Terms.{Problem}
-use Rattle.plus_model.specs.Plan.{Called, Line, ActLine, EndLine, Plan}
+use Rattle.plus_model.specs.Terms.{Action, Problem}
+use Rattle.plus_model.specs.Plan.{Called, Instance, Line, ActLine, EndLine, Plan}
+use Rattle.plus_model.specs.History as history
 use Rattle.plus_model.specs.History.{Part}
-use Rattle.plus_model.specs.Trajectory.{IsWorked}
+use Rattle.plus_model.specs.Trajectory.{next_line, IsWorked, Prefix, view_of}
 use Rattle.plus_state.specs.View.{Labels}
-use Rattle.plus_timeline.specs.Timeline.{TimelineView}
+use Rattle.plus_timeline.specs.Timeline.{TimelineView, begun}
+use Rattle.plus_timeline.specs.Advance.{Advances}
 use Rattle.plus_indexed.specs.Indexed.{IndexedView}
 use Rattle.plus_indexed.specs.Knows.{Knows}
 use Rattle.plus_report.specs.Text.{entry_text, literals_text, round_text, run_text}
 use Rattle.plus_timeline.specs.declared.next.Next.{Next}
 use Rattle.plus_timeline.specs.declared.next.Next.TheVariants.{Round, Run, Entry, There}
-use Rattle.plus_number.specs.Frac.{IsFrac64}
+use Rattle.plus_number.specs.declared.frac.Frac64.{Frac64}
+use Rattle.plus_number.specs.Frac.{fraction_of, IsFrac64}
 use Rattle.plus_stretch.specs.Tests.{Test, AllPass}
 use Rattle.plus_timeline.specs.Asked.{asked}
 use Rattle.plus_timeline.specs.Played as played
+use Rattle.plus_timeline.specs.Played.{entries_of}
 use Rattle.plus_timeline.specs.StepsLeft as steps
-use Rattle.plus_validator.specs.Account.{Account, account_of}
+use Rattle.plus_validator.specs.Account.{Account}
+use Rattle.plus_validator.specs.Asking.{firings_of}
+use Rattle.plus_validator.specs.Told.{Telling}
 
 -- this is what is told of the history
-abbrev pub IsTold : Labels → Problem → Plan → Account → List Part → Type 0
-IsTold N P L account h = account ≡ account_of N P L h
+pub record IsTold {V : Type 0} (P : Problem) (T : Telling P V) (L : Plan) (account : Account V) (h : List Part) : Type 0 where
+  pub tells : T.Tells L h account.told
+  pub entries : account.entries ≡ entries_of h
+  pub firings : account.firings ≡ firings_of h
 
--- the timeline and the report are those of this history of the plan, and all that is asked before passes
-abbrev pub IsPlayed : Labels → Problem → Plan → (ℕ → List Test) → List Part → TimelineView → Account → Type 0
-IsPlayed N P L instance h t account = played.IsPlayed IsFrac64 P L instance (IsTold N P L account) h t
+-- the timeline and what is told are those of this history of the plan, and all that is asked before passes
+abbrev pub IsPlayed : {V : Type 0} (P : Problem) → Telling P V → Plan → (ℕ → List Test) → List Part → TimelineView → Account V → Type 0
+IsPlayed P T L instance h t account = played.IsPlayed IsFrac64 P L instance (IsTold P T L account) h t
 
 -- the timeline goes on, with this problem
 abbrev pub CanGoOn : Problem → IndexedView → Type 0
@@ -57,14 +65,33 @@ firings_in t Run = 0
 firings_in t (Entry time) = 0
 firings_in t There = 0
 
--- what is told after a step
-abbrev pub account_next : {Q : Type 0} → (Q → Fraction) → Labels → Problem → TimelineView → Next Q → Account → Account
-account_next value N P t next account =
-    record {
-      report = account.report ++ next_text value N P t next;
-      entries = account.entries + entries_in next;
-      firings = account.firings + firings_in t next;
-    }
+-- what is told after one part more, which comes where the timeline stood so
+abbrev pub TellsPart : {V : Type 0} (P : Problem) → Telling P V → TimelineView → Part → V → V → Type 0
+TellsPart P T old part before after =
+    (L : Plan) (h : List Part) → Prefix P L h → old.now ≡ view_of P h → T.Tells L h before → T.Tells L (h ++ part ∷ []) after
+
+-- by a step, which may add none
+abbrev pub TellsNext : {Q V : Type 0} (P : Problem) → Telling P V → TimelineView → TimelineView → Next Q → V → V → Type 0
+TellsNext P T old new Round before after = TellsPart P T old (history.Round new.events new.now.state) before after
+TellsNext P T old new Run before after = TellsPart P T old (history.Run new.running) before after
+TellsNext P T old new (Entry time) before after = TellsPart P T old (history.Enter new.now.time new.arrival new.now.state) before after
+TellsNext P T old new There before after = after ≡ before
+
+-- by any step that leads here
+abbrev pub TellsStep : {V : Type 0} (P : Problem) → Telling P V → TimelineView → Next Frac64 → V → V → Type 0
+TellsStep P T new next before after = (old : TimelineView) (u : Fraction) → Advances fraction_of P u old new next → TellsNext P T old new next before after
+
+-- by an action, in each plan in which it is due
+abbrev pub TellsAct : {V : Type 0} (P : Problem) → Telling P V → Action → TimelineView → TimelineView → V → V → Type 0
+TellsAct P T action old new before after =
+    (L : Plan) (h : List Part) → Prefix P L h → old.now ≡ view_of P h → next_line L old.now ≡ Some (ActLine old.now.time (Instance action))
+    → T.Tells L h before → T.Tells L (h ++ history.Act old.now.acted new.now.state ∷ []) after
+
+-- and what is counted in a step
+pub record AccountsNext {Q V : Type 0} (P : Problem) (T : Telling P V) (old new : TimelineView) (next : Next Q) (before after : Account V) : Type 0 where
+  pub tells : TellsNext P T old new next before.told after.told
+  pub entries : after.entries ≡ before.entries + entries_in next
+  pub firings : after.firings ≡ before.firings + firings_in new next
 
 -- whether an end was read, and the time of the last line, which is 0 where there is none
 abbrev pub EndsBy : List Line → Bool → Fraction → Type 0
@@ -84,8 +111,8 @@ pub record HasWorked (P : Problem) (L : Plan) (instance : ℕ → List Test) (t 
   pub passed : AllPass IsFrac64 (asked P L t.most instance t.entries t.now)
 
 -- so it is, or none is read
-pub record IsReady (N : Labels) (P : Problem) (L : Plan) (instance : ℕ → List Test) (ended : Bool) (h : List Part) (t : TimelineView) (account : Account) : Type 0 where
-  pub played : IsPlayed N P L instance h t account
+pub record IsReady {V : Type 0} (P : Problem) (T : Telling P V) (L : Plan) (instance : ℕ → List Test) (ended : Bool) (h : List Part) (t : TimelineView) (account : Account V) : Type 0 where
+  pub played : IsPlayed P T L instance h t account
   pub not_closed : L.closed ≡ false
   pub last : EndsBy L.lines ended t.now.time
   pub acted : AllActed L.lines ended t.now.acted
@@ -93,8 +120,8 @@ pub record IsReady (N : Labels) (P : Problem) (L : Plan) (instance : ℕ → Lis
   pub worked : (L.lines ≡ []) ⊎ HasWorked P L instance t
 
 -- up to the time of the next line nothing is left to do
-abbrev pub IsReached : Labels → Problem → Plan → (ℕ → List Test) → ℕ → Fraction → List Part → TimelineView → Account → Type 0
-IsReached N P L instance acted time h t account = played.IsReached IsFrac64 P L instance (IsTold N P L account) time acted h t
+abbrev pub IsReached : {V : Type 0} (P : Problem) → Telling P V → Plan → (ℕ → List Test) → ℕ → Fraction → List Part → TimelineView → Account V → Type 0
+IsReached P T L instance acted time h t account = played.IsReached IsFrac64 P L instance (IsTold P T L account) time acted h t
 
 -- whether the answer is `There`
 abbrev pub is_there : {Q : Type 0} → Next Q → Bool
@@ -119,3 +146,13 @@ IsShown P t Round = All (λ e. e < length P.events) t.events
 IsShown P t Run = All (λ p. p < length P.processes) t.running
 IsShown P t (Entry time) = MovesThenChanges t
 IsShown P t There = Unit {0}
+
+-- the timeline has begun
+abbrev pub IsBegun : Problem → TimelineView → Type 0
+IsBegun P t = (most : ℕ) × (t ≡ begun P most)
+
+-- it took this step, from somewhere and toward some time
+pub record IsStep (P : Problem) (new : TimelineView) (next : Next Frac64) : Type 0 where
+  pub old : TimelineView
+  pub until : Fraction
+  pub does : Advances fraction_of P until old new next

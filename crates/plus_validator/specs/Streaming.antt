@@ -9,25 +9,27 @@ use Rattle.plus_play.specs.declared.file.Pause.{Pause}
 use Rattle.plus_play.specs.declared.file.Pause.TheVariants as pauses
 use Rattle.plus_validator.specs.declared.halt.Halt.{Halt}
 use Rattle.plus_validator.specs.declared.halt.Halt.TheVariants as halts
+use Rattle.plus_validator.specs.declared.memory.Report.{Report}
 use Rattle.plus_validator.specs.declared.run.Run.{Run}
 use Rattle.plus_validator.specs.declared.stream.Ending.{Ending}
 use Rattle.plus_validator.specs.declared.stream.Ending.TheVariants.{Played, ReadFault, WriteFault}
 use Rattle.plus_validator.specs.Account.{Progress}
 use Rattle.plus_validator.specs.Plans.{Pair, pair}
 use Rattle.plus_validator.specs.Feeding.{IsPlayedOut}
+use Rattle.plus_validator.specs.Told.{Telling, reports, report_told}
 
 -- The plan text is played, or the run halts in it. What the sink took is the beginning of the report, and the run keeps the rest.
-pub record IsPlayedFrom (d : Domain) (p : tree.Problem) (N : Labels) (P : Problem) (bytes : Option (List ℕ)) (first : Progress) (new : Run) (old now : Option (List ℕ)) (played : Result (Unit {0}) Halt) : Type 0 where
+pub record IsPlayedFrom (d : Domain) (p : tree.Problem) (N : Labels) (P : Problem) (bytes : Option (List ℕ)) (first : Progress (List ℕ)) (new : Run Report) (old now : Option (List ℕ)) (played : Result (Unit {0}) Halt) : Type 0 where
   pub sent : List ℕ
   pub took : Took old now sent
-  pub out : IfSome bytes (λ text. IsPlayedOut (pair d p) N P text first sent new played)
+  pub out : IfSome bytes (λ text. IsPlayedOut (pair d p) P (reports N P) report_told text first sent new played)
 
 -- ---- a text that stands in memory
 
--- The plan text that stands in these bytes is played, or the run halts in it. The run keeps the end of the report.
-pub record IsPlayedThrough (d : Pair) (N : Labels) (P : Problem) (bytes : List ℕ) (first : Progress) (new : Run) (played : Result (Unit {0}) Halt) : Type 0 where
+-- The plan text that stands in these bytes is played, or the run halts in it. The run keeps the end of what is told.
+pub record IsPlayedThrough {S V : Type 0} (d : Pair) (P : Problem) (T : Telling P V) (told : List ℕ → S → V) (bytes : List ℕ) (first : Progress V) (new : Run S) (played : Result (Unit {0}) Halt) : Type 0 where
   pub gone : List ℕ
-  pub out : IsPlayedOut d N P bytes first gone new played
+  pub out : IsPlayedOut d P T told bytes first gone new played
 
 -- ---- by how the playing ends
 

@@ -19,6 +19,7 @@ ghost use Rattle.plus_io.specs.Faults.{Rose};
 use crate::halt::Halt;
 use crate::judge::Outcome;
 use crate::judgement::sum_up;
+use crate::memory::Report;
 use crate::playing::Playing;
 use crate::run::Run;
 use crate::stream::{Ending, play_plan};
@@ -53,7 +54,7 @@ fn refuse<O: Sink>(out: &mut O, fault: GroundFault) -> Outcome
 fn conclude<O: Sink>(
     alloc: Global,
     ground: &Ground<Frac64>,
-    run: &mut Run,
+    run: &mut Run<Report>,
     played: Result<(), Halt>,
     out: &mut O,
 ) -> Outcome
@@ -114,7 +115,7 @@ fn validate_ground<S: Shelf, O: Sink>(
     let Ok(mut reader) = PlanReader::new(alloc, PlanForm::Timed) else {
         return Outcome::NoMemory;
     };
-    let Ok(run) = Run::begin(alloc, ground, happenings) else {
+    let Ok(run) = Run::begin(alloc, ground, Report::new(alloc), happenings) else {
         return Outcome::NoMemory;
     };
     let instances = Instances::new(alloc, &*numbering);

@@ -11,10 +11,11 @@ ghost use Rattle.plus_validator.specs.Playing.{IsGroundOf};
 ghost use Rattle.plus_validator.specs.Verdicts.{RefusesPairWith, JudgesText};
 
 use crate::halt::Halt;
-use crate::judgement::{Judgement, sum_up};
+use crate::judgement::say;
 use crate::memory::Report;
 use crate::playing::Playing;
 use crate::run::Run;
+use crate::silent::Silent;
 use crate::stream::play_text;
 use crate::ungrounded::early_of;
 use plus_ground::ground;
@@ -127,14 +128,14 @@ fn judge_ground(
     bytes: &[u8],
     happenings: u64,
     freeing: Freeing,
-) -> Result<Judgement, Halt>
+) -> Result<Judged, Halt>
     requires expands { IsGroundOf numbering.now.typed.now.domain numbering.now.typed.now.problem ground.now }
     requires groundable { IsGroundable IsFrac64 numbering.now.typed.now.domain numbering.now.typed.now.problem }
     requires some { 1 ≤ happenings }
-    ensures judged { IfOk result (λ j. JudgesText numbering.now.typed.now.domain numbering.now.typed.now.problem happenings bytes.now j.judged) }
+    ensures judged { IfOk result (JudgesText numbering.now.typed.now.domain numbering.now.typed.now.problem happenings bytes.now) }
 {
     let mut reader = PlanReader::new(alloc, PlanForm::Timed)?;
-    let run = Run::begin(alloc, ground, happenings)?;
+    let run = Run::begin(alloc, ground, Silent, happenings)?;
     let instances = Instances::new(alloc, &*numbering);
     let mut playing = Playing {
         run,
@@ -142,10 +143,10 @@ fn judge_ground(
         ground,
     };
     let played = play_text(&mut playing, &mut reader, alloc, bytes, happenings);
-    let judgement = sum_up(alloc, ground, &mut playing.run, played);
+    let judged = say(alloc, ground, &playing.run, played);
     // By a call: what drops a plan that is played is long, and its proof stands once.
     freeing.let_go(playing);
-    judgement
+    judged
 }
 
 // Judges the plan text of a pair whose ground atoms and fluents are numbered.
@@ -163,10 +164,10 @@ fn judge_numbered(
         Ok(ground) => ground,
         Err(fault) => return judge_pair(alloc, fault),
     };
-    let judgement = judge_ground(alloc, numbering, &ground, bytes, happenings, freeing);
+    let judged = judge_ground(alloc, numbering, &ground, bytes, happenings, freeing);
     freeing.let_go(ground);
-    match judgement {
-        Ok(judgement) => Ok(judgement.judged),
+    match judged {
+        Ok(judged) => Ok(judged),
         Err(_) => Err(AllocError),
     }
 }

@@ -3,10 +3,10 @@ ghost use Rattle.std.specs.Prelude.{◌≡◌, ◌≢◌, IfOk, IfErr};
 ghost use Rattle.plus_state.specs.View.{problem_of, labels_of};
 ghost use Rattle.plus_number.specs.Frac.{fraction_of};
 ghost use Rattle.plus_validator.specs.Halts.{HaltFits};
-ghost use Rattle.plus_validator.specs.Judged.{GivesVerdict, SumsUp};
+ghost use Rattle.plus_validator.specs.Judged.{GivesVerdict, Says, SumsUp};
 
 use crate::halt::Halt;
-use crate::judge::{Judged, Outcome, outcome_of};
+use crate::judge::{Judged, Outcome};
 use crate::memory::Report;
 use crate::run::Run;
 use plus_number::frac::Frac64;
@@ -37,30 +37,44 @@ fn verdict_of(played: Result<(), Halt>) -> Result<Verdict<Frac64>, Halt>
     }
 }
 
-/// What is said of a plan that is played so. It takes what is left of the report.
+/// What is said of a plan that is played so, and how much happens in it.
+pub fn say<T>(
+    alloc: Global,
+    ground: &Ground<Frac64>,
+    run: &Run<T>,
+    played: Result<(), Halt>,
+) -> Result<Judged, Halt>
+    requires fits { IfErr played (HaltFits (problem_of fraction_of ground.now)) }
+    ensures says { IfOk result (Says (labels_of ground.now) (problem_of fraction_of ground.now) run.now played) }
+    ensures memory { IfErr result (λ halt. halt ≡ Halt.Memory) }
+{
+    let verdict = verdict_of(played)?;
+    let mut line = Report::new(alloc);
+    write_verdict(&mut line, ground, &verdict)?;
+    Ok(Judged {
+        verdict,
+        line: line.bytes,
+        entries: run.entries,
+        firings: run.firings,
+    })
+}
+
+/// The same, with what is left of the report, which is taken out of the run.
 pub fn sum_up(
     alloc: Global,
     ground: &Ground<Frac64>,
-    run: &mut Run,
+    run: &mut Run<Report>,
     played: Result<(), Halt>,
 ) -> Result<Judgement, Halt>
     requires fits { IfErr played (HaltFits (problem_of fraction_of ground.now)) }
     ensures sums { IfOk result (SumsUp (labels_of ground.now) (problem_of fraction_of ground.now) run.old played) }
     ensures memory { IfErr result (λ halt. halt ≡ Halt.Memory) }
 {
-    let verdict = verdict_of(played)?;
-    let mut line = Report::new(alloc);
-    write_verdict(&mut line, ground, &verdict)?;
-    run.report.bytes.extend_from_slice(&line.bytes)?;
-    let outcome = outcome_of(&verdict);
+    let judged = say(alloc, ground, &*run, played)?;
+    run.teller.bytes.extend_from_slice(&judged.line)?;
     Ok(Judgement {
-        bytes: mem::replace(&mut run.report.bytes, Vec::new(alloc)),
-        outcome,
-        judged: Judged {
-            verdict,
-            line: line.bytes,
-            entries: run.entries,
-            firings: run.firings,
-        },
+        bytes: mem::replace(&mut run.teller.bytes, Vec::new(alloc)),
+        outcome: judged.outcome(),
+        judged,
     })
 }

@@ -9,8 +9,11 @@ pub mod laws;
 mod memory;
 mod play;
 mod playing;
+mod reporting;
 mod run;
+mod silent;
 mod stream;
+mod teller;
 mod ungrounded;
 
 pub use checking::validate;

@@ -4,7 +4,7 @@ ghost use Rattle.plus_number.specs.Frac.{fraction_of};
 ghost use Rattle.plus_model.specs.Terms.{Problem};
 ghost use Rattle.plus_model.specs.Trajectory.{is_below};
 ghost use Rattle.plus_plan.specs.Answers.{HasBottom};
-ghost use Rattle.plus_state.specs.View.{problem_of, labels_of};
+ghost use Rattle.plus_state.specs.View.{Labels, problem_of, labels_of};
 ghost use Rattle.plus_timeline.specs.Finish.{IsPaused};
 ghost use Rattle.plus_validator.specs.Account.{progress};
 ghost use Rattle.plus_validator.specs.Handing.{HandsOn, left};
@@ -17,6 +17,7 @@ ghost use Rattle.plus_validator.specs.Playing.{IsGroundOf, IsInTime, ActsOnce, P
 
 use crate::halt::{Halt, halted};
 use crate::run::Run;
+use crate::teller::Teller;
 use plus_ground::InstanceFault;
 use plus_instances::Instances;
 use plus_io::Sink;
@@ -24,7 +25,7 @@ use plus_number::exact::Exact;
 use plus_number::frac::Frac64;
 use plus_numbering::MOST_NODES;
 use plus_plan::{Line, Time, time_value};
-use plus_report::{Early, Kinds, Text, Verdict, write_act_changes};
+use plus_report::{Early, Kinds, Text, Verdict};
 use plus_state::Label;
 use plus_state::outcome::Breach;
 use plus_state::problem::Ground;
@@ -76,7 +77,7 @@ fn refused_call(alloc: Global, fault: InstanceFault, line: u32, call: &Call) -> 
     }
 }
 
-impl Run {
+impl<T: Teller> Run<T> {
     // Whether a time is below the present one.
     fn is_past(&self, at: Frac64) -> bool
         ensures { result ≡ is_below (fraction_of at) (self.now.timeline.line.now.time) }
@@ -90,7 +91,7 @@ impl Run {
     fn moment(&self, line: u32, time: &Time) -> Result<Frac64, Halt>
         requires { 0 < time.now.bottom }
         ensures ok { IfOk result (IsInTime self.now.ended self.now.timeline.line.now.time time.now) }
-        ensures stops { (sent : List ℕ) → IfErr result (HaltsAtMoment line time.now (progress sent self.now)) }
+        ensures stops { (N : Labels) (P : Problem) (sent : List ℕ) → IfErr result (HaltsAtMoment P (T.telling N P) line time.now (progress T.told sent self.now)) }
         ensures fits { IfErr result (λ halt. (P : Problem) → HaltFits P halt) }
     {
         if self.ended {
@@ -124,10 +125,10 @@ impl Run {
         requires kept { AreMade instances.old }
         requires can { CanGoOn (problem_of fraction_of ground.now) self.old.timeline }
         requires paused { IsPaused self.old.timeline.line }
-        ensures acts { (sent : List ℕ) → OnOk result (ActsOnce (pair_in instances.old.numbering.now.typed.now) (labels_of ground.now)
-            (problem_of fraction_of ground.now) call.now (progress sent self.old) (progress sent self.new)) }
-        ensures stops { (sent : List ℕ) → IfErr result (HaltsInAct (pair_in instances.old.numbering.now.typed.now) (labels_of ground.now)
-            (problem_of fraction_of ground.now) line call.now (progress sent self.old) (left sent self.new)) }
+        ensures acts { (sent : List ℕ) → OnOk result (ActsOnce (pair_in instances.old.numbering.now.typed.now) (problem_of fraction_of ground.now)
+            (T.telling (labels_of ground.now) (problem_of fraction_of ground.now)) call.now (progress T.told sent self.old) (progress T.told sent self.new)) }
+        ensures stops { (sent : List ℕ) → IfErr result (HaltsInAct (pair_in instances.old.numbering.now.typed.now) (problem_of fraction_of ground.now)
+            (T.telling (labels_of ground.now) (problem_of fraction_of ground.now)) line call.now (progress T.told sent self.old) (left T.told sent self.new)) }
         ensures kept { StayMade instances.old instances.new }
         ensures fits { IfErr result (HaltFits (problem_of fraction_of ground.now)) }
     {
@@ -139,13 +140,7 @@ impl Run {
         if let Err(stop) = self.timeline.act(ground, action, line) {
             return Err(halted(stop));
         }
-        write_act_changes(
-            &mut self.report,
-            ground,
-            &action.label,
-            self.timeline.before(),
-            self.timeline.changes(),
-        )?;
+        self.teller.act(ground, &self.timeline, &action.label)?;
         Ok(())
     }
 
@@ -163,10 +158,10 @@ impl Run {
         requires can { CanGoOn (problem_of fraction_of ground.now) self.old.timeline }
         requires moment { self.old.timeline.line.now.running ≡ None }
         requires bottom { HasBottom read.now }
-        ensures plays { OnOk result (HandsOn progress progress (PlaysLine (pair_in instances.old.numbering.now.typed.now) (labels_of ground.now)
-            (problem_of fraction_of ground.now) read.now) self.old self.new (O.taken out.old) (O.taken out.new)) }
-        ensures stops { IfErr result (λ halt. HandsOn progress left (λ old new. HaltsInLine (pair_in instances.old.numbering.now.typed.now) (labels_of ground.now)
-            (problem_of fraction_of ground.now) read.now old new halt) self.old self.new (O.taken out.old) (O.taken out.new)) }
+        ensures plays { OnOk result (HandsOn (progress T.told) (progress T.told) (PlaysLine (pair_in instances.old.numbering.now.typed.now) (problem_of fraction_of ground.now)
+            (T.telling (labels_of ground.now) (problem_of fraction_of ground.now)) read.now) self.old self.new (O.taken out.old) (O.taken out.new)) }
+        ensures stops { IfErr result (λ halt. HandsOn (progress T.told) (left T.told) (λ old new. HaltsInLine (pair_in instances.old.numbering.now.typed.now) (problem_of fraction_of ground.now)
+            (T.telling (labels_of ground.now) (problem_of fraction_of ground.now)) read.now old new halt) self.old self.new (O.taken out.old) (O.taken out.new)) }
         ensures kept { StayMade instances.old instances.new }
         ensures cause { IfErr result (HasCause (problem_of fraction_of ground.now) (O.faults out.old) (O.faults out.new)) }
         ensures no_fall { O.faults out.old ≤ O.faults out.new }
@@ -193,10 +188,10 @@ impl Run {
     pub fn close<O: Sink>(&mut self, ground: &Ground<Frac64>, out: &mut O) -> Result<(), Halt>
         requires can { CanGoOn (problem_of fraction_of ground.now) self.old.timeline }
         requires moment { self.old.timeline.line.now.running ≡ None }
-        ensures closes { OnOk result (HandsOn progress progress (Closes (labels_of ground.now) (problem_of fraction_of ground.now))
+        ensures closes { OnOk result (HandsOn (progress T.told) (progress T.told) (Closes (problem_of fraction_of ground.now) (T.telling (labels_of ground.now) (problem_of fraction_of ground.now)))
             self.old self.new (O.taken out.old) (O.taken out.new)) }
-        ensures stops { IfErr result (λ halt. HandsOn progress left (λ old new. HaltsAtEnd (labels_of ground.now)
-            (problem_of fraction_of ground.now) old new halt) self.old self.new (O.taken out.old) (O.taken out.new)) }
+        ensures stops { IfErr result (λ halt. HandsOn (progress T.told) (left T.told) (λ old new. HaltsAtEnd (problem_of fraction_of ground.now)
+            (T.telling (labels_of ground.now) (problem_of fraction_of ground.now)) old new halt) self.old self.new (O.taken out.old) (O.taken out.new)) }
         ensures cause { IfErr result (HasCause (problem_of fraction_of ground.now) (O.faults out.old) (O.faults out.new)) }
         ensures no_fall { O.faults out.old ≤ O.faults out.new }
     {

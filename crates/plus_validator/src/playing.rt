@@ -1,8 +1,9 @@
-//! A plan that is played over a ground problem while its report goes to a sink, as one who plays lines.
+//! A plan that is played over a ground problem while what happens is told, as one who plays lines.
 ghost use Rattle.plus_validator.specs.PlayRules.{play_rules};
 
 use crate::halt::{Halt, fault_halt};
 use crate::run::Run;
+use crate::teller::Teller;
 use plus_instances::Instances;
 use plus_io::Sink;
 use plus_number::frac::Frac64;
@@ -14,16 +15,16 @@ use std::alloc::Global;
 
 /// A plan that is played over a ground problem.
 #[derive(Drop)]
-pub struct Playing<'n, 'g> {
-    pub run: Run,
+pub struct Playing<'n, 'g, T> {
+    pub run: Run<T>,
     pub instances: Instances<'n>,
     pub ground: &'g Ground<Frac64>,
 }
 
-impl<O: Sink> Plays<O> for Playing<'_, '_> {
+impl<O: Sink, T: Teller> Plays<O> for Playing<'_, '_, T> {
     type Stop = Halt;
 
-    ghost rules = { play_rules O.taken O.faults };
+    ghost rules = { play_rules T.told T.telling O.taken O.faults };
 
     fn line(&mut self, alloc: Global, read: &mut Line, out: &mut O) -> Result<(), Halt> {
         self.run

@@ -1,35 +1,30 @@
-//! A plan that is played, and its report as it goes out: no more of it is kept than a step tells behind 64 KiB.
-ghost use Rattle.std.specs.Prelude.{◌≡◌, ℕ, ◌≤◌, ◌+◌, List, [], ◌++◌, OnOk, OnErr, IfOk, IfErr};
+//! A plan that is played while what happens is told.
+ghost use Rattle.std.specs.Prelude.{◌≡◌, ℕ, ◌≤◌, ◌+◌, List, [], OnOk, OnErr, IfOk, IfErr};
 ghost use Rattle.plus_io.specs.Faults.{Rose};
 ghost use Rattle.plus_number.specs.Frac.{fraction_of};
 ghost use Rattle.plus_state.specs.View.{problem_of, labels_of};
 ghost use Rattle.plus_validator.specs.Account.{progress};
-ghost use Rattle.plus_validator.specs.Handing.{HandsOn, StaysSo, left, BreaksOffAt};
+ghost use Rattle.plus_validator.specs.Handing.{HandsOn, StaysSo, left, IsAllOut, RunBreaksOff};
 ghost use Rattle.plus_validator.specs.Running.{Steps, Reaches};
 ghost use Rattle.plus_validator.specs.Halts.{HaltFits, HasCause};
 ghost use Rattle.plus_validator.specs.Stopped.{HaltsOnWay};
 ghost use Rattle.plus_validator.specs.Playing.{Begins};
-ghost use Rattle.plus_validator.specs.Standing.{CanReach, MovesThenChanges, IsShown, next_text, entries_in, firings_in, is_there, CanShow};
+ghost use Rattle.plus_validator.specs.Standing.{CanReach, entries_in, firings_in, is_there};
 
 use crate::halt::{Halt, halted};
-use crate::memory::Report;
+use crate::teller::Teller;
 use plus_indexed::Indexed;
-use plus_io::{Failed, Sink, write_all};
+use plus_io::{Failed, Sink};
 use plus_number::frac::Frac64;
-use plus_report::{write_entry_changes, write_literals_changes, write_round_changes, write_run};
 use plus_state::problem::Ground;
 use plus_timeline::Next;
 use std::alloc::{AllocError, Global};
 
-// What is kept of the report is much if it has more bytes.
-const MUCH: usize = 65536;
-
-/// A plan that is played, and its report.
+/// A plan that is played, and who tells what happens.
 #[derive(Drop)]
-pub struct Run {
+pub struct Run<T> {
     pub timeline: Indexed<Frac64>,
-    /// What of the report is not handed on yet.
-    pub report: Report,
+    pub teller: T,
     /// How many moments are entered.
     pub entries: u64,
     /// How many events fired.
@@ -44,53 +39,6 @@ fn is_there(next: Next<Frac64>) -> bool
     matches!(next, Next::There)
 }
 
-// Writes a moment: the fluents that moved, and where it has literals what they change.
-#[inline(always)]
-fn write_moment(
-    report: &mut Report,
-    ground: &Ground<Frac64>,
-    timeline: &Indexed<Frac64>,
-    time: Frac64,
-) -> Result<(), Failed>
-    requires can { CanShow (problem_of fraction_of ground.now) timeline.now.line }
-    requires shown { MovesThenChanges timeline.now.line }
-    ensures { OnOk result (report.new.bytes.items ≡ report.old.bytes.items
-        ++ next_text fraction_of (labels_of ground.now) (problem_of fraction_of ground.now) timeline.now.line (Next.Entry time)) }
-{
-    write_entry_changes(report, ground, time, timeline.before(), timeline.changes())?;
-    if timeline.has_literals() {
-        return write_literals_changes(report, ground, timeline.arrival(), timeline.changes());
-    }
-    Ok(())
-}
-
-// Writes what the timeline did.
-#[inline(always)]
-fn write_next(
-    report: &mut Report,
-    ground: &Ground<Frac64>,
-    timeline: &Indexed<Frac64>,
-    next: Next<Frac64>,
-) -> Result<(), Failed>
-    requires can { CanShow (problem_of fraction_of ground.now) timeline.now.line }
-    requires shown { IsShown (problem_of fraction_of ground.now) timeline.now.line next }
-    ensures { OnOk result (report.new.bytes.items ≡ report.old.bytes.items
-        ++ next_text fraction_of (labels_of ground.now) (problem_of fraction_of ground.now) timeline.now.line next) }
-{
-    match next {
-        Next::Round => write_round_changes(
-            report,
-            ground,
-            timeline.events(),
-            timeline.before(),
-            timeline.changes(),
-        ),
-        Next::Run => write_run(report, ground, timeline.running()),
-        Next::Entry { time } => write_moment(report, ground, timeline, time),
-        Next::There => Ok(()),
-    }
-}
-
 // One count and more. A count that is too large is want of memory.
 fn counted(count: u64, more: u64) -> Result<u64, AllocError>
     ensures { IfOk result (λ sum. sum ≡ count + more) }
@@ -101,23 +49,25 @@ fn counted(count: u64, more: u64) -> Result<u64, AllocError>
     }
 }
 
-impl Run {
+impl<T: Teller> Run<T> {
     /// Begins a run: the first entry, at time 0.
-    pub fn begin(alloc: Global, ground: &Ground<Frac64>, happenings: u64) -> Result<Run, Halt>
+    pub fn begin(
+        alloc: Global,
+        ground: &Ground<Frac64>,
+        mut teller: T,
+        happenings: u64,
+    ) -> Result<Run<T>, Halt>
+        requires new { T.IsNew teller }
         requires some { 1 ≤ happenings }
-        ensures begins { IfOk result (λ run. Begins (labels_of ground.now) (problem_of fraction_of ground.now) happenings
-            (progress [] run)) }
+        ensures begins { IfOk result (λ run. Begins (problem_of fraction_of ground.now) (T.telling (labels_of ground.now) (problem_of fraction_of ground.now)) happenings
+            (progress T.told [] run)) }
         ensures memory { IfErr result (λ halt. halt ≡ Halt.Memory) }
     {
         let timeline = Indexed::begin(alloc, ground, happenings)?;
-        let mut report = Report::new(alloc);
-        let first = Next::Entry {
-            time: timeline.time(),
-        };
-        write_next(&mut report, ground, &timeline, first)?;
+        teller.begin(ground, &timeline)?;
         Ok(Run {
             timeline,
-            report,
+            teller,
             entries: 1,
             firings: 0,
             ended: false,
@@ -145,17 +95,17 @@ impl Run {
     #[inline(always)]
     fn step(&mut self, ground: &Ground<Frac64>, until: Frac64) -> Result<bool, Halt>
         requires can { CanReach (problem_of fraction_of ground.now) (fraction_of until) self.old.timeline }
-        ensures steps { (sent : List ℕ) → IfOk result (Steps (labels_of ground.now) (problem_of fraction_of ground.now)
-            (fraction_of until) (progress sent self.old) (progress sent self.new)) }
-        ensures stops { (sent : List ℕ) → IfErr result (HaltsOnWay (labels_of ground.now) (problem_of fraction_of ground.now)
-            (fraction_of until) (progress sent self.old) (left sent self.new)) }
+        ensures steps { (sent : List ℕ) → IfOk result (Steps (problem_of fraction_of ground.now) (T.telling (labels_of ground.now) (problem_of fraction_of ground.now))
+            (fraction_of until) (progress T.told sent self.old) (progress T.told sent self.new)) }
+        ensures stops { (sent : List ℕ) → IfErr result (HaltsOnWay (problem_of fraction_of ground.now) (T.telling (labels_of ground.now) (problem_of fraction_of ground.now))
+            (fraction_of until) (progress T.told sent self.old) (left T.told sent self.new)) }
         ensures fits { IfErr result (HaltFits (problem_of fraction_of ground.now)) }
     {
         let next = match self.timeline.advance(ground, until) {
             Ok(next) => next,
             Err(stop) => return Err(halted(stop)),
         };
-        write_next(&mut self.report, ground, &self.timeline, next)?;
+        self.teller.step(ground, &self.timeline, next)?;
         self.count(next)?;
         Ok(is_there(next))
     }
@@ -169,9 +119,9 @@ impl Run {
         out: &mut O,
     ) -> Result<(), Halt>
         requires can { CanReach (problem_of fraction_of ground.now) (fraction_of until) self.old.timeline }
-        ensures reaches { OnOk result (HandsOn progress progress (Reaches (labels_of ground.now) (problem_of fraction_of ground.now)
+        ensures reaches { OnOk result (HandsOn (progress T.told) (progress T.told) (Reaches (problem_of fraction_of ground.now) (T.telling (labels_of ground.now) (problem_of fraction_of ground.now))
             (fraction_of until)) self.old self.new (O.taken out.old) (O.taken out.new)) }
-        ensures stops { IfErr result (λ halt. HandsOn progress left (λ old new. HaltsOnWay (labels_of ground.now) (problem_of fraction_of ground.now)
+        ensures stops { IfErr result (λ halt. HandsOn (progress T.told) (left T.told) (λ old new. HaltsOnWay (problem_of fraction_of ground.now) (T.telling (labels_of ground.now) (problem_of fraction_of ground.now))
             (fraction_of until) old new halt) self.old self.new (O.taken out.old) (O.taken out.new)) }
         ensures cause { IfErr result (HasCause (problem_of fraction_of ground.now) (O.faults out.old) (O.faults out.new)) }
         ensures no_fall { O.faults out.old ≤ O.faults out.new }
@@ -187,29 +137,27 @@ impl Run {
         }
     }
 
-    // Hands on what is kept of the report, where it is much.
+    // Hands on what is told, where much of it waits.
     fn flush_much<O: Sink>(&mut self, out: &mut O) -> Result<(), Failed>
-        ensures goes { OnOk result (HandsOn progress progress StaysSo self.old self.new (O.taken out.old) (O.taken out.new)) }
-        ensures breaks { OnErr result (HandsOn progress left BreaksOffAt self.old self.new (O.taken out.old) (O.taken out.new)) }
+        ensures goes { OnOk result (StaysSo (progress T.told) self.old self.new (O.taken out.old) (O.taken out.new)) }
+        ensures breaks { OnErr result (RunBreaksOff T.told T.telling self.old self.new (O.taken out.old) (O.taken out.new)) }
         ensures cause { OnErr result (Rose (O.faults out.old) (O.faults out.new)) }
         ensures no_fall { O.faults out.old ≤ O.faults out.new }
     {
-        if self.report.bytes.len() > MUCH {
+        if self.teller.has_much() {
             return self.flush(out);
         }
         Ok(())
     }
 
-    /// Hands on what is kept of the report.
+    /// Hands on what is told.
     pub fn flush<O: Sink>(&mut self, out: &mut O) -> Result<(), Failed>
-        ensures goes { OnOk result (HandsOn progress progress StaysSo self.old self.new (O.taken out.old) (O.taken out.new)) }
-        ensures empty { OnOk result (self.new.report.bytes.items ≡ []) }
-        ensures breaks { OnErr result (HandsOn progress left BreaksOffAt self.old self.new (O.taken out.old) (O.taken out.new)) }
+        ensures goes { OnOk result (StaysSo (progress T.told) self.old self.new (O.taken out.old) (O.taken out.new)) }
+        ensures all { OnOk result (IsAllOut T.told T.telling self.new.teller) }
+        ensures breaks { OnErr result (RunBreaksOff T.told T.telling self.old self.new (O.taken out.old) (O.taken out.new)) }
         ensures cause { OnErr result (Rose (O.faults out.old) (O.faults out.new)) }
         ensures no_fall { O.faults out.old ≤ O.faults out.new }
     {
-        write_all(out, &self.report.bytes)?;
-        self.report.bytes.clear();
-        Ok(())
+        self.teller.hand_on(out)
     }
 }

@@ -14,11 +14,14 @@ ghost use Rattle.plus_validator.specs.Plans.{pair_in};
 ghost use Rattle.plus_validator.specs.Halts.{HaltFits};
 ghost use Rattle.plus_validator.specs.Playing.{IsGroundOf};
 ghost use Rattle.plus_validator.specs.PlayRules.{IsFresh};
+ghost use Rattle.plus_validator.specs.Told.{reports, report_told};
 ghost use Rattle.plus_validator.specs.Leaving.{StopsReading, BreaksOffSoFar, KeepsUp};
 ghost use Rattle.plus_validator.specs.Streaming.{IsPlayedFrom, IsPlayedThrough, ended, OnPlayed, OnReadFault, OnWriteFault, UnlessReadFault};
 
 use crate::halt::Halt;
+use crate::memory::Report;
 use crate::playing::Playing;
+use crate::teller::Teller;
 use plus_io::{QuietSink, Shelf, Sink};
 use plus_plan::PlanReader;
 use plus_play::{Pause, play_bytes, play_file};
@@ -51,7 +54,7 @@ fn ended(played: Result<(), Pause<Halt>>) -> Ending
 /// Reads the plan text under a name, and plays it as it comes. What a piece tells is handed on before the
 /// next is read, unless the run halts in it.
 pub fn play_plan<S: Shelf, O: Sink>(
-    playing: &mut Playing<'_, '_>,
+    playing: &mut Playing<'_, '_, Report>,
     reader: &mut PlanReader,
     alloc: Global,
     shelf: &mut S,
@@ -61,10 +64,10 @@ pub fn play_plan<S: Shelf, O: Sink>(
 ) -> Ending
     requires expands { IsGroundOf playing.old.instances.numbering.now.typed.now.domain playing.old.instances.numbering.now.typed.now.problem playing.old.ground.now }
     requires groundable { IsGroundable IsFrac64 playing.old.instances.numbering.now.typed.now.domain playing.old.instances.numbering.now.typed.now.problem }
-    requires fresh { IsFresh happenings playing.old }
+    requires fresh { IsFresh report_told reports happenings playing.old }
     requires reader { reader.old ≡ fresh Timed }
     ensures plays { OnPlayed result (IsPlayedFrom playing.old.instances.numbering.now.typed.now.domain playing.old.instances.numbering.now.typed.now.problem
-        (labels_of playing.old.ground.now) (problem_of fraction_of playing.old.ground.now) (S.bytes shelf.old plan.now) (progress [] playing.old.run) playing.new.run
+        (labels_of playing.old.ground.now) (problem_of fraction_of playing.old.ground.now) (S.bytes shelf.old plan.now) (progress report_told [] playing.old.run) playing.new.run
         (O.taken out.old) (O.taken out.new)) }
     ensures fits { OnPlayed result (λ played. IfErr played (HaltFits (problem_of fraction_of playing.old.ground.now))) }
     ensures read_fault { OnReadFault result (Rose (S.faults shelf.old) (S.faults shelf.new)
@@ -84,18 +87,19 @@ pub fn play_plan<S: Shelf, O: Sink>(
 }
 
 /// Plays the plan text that stands in these bytes. What is told is let go as it comes to be much.
-pub fn play_text(
-    playing: &mut Playing<'_, '_>,
+pub fn play_text<T: Teller>(
+    playing: &mut Playing<'_, '_, T>,
     reader: &mut PlanReader,
     alloc: Global,
     bytes: &[u8],
     happenings: u64,
 ) -> Result<(), Halt>
     requires expands { IsGroundOf playing.old.instances.numbering.now.typed.now.domain playing.old.instances.numbering.now.typed.now.problem playing.old.ground.now }
-    requires fresh { IsFresh happenings playing.old }
+    requires fresh { IsFresh T.told T.telling happenings playing.old }
     requires reader { reader.old ≡ fresh Timed }
-    ensures played { IsPlayedThrough (pair_in playing.old.instances.numbering.now.typed.now) (labels_of playing.old.ground.now) (problem_of fraction_of playing.old.ground.now)
-        bytes.now (progress [] playing.old.run) playing.new.run result }
+    ensures played { IsPlayedThrough (pair_in playing.old.instances.numbering.now.typed.now) (problem_of fraction_of playing.old.ground.now)
+        (T.telling (labels_of playing.old.ground.now) (problem_of fraction_of playing.old.ground.now)) T.told
+        bytes.now (progress T.told [] playing.old.run) playing.new.run result }
     ensures fits { IfErr result (HaltFits (problem_of fraction_of playing.old.ground.now)) }
 {
     let mut quiet = QuietSink::new();

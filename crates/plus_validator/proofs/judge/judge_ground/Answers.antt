@@ -1,11 +1,12 @@
 use Rattle.std.specs.Prelude.{[], IfOk, Result, Ok, Err}
 use Rattle.plus_number.specs.Frac.{fraction_of}
 use Rattle.plus_state.specs.View.{problem_of, labels_of}
-use Rattle.plus_validator.specs.declared.judgement.Judgement.{Judgement}
+use Rattle.plus_validator.specs.declared.judge.Judged.{Judged}
 use Rattle.plus_validator.specs.Account.{progress}
-use Rattle.plus_validator.specs.Judged.{SumsUp}
+use Rattle.plus_validator.specs.Told.{silence, silent_told}
+use Rattle.plus_validator.specs.Judged.{Says}
 use Rattle.plus_validator.specs.Verdicts.{JudgesText}
-use Rattle.plus_validator.proofs.Judging.{judged}
+use Rattle.plus_validator.proofs.Judging.{judged_silently}
 use Rattle.plus_validator.proofs.Endings.{played_same}
 use Rattle.plus_validator.proofs.judge.judge_ground.Goals as goal
 
@@ -27,11 +28,11 @@ returns c =
     let P = problem_of fraction_of c.args.ground.now in
     let played = c.play_text-played.ensures.played in
     record {
-      judged = if_ok c.sum_up-judgement.result (SumsUp N P c.play_text-played.new.playing.run c.play_text-played.result) (λ (j : Judgement). JudgesText d p c.args.happenings c.args.bytes.now j.judged)
-          (λ (j : Judgement) u.
-          (judged d p N P c.args.happenings c.args.bytes.now (progress [] c.in_ok-run.run') played.gone c.play_text-played.new.playing.run c.requires.groundable j c.play_text-played.result
+      judged = if_ok c.say-judged.result (Says N P c.play_text-played.new.playing.run c.play_text-played.result) (JudgesText d p c.args.happenings c.args.bytes.now)
+          (λ (j : Judged) u.
+          judged_silently silent_told (λ M Q. silence Q) d p N P c.args.happenings c.args.bytes.now (progress silent_told [] c.in_ok-run.run') played.gone c.play_text-played.new.playing.run c.requires.groundable j c.play_text-played.result
           c.requires.expands.expands c.requires.expands.labels c.in_ok-run.ensures.begins
-          (played_same _ _ N P c.new-instances.ensures.of c.args.bytes.now (progress [] c.in_ok-run.run') played.gone c.play_text-played.new.playing.run
-          c.play_text-played.result played.out) c.play_text-played.ensures.fits u).judged)
-          c.sum_up-judgement.ensures.sums;
+          (played_same _ _ P (silence P) silent_told c.new-instances.ensures.of c.args.bytes.now (progress silent_told [] c.in_ok-run.run') played.gone c.play_text-played.new.playing.run
+          c.play_text-played.result played.out) c.play_text-played.ensures.fits u)
+          c.say-judged.ensures.says;
     }

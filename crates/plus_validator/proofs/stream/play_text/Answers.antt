@@ -6,20 +6,20 @@ use Rattle.plus_validator.proofs.Endings.{plays_through, fits_through}
 use Rattle.plus_validator.proofs.stream.play_text.Goals as goal
 
 pub play_bytes-requires-clause-can : goal.play_bytes-requires-clause-can
-play_bytes-requires-clause-can c = fresh_can _ c.args.playing.now c.requires.expands c.requires.fresh
+play_bytes-requires-clause-can g c = fresh_can g.T.Teller.told g.T.Teller.telling _ c.args.playing.now c.requires.expands c.requires.fresh
 
 pub play_bytes-requires-clause-begun : goal.play_bytes-requires-clause-begun
-play_bytes-requires-clause-begun c = fresh_played _ _ _ c.args.playing.now _ c.requires.fresh
+play_bytes-requires-clause-begun g c = fresh_played g.T.Teller.told g.T.Teller.telling _ _ _ c.args.playing.now _ c.requires.fresh
 
 pub play_bytes-requires-clause-fresh : goal.play_bytes-requires-clause-fresh
-play_bytes-requires-clause-fresh c = fresh_so _ c.args.reader.now c.requires.reader
+play_bytes-requires-clause-fresh g c = fresh_so _ c.args.reader.now c.requires.reader
 
 pub returns-clause-played : goal.returns-clause-played
-returns-clause-played c =
-    plays_through _ _ c.args.playing.now _ c.play_bytes.new.player _ c.args.reader.now.form (ap (λ (r : Pending). r.form) c.requires.reader) c.args.bytes.now
+returns-clause-played g c =
+    plays_through g.T.Teller.told g.T.Teller.telling _ _ c.args.playing.now _ c.play_bytes.new.player _ c.args.reader.now.form (ap (λ (r : Pending). r.form) c.requires.reader) c.args.bytes.now
     c.play_bytes.result c.play_bytes.ensures.plays c.play_bytes.ensures.halts
 
 pub returns-clause-fits : goal.returns-clause-fits
-returns-clause-fits c =
-    fits_through _ _ c.args.playing.now _ c.play_bytes.new.player _ c.args.reader.now.form (ap (λ (r : Pending). r.form) c.requires.reader) c.args.bytes.now
+returns-clause-fits g c =
+    fits_through g.T.Teller.told g.T.Teller.telling _ _ c.args.playing.now _ c.play_bytes.new.player _ c.args.reader.now.form (ap (λ (r : Pending). r.form) c.requires.reader) c.args.bytes.now
     c.play_bytes.result refl refl c.play_bytes.ensures.halts

@@ -17,7 +17,7 @@ use Rattle.plus_expansion.specs.Calls.{called_of}
 use Rattle.plus_model.specs.Plan.{ActLine, EndLine}
 use Rattle.plus_plan.specs.declared.forms.Line.{Line}
 use Rattle.plus_plan.specs.declared.forms.Line.TheVariants as lines
-use Rattle.plus_validator.specs.Stopped.{HaltsOnWay, HaltsInAct, HaltsAtMoment, HaltsInLine}
+use Rattle.plus_validator.specs.Stopped.{HaltsOnWay, HaltsInLine}
 use Rattle.plus_validator.proofs.LineStops.{halts_by_time, halts_before, halts_in_act, halts_behind, on_err}
 use Rattle.plus_validator.proofs.run.Run.line.Goals as goal
 
@@ -27,26 +27,28 @@ on_ok (Err e) P Q f h = h
 
 pub returns-in_ok-act-in-Act-clause-plays : goal.returns-in_ok-act-in-Act-clause-plays
 returns-in_ok-act-in-Act-clause-plays g c =
-    let N = labels_of c.args.ground.now in
     let P = problem_of fraction_of c.args.ground.now in
+    let T = g.T.Teller.telling (labels_of c.args.ground.now) P in
+    let told = g.T.Teller.told in
     let d = (pair_in c.args.instances.now.numbering.now.typed.now) in
     on_ok c.reach-in-Act.result _ _ (λ r.
     hands_then c.in_ok-reach-in-Act.ensures.reaches r (λ sent mid out x y.
-    subst (λ l. PlaysLine d N P l (progress sent c.args.self.now) (progress out c.reach-in-Act.new.self)) (sym c.in-Act.is)
-    (act_played d N P c.in-Act.line c.in-Act.time c.in-Act.call c.in_ok-until-in-Act.until (fraction_of c.time-now.result)
-    (progress sent c.args.self.now) (progress mid c.reach.new.self) (progress mid c.act.new.self) (progress out c.reach-in-Act.new.self)
+    subst (λ l. PlaysLine d P T l (progress g.T.Teller.told sent c.args.self.now) (progress g.T.Teller.told out c.reach-in-Act.new.self)) (sym c.in-Act.is)
+    (act_played d P T c.in-Act.line c.in-Act.time c.in-Act.call c.in_ok-until-in-Act.until (fraction_of c.time-now.result)
+    (progress g.T.Teller.told sent c.args.self.now) (progress g.T.Teller.told mid c.reach.new.self) (progress g.T.Teller.told mid c.act.new.self) (progress g.T.Teller.told out c.reach-in-Act.new.self)
     c.in_ok-until-in-Act.ensures.ok x (c.in_ok-act-in-Act.ensures.acts mid) c.time-now.ensures y)))
     c.reach-in-Act.ensures.reaches
 
 pub returns-in_ok-reach-in-End-clause-plays : goal.returns-in_ok-reach-in-End-clause-plays
 returns-in_ok-reach-in-End-clause-plays g c =
-    let N = labels_of c.args.ground.now in
     let P = problem_of fraction_of c.args.ground.now in
+    let T = g.T.Teller.telling (labels_of c.args.ground.now) P in
+    let told = g.T.Teller.told in
     let d = (pair_in c.args.instances.now.numbering.now.typed.now) in
-    let new : Run = record { timeline = c.reach-in-End.new.self.timeline; report = c.reach-in-End.new.self.report; entries = c.reach-in-End.new.self.entries; firings = c.reach-in-End.new.self.firings; ended = true } in
+    let new : Run g.row.T.Denot = record { timeline = c.reach-in-End.new.self.timeline; teller = c.reach-in-End.new.self.teller; entries = c.reach-in-End.new.self.entries; firings = c.reach-in-End.new.self.firings; ended = true } in
     hands_map c.in_ok-reach-in-End.ensures.reaches (λ sent out x.
-    subst (λ l. PlaysLine d N P l (progress sent c.args.self.now) (progress out new)) (sym c.in-End.is)
-    (end_played d N P c.in-End.line c.in-End.time c.in_ok-until-in-End.until (progress sent c.args.self.now) (progress out c.reach-in-End.new.self) (progress out new)
+    subst (λ l. PlaysLine d P T l (progress g.T.Teller.told sent c.args.self.now) (progress g.T.Teller.told out new)) (sym c.in-End.is)
+    (end_played d P T c.in-End.line c.in-End.time c.in_ok-until-in-End.until (progress g.T.Teller.told sent c.args.self.now) (progress g.T.Teller.told out c.reach-in-End.new.self) (progress g.T.Teller.told out new)
     c.in_ok-until-in-End.ensures.ok x refl refl refl))
 
 pub returns-in-Blank-clause-plays : goal.returns-in-Blank-clause-plays
@@ -56,8 +58,8 @@ returns-in-Blank-clause-plays g c =
       | inr e ↦ subst IsNoLine (sym e.2) tt
     ] in
     hands_none _ (λ sent.
-    nothing_played (pair_in c.args.instances.now.numbering.now.typed.now) (labels_of c.args.ground.now) (problem_of fraction_of c.args.ground.now)
-    c.args.read.now (progress sent c.args.self.now) q c.requires.can c.requires.moment)
+    nothing_played (pair_in c.args.instances.now.numbering.now.typed.now) (problem_of fraction_of c.args.ground.now) (g.T.Teller.telling (labels_of c.args.ground.now) (problem_of fraction_of c.args.ground.now))
+    c.args.read.now (progress g.T.Teller.told sent c.args.self.now) q c.requires.can c.requires.moment)
 
 -- ---- why it halts
 
@@ -93,90 +95,96 @@ returns-in_ok-act-in-Act-clause-cause g c =
 
 pub returns-in_err-until-in-Act-clause-stops : goal.returns-in_err-until-in-Act-clause-stops
 returns-in_err-until-in-Act-clause-stops g c =
-    let N = labels_of c.args.ground.now in
     let P = problem_of fraction_of c.args.ground.now in
+    let T = g.T.Teller.telling (labels_of c.args.ground.now) P in
+    let told = g.T.Teller.told in
     let d = (pair_in c.args.instances.now.numbering.now.typed.now) in
     let line : Line = lines.Act c.in-Act.line c.in-Act.time c.in-Act.call in
-    let Q : Halt → Type 0 = λ h. HandsOn progress left (λ old new. HaltsInLine d N P c.args.read.now old new h) c.args.self.now c.args.self.now (g.O.Sink.taken c.args.out.now) (g.O.Sink.taken c.args.out.now) in
+    let Q : Halt → Type 0 = λ h. HandsOn (progress g.T.Teller.told) (left g.T.Teller.told) (λ old new. HaltsInLine d P T c.args.read.now old new h) c.args.self.now c.args.self.now (g.O.Sink.taken c.args.out.now) (g.O.Sink.taken c.args.out.now) in
     from_err c.from_residual.result (λ (h : Halt). h ≡ c.in_err-until-in-Act.field-0.0) Q c.from_residual.ensures.1
     (λ h e. subst Q (sym e)
     (hands_none _ (λ sent.
-    subst (λ (l : Line). HaltsInLine d N P l (progress sent c.args.self.now) (left sent c.args.self.now) c.in_err-until-in-Act.field-0.0) (sym c.in-Act.is)
-    (halts_by_time d N P line (ActLine (value_of c.in-Act.time) (called_of d.domain d.problem c.in-Act.call.name c.in-Act.call.args)) c.in-Act.time (progress sent c.args.self.now) sent c.in_err-until-in-Act.field-0.0 refl refl refl c.requires.can
-    (c.in_err-until-in-Act.ensures.stops sent)))))
+    subst (λ (l : Line). HaltsInLine d P T l (progress g.T.Teller.told sent c.args.self.now) (left g.T.Teller.told sent c.args.self.now) c.in_err-until-in-Act.field-0.0) (sym c.in-Act.is)
+    (halts_by_time d P T line (ActLine (value_of c.in-Act.time) (called_of d.domain d.problem c.in-Act.call.name c.in-Act.call.args)) c.in-Act.time (progress g.T.Teller.told sent c.args.self.now) sent c.in_err-until-in-Act.field-0.0 refl refl refl c.requires.can
+    (c.in_err-until-in-Act.ensures.stops (labels_of c.args.ground.now) P sent)))))
 
 pub returns-in_err-until-in-End-clause-stops : goal.returns-in_err-until-in-End-clause-stops
 returns-in_err-until-in-End-clause-stops g c =
-    let N = labels_of c.args.ground.now in
     let P = problem_of fraction_of c.args.ground.now in
+    let T = g.T.Teller.telling (labels_of c.args.ground.now) P in
+    let told = g.T.Teller.told in
     let d = (pair_in c.args.instances.now.numbering.now.typed.now) in
     let line : Line = lines.End c.in-End.line c.in-End.time in
-    let Q : Halt → Type 0 = λ h. HandsOn progress left (λ old new. HaltsInLine d N P c.args.read.now old new h) c.args.self.now c.args.self.now (g.O.Sink.taken c.args.out.now) (g.O.Sink.taken c.args.out.now) in
+    let Q : Halt → Type 0 = λ h. HandsOn (progress g.T.Teller.told) (left g.T.Teller.told) (λ old new. HaltsInLine d P T c.args.read.now old new h) c.args.self.now c.args.self.now (g.O.Sink.taken c.args.out.now) (g.O.Sink.taken c.args.out.now) in
     from_err c.from_residual-in_err-until-in-End.result (λ (h : Halt). h ≡ c.in_err-until-in-End.field-0.0) Q c.from_residual-in_err-until-in-End.ensures.1
     (λ h e. subst Q (sym e)
     (hands_none _ (λ sent.
-    subst (λ (l : Line). HaltsInLine d N P l (progress sent c.args.self.now) (left sent c.args.self.now) c.in_err-until-in-End.field-0.0) (sym c.in-End.is)
-    (halts_by_time d N P line (EndLine (value_of c.in-End.time)) c.in-End.time (progress sent c.args.self.now) sent c.in_err-until-in-End.field-0.0 refl refl refl c.requires.can
-    (c.in_err-until-in-End.ensures.stops sent)))))
+    subst (λ (l : Line). HaltsInLine d P T l (progress g.T.Teller.told sent c.args.self.now) (left g.T.Teller.told sent c.args.self.now) c.in_err-until-in-End.field-0.0) (sym c.in-End.is)
+    (halts_by_time d P T line (EndLine (value_of c.in-End.time)) c.in-End.time (progress g.T.Teller.told sent c.args.self.now) sent c.in_err-until-in-End.field-0.0 refl refl refl c.requires.can
+    (c.in_err-until-in-End.ensures.stops (labels_of c.args.ground.now) P sent)))))
 
 pub returns-in_err-reach-in-Act-clause-stops : goal.returns-in_err-reach-in-Act-clause-stops
 returns-in_err-reach-in-Act-clause-stops g c =
-    let N = labels_of c.args.ground.now in
     let P = problem_of fraction_of c.args.ground.now in
+    let T = g.T.Teller.telling (labels_of c.args.ground.now) P in
+    let told = g.T.Teller.told in
     let d = (pair_in c.args.instances.now.numbering.now.typed.now) in
     let line : Line = lines.Act c.in-Act.line c.in-Act.time c.in-Act.call in
     let at = c.in_ok-until-in-Act.until in
-    let Q : Halt → Type 0 = λ h. HandsOn progress left (λ old new. HaltsInLine d N P c.args.read.now old new h) c.args.self.now c.reach.new.self (g.O.Sink.taken c.args.out.now) (g.O.Sink.taken c.reach.new.out) in
+    let Q : Halt → Type 0 = λ h. HandsOn (progress g.T.Teller.told) (left g.T.Teller.told) (λ old new. HaltsInLine d P T c.args.read.now old new h) c.args.self.now c.reach.new.self (g.O.Sink.taken c.args.out.now) (g.O.Sink.taken c.reach.new.out) in
     from_err c.from_residual-in_err-reach-in-Act.result (λ (h : Halt). h ≡ c.in_err-reach-in-Act.field-0.0) Q c.from_residual-in_err-reach-in-Act.ensures.1
     (λ h e. subst Q (sym e)
     (hands_map c.in_err-reach-in-Act.ensures.stops (λ sent out k.
-    subst (λ (l : Line). HaltsInLine d N P l (progress sent c.args.self.now) (left out c.reach.new.self) c.in_err-reach-in-Act.field-0.0) (sym c.in-Act.is)
-    (halts_before d N P line (ActLine (value_of c.in-Act.time) (called_of d.domain d.problem c.in-Act.call.name c.in-Act.call.args)) c.in-Act.time at (progress sent c.args.self.now) (left out c.reach.new.self) c.in_err-reach-in-Act.field-0.0 refl refl (λ t k. k)
+    subst (λ (l : Line). HaltsInLine d P T l (progress g.T.Teller.told sent c.args.self.now) (left g.T.Teller.told out c.reach.new.self) c.in_err-reach-in-Act.field-0.0) (sym c.in-Act.is)
+    (halts_before d P T line (ActLine (value_of c.in-Act.time) (called_of d.domain d.problem c.in-Act.call.name c.in-Act.call.args)) c.in-Act.time at (progress g.T.Teller.told sent c.args.self.now) (left g.T.Teller.told out c.reach.new.self) c.in_err-reach-in-Act.field-0.0 refl refl (λ t k. k)
     c.in_ok-until-in-Act.ensures.ok k))))
 
 pub returns-in_err-reach-in-End-clause-stops : goal.returns-in_err-reach-in-End-clause-stops
 returns-in_err-reach-in-End-clause-stops g c =
-    let N = labels_of c.args.ground.now in
     let P = problem_of fraction_of c.args.ground.now in
+    let T = g.T.Teller.telling (labels_of c.args.ground.now) P in
+    let told = g.T.Teller.told in
     let d = (pair_in c.args.instances.now.numbering.now.typed.now) in
     let line : Line = lines.End c.in-End.line c.in-End.time in
     let at = c.in_ok-until-in-End.until in
-    let Q : Halt → Type 0 = λ h. HandsOn progress left (λ old new. HaltsInLine d N P c.args.read.now old new h) c.args.self.now c.reach-in-End.new.self (g.O.Sink.taken c.args.out.now) (g.O.Sink.taken c.reach-in-End.new.out) in
+    let Q : Halt → Type 0 = λ h. HandsOn (progress g.T.Teller.told) (left g.T.Teller.told) (λ old new. HaltsInLine d P T c.args.read.now old new h) c.args.self.now c.reach-in-End.new.self (g.O.Sink.taken c.args.out.now) (g.O.Sink.taken c.reach-in-End.new.out) in
     from_err c.from_residual-in_err-reach-in-End.result (λ (h : Halt). h ≡ c.in_err-reach-in-End.field-0.0) Q c.from_residual-in_err-reach-in-End.ensures.1
     (λ h e. subst Q (sym e)
     (hands_map c.in_err-reach-in-End.ensures.stops (λ sent out k.
-    subst (λ (l : Line). HaltsInLine d N P l (progress sent c.args.self.now) (left out c.reach-in-End.new.self) c.in_err-reach-in-End.field-0.0) (sym c.in-End.is)
-    (halts_before d N P line (EndLine (value_of c.in-End.time)) c.in-End.time at (progress sent c.args.self.now) (left out c.reach-in-End.new.self) c.in_err-reach-in-End.field-0.0 refl refl (λ t k. k)
+    subst (λ (l : Line). HaltsInLine d P T l (progress g.T.Teller.told sent c.args.self.now) (left g.T.Teller.told out c.reach-in-End.new.self) c.in_err-reach-in-End.field-0.0) (sym c.in-End.is)
+    (halts_before d P T line (EndLine (value_of c.in-End.time)) c.in-End.time at (progress g.T.Teller.told sent c.args.self.now) (left g.T.Teller.told out c.reach-in-End.new.self) c.in_err-reach-in-End.field-0.0 refl refl (λ t k. k)
     c.in_ok-until-in-End.ensures.ok k))))
 
 pub returns-in_err-act-in-Act-clause-stops : goal.returns-in_err-act-in-Act-clause-stops
 returns-in_err-act-in-Act-clause-stops g c =
-    let N = labels_of c.args.ground.now in
     let P = problem_of fraction_of c.args.ground.now in
+    let T = g.T.Teller.telling (labels_of c.args.ground.now) P in
+    let told = g.T.Teller.told in
     let d = (pair_in c.args.instances.now.numbering.now.typed.now) in
     let at = c.in_ok-until-in-Act.until in
-    let Q : Halt → Type 0 = λ h. HandsOn progress left (λ old new. HaltsInLine d N P c.args.read.now old new h) c.args.self.now c.act.new.self (g.O.Sink.taken c.args.out.now) (g.O.Sink.taken c.reach.new.out) in
+    let Q : Halt → Type 0 = λ h. HandsOn (progress g.T.Teller.told) (left g.T.Teller.told) (λ old new. HaltsInLine d P T c.args.read.now old new h) c.args.self.now c.act.new.self (g.O.Sink.taken c.args.out.now) (g.O.Sink.taken c.reach.new.out) in
     from_err c.from_residual-in_err-act-in-Act.result (λ (h : Halt). h ≡ c.in_err-act-in-Act.field-0.0) Q c.from_residual-in_err-act-in-Act.ensures.1
     (λ h e. subst Q (sym e)
     (hands_map c.in_ok-reach-in-Act.ensures.reaches (λ sent out x.
-    subst (λ (l : Line). HaltsInLine d N P l (progress sent c.args.self.now) (left out c.act.new.self) c.in_err-act-in-Act.field-0.0) (sym c.in-Act.is)
-    (halts_in_act d N P c.in-Act.line c.in-Act.time c.in-Act.call at (progress sent c.args.self.now) (progress out c.reach.new.self) c.in_ok-until-in-Act.ensures.ok x
-    (left out c.act.new.self) c.in_err-act-in-Act.field-0.0 (c.in_err-act-in-Act.ensures.stops out)))))
+    subst (λ (l : Line). HaltsInLine d P T l (progress g.T.Teller.told sent c.args.self.now) (left g.T.Teller.told out c.act.new.self) c.in_err-act-in-Act.field-0.0) (sym c.in-Act.is)
+    (halts_in_act d P T c.in-Act.line c.in-Act.time c.in-Act.call at (progress g.T.Teller.told sent c.args.self.now) (progress g.T.Teller.told out c.reach.new.self) c.in_ok-until-in-Act.ensures.ok x
+    (left g.T.Teller.told out c.act.new.self) c.in_err-act-in-Act.field-0.0 (c.in_err-act-in-Act.ensures.stops out)))))
 
 pub returns-in_ok-act-in-Act-clause-stops : goal.returns-in_ok-act-in-Act-clause-stops
 returns-in_ok-act-in-Act-clause-stops g c =
-    let N = labels_of c.args.ground.now in
     let P = problem_of fraction_of c.args.ground.now in
+    let T = g.T.Teller.telling (labels_of c.args.ground.now) P in
+    let told = g.T.Teller.told in
     let d = (pair_in c.args.instances.now.numbering.now.typed.now) in
     let at = c.in_ok-until-in-Act.until in
     let now = fraction_of c.time-now.result in
     on_err c.reach-in-Act.result
-    (λ (h : Halt). HandsOn progress left (λ old new. HaltsOnWay N P now old new h) c.act.new.self c.reach-in-Act.new.self (g.O.Sink.taken c.reach.new.out) (g.O.Sink.taken c.reach-in-Act.new.out))
-    (λ (h : Halt). HandsOn progress left (λ old new. HaltsInLine d N P c.args.read.now old new h) c.args.self.now c.reach-in-Act.new.self (g.O.Sink.taken c.args.out.now) (g.O.Sink.taken c.reach-in-Act.new.out))
+    (λ (h : Halt). HandsOn (progress g.T.Teller.told) (left g.T.Teller.told) (λ old new. HaltsOnWay P T now old new h) c.act.new.self c.reach-in-Act.new.self (g.O.Sink.taken c.reach.new.out) (g.O.Sink.taken c.reach-in-Act.new.out))
+    (λ (h : Halt). HandsOn (progress g.T.Teller.told) (left g.T.Teller.told) (λ old new. HaltsInLine d P T c.args.read.now old new h) c.args.self.now c.reach-in-Act.new.self (g.O.Sink.taken c.args.out.now) (g.O.Sink.taken c.reach-in-Act.new.out))
     (λ h s. hands_then c.in_ok-reach-in-Act.ensures.reaches s (λ sent mid out x y.
-    subst (λ (l : Line). HaltsInLine d N P l (progress sent c.args.self.now) (left out c.reach-in-Act.new.self) h) (sym c.in-Act.is)
-    (halts_behind d N P c.in-Act.line c.in-Act.time c.in-Act.call at (progress sent c.args.self.now) (progress mid c.reach.new.self) c.in_ok-until-in-Act.ensures.ok x
-    (progress mid c.act.new.self) (left out c.reach-in-Act.new.self) now h (c.in_ok-act-in-Act.ensures.acts mid) c.time-now.ensures y)))
+    subst (λ (l : Line). HaltsInLine d P T l (progress g.T.Teller.told sent c.args.self.now) (left g.T.Teller.told out c.reach-in-Act.new.self) h) (sym c.in-Act.is)
+    (halts_behind d P T c.in-Act.line c.in-Act.time c.in-Act.call at (progress g.T.Teller.told sent c.args.self.now) (progress g.T.Teller.told mid c.reach.new.self) c.in_ok-until-in-Act.ensures.ok x
+    (progress g.T.Teller.told mid c.act.new.self) (left g.T.Teller.told out c.reach-in-Act.new.self) now h (c.in_ok-act-in-Act.ensures.acts mid) c.time-now.ensures y)))
     c.reach-in-Act.ensures.stops
 
 -- ---- what the calls ask

@@ -9,7 +9,7 @@ use Rattle.plus_validator.proofs.run.Run.reach.Given as goal
 
 abbrev pub invariant-steps : goal.invariant-steps
 invariant-steps g l = record {
-  goes : HandsOn progress progress (Along (labels_of l.ground) (problem_of fraction_of l.ground) (fraction_of l.until)) l.initial.self l.self
+  goes : HandsOn (progress g.T.Teller.told) (progress g.T.Teller.told) (Along (problem_of fraction_of l.ground) (g.T.Teller.telling (labels_of l.ground) (problem_of fraction_of l.ground)) (fraction_of l.until)) l.initial.self l.self
       (g.O.Sink.taken l.initial.out) (g.O.Sink.taken l.out);
   no_fall : g.O.Sink.faults l.initial.out ≤ g.O.Sink.faults l.out;
 }

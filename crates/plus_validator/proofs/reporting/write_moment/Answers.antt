@@ -4,7 +4,7 @@ use Rattle.plus_number.specs.Frac.{fraction_of}
 use Rattle.plus_state.specs.Changes.{RisesIn}
 use Rattle.plus_state.specs.View.{problem_of, labels_of}
 use Rattle.plus_validator.proofs.Shown.{rises_on_arrival, moment_line, moment_plain, moment_literals, where_written}
-use Rattle.plus_validator.proofs.run.write_moment.Goals as goal
+use Rattle.plus_validator.proofs.reporting.write_moment.Goals as goal
 
 pub write_entry_changes-requires-clause-changes : goal.write_entry_changes-requires-clause-changes
 write_entry_changes-requires-clause-changes c = subst (λ (s : State). RisesIn s c.changes.result.now) (sym c.before-2.ensures.state) c.changes.ensures.rises

@@ -4,7 +4,7 @@ use Rattle.plus_number.specs.Frac.{fraction_of}
 use Rattle.plus_state.specs.Changes.{RisesIn}
 use Rattle.plus_state.specs.View.{problem_of}
 use Rattle.plus_validator.proofs.Shown.{events_shown, running_shown}
-use Rattle.plus_validator.proofs.run.write_next.Goals as goal
+use Rattle.plus_validator.proofs.reporting.write_next.Goals as goal
 
 pub write_round_changes-requires-clause-events : goal.write_round_changes-requires-clause-events
 write_round_changes-requires-clause-events c = events_shown (problem_of fraction_of c.args.ground.now) c.args.timeline.now.line c.args.next c.events.result.now c.in-Round.is c.requires.shown c.events.ensures
