@@ -1,10 +1,15 @@
 //! What a domain and a problem declare, by their tokens.
 
+use plus_expected::say::{append_all, append_line};
 use plus_expected::{Nearest, Outline};
 use plus_tokens::Kind;
+use std::alloc::AllocError;
 
 /// The sections with heads.
 pub static HEADS: [&str; 2] = [":predicates", ":functions"];
+
+/// The most names that are listed.
+const MOST: usize = 6;
 
 /// The number of the name under which a section declares a predicate or a function.
 pub fn head(outline: &Outline<'_>, section: &str, name: &[u8]) -> Option<usize> {
@@ -79,35 +84,84 @@ pub fn member(outline: &Outline<'_>, section: &str, name: &[u8]) -> Option<usize
     None
 }
 
-/// Offers the members of the list of a section.
-pub fn offer_members<'a>(nearest: &mut Nearest<'a>, outline: &Outline<'a>, section: &str) {
-    let Some(first) = outline.section(section) else {
-        return;
-    };
-    for number in first..outline.close_of(first) {
-        if is_member(outline, number) {
-            nearest.offer(outline.word(number));
-        }
+// Appends a name of a list behind so many others: behind what they are where it is the first.
+fn append_listed(
+    into: &mut Vec<u8>,
+    name: &str,
+    before: usize,
+    what: &str,
+) -> Result<(), AllocError> {
+    if before == MOST {
+        return append_all(into, &[" .."]);
     }
+    append_all(into, &[if before == 0 { what } else { ", " }, name])
 }
 
-/// Offers the names of the heads of a section.
-pub fn offer_heads<'a>(nearest: &mut Nearest<'a>, outline: &Outline<'a>, section: &str) {
-    let Some(first) = outline.section(section) else {
-        return;
-    };
-    for number in first..outline.close_of(first) {
-        if number > first && outline.opens(number) {
-            nearest.offer(outline.word(number.saturating_add(1)));
-        }
-    }
+/// How the names are declared that are looked through.
+#[derive(Clone, Copy, PartialEq, Eq)]
+pub enum How {
+    /// As members of the list of a section.
+    Members,
+    /// As heads of a section.
+    Heads,
+    /// As actions, processes or events.
+    Schemas,
 }
 
-/// Offers the names of the actions, the processes or the events.
-pub fn offer_schemas<'a>(nearest: &mut Nearest<'a>, outline: &Outline<'a>, keyword: &str) {
-    for number in 0..outline.len() {
-        if outline.is(number, keyword) {
-            nearest.offer(outline.word(number.saturating_add(1)));
+/// The names that are declared behind a keyword.
+#[derive(Clone, Copy)]
+pub struct Names<'a, 'b> {
+    pub outline: &'b Outline<'a>,
+    pub keyword: &'static str,
+    pub how: How,
+}
+
+impl<'a> Names<'a, '_> {
+    // The numbers of the tokens among which they stand.
+    fn bounds(&self) -> (usize, usize) {
+        if self.how == How::Schemas {
+            return (0, self.outline.len());
         }
+        match self.outline.section(self.keyword) {
+            Some(first) => (first, self.outline.close_of(first)),
+            None => (0, 0),
+        }
+    }
+
+    // Whether a token is one of them, where the first of those tokens has this number.
+    fn has(&self, number: usize, first: usize) -> bool {
+        let before = number.saturating_sub(1);
+        match self.how {
+            How::Members => is_member(self.outline, number),
+            How::Heads => before > first && self.outline.opens(before),
+            How::Schemas => number > 0 && self.outline.is(before, self.keyword),
+        }
+    }
+
+    /// Offers them.
+    pub fn offer(&self, nearest: &mut Nearest<'a>) {
+        let (first, close) = self.bounds();
+        for number in first..close {
+            if self.has(number, first) {
+                nearest.offer(self.outline.word(number));
+            }
+        }
+    }
+
+    /// Appends the first of them behind what they are, as a line, where there is one.
+    pub fn append(&self, into: &mut Vec<u8>, what: &str) -> Result<(), AllocError> {
+        let (first, close) = self.bounds();
+        let mut count = 0usize;
+        for number in first..close {
+            if !self.has(number, first) || count > MOST {
+                continue;
+            }
+            append_listed(into, self.outline.text(number), count, what)?;
+            count = count.saturating_add(1);
+        }
+        if count > 0 {
+            append_line(into, &[])?;
+        }
+        Ok(())
     }
 }

@@ -9,7 +9,7 @@ struct Guide {
     section: &'static str,
 }
 
-static GUIDES: [Guide; 17] = [
+static GUIDES: [Guide; 18] = [
     Guide {
         words: " is unsettled",
         section: "A process that slides",
@@ -39,12 +39,16 @@ static GUIDES: [Guide; 17] = [
         section: "Numbers that stay small",
     },
     Guide {
+        words: "beyond: literal ",
+        section: "Numbers that stay small",
+    },
+    Guide {
         words: "beyond: nonlinear in ",
         section: "Rates that read moving numbers",
     },
     Guide {
         words: "beyond: happenings ",
-        section: "Numbers that stay small",
+        section: "Plans of many moments",
     },
     Guide {
         words: "beyond: more than ",

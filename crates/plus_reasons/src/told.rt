@@ -1,8 +1,11 @@
 //! All that is told of a verdict by the tokens of its texts.
 
+use crate::hints::append_hint;
+use crate::literals::append_literals;
 use crate::plans::{append_bad_line, append_plan};
 use crate::typing::append_typing;
 use crate::world::append_world;
+use plus_expected::say::append_line;
 use plus_expected::{File, Whole, append_text};
 use plus_explain::{Bytes, Kept, Named};
 use plus_io::Shelf;
@@ -47,6 +50,7 @@ fn append_bad_text<S: Shelf + Drop>(
         return Ok(());
     };
     append_text(into, file, whole, named.why, at)?;
+    append_hint(into, file, named.why, at)?;
     let Some(domain) = File::of(words, shelf, "domain") else {
         return Ok(());
     };
@@ -71,6 +75,20 @@ fn append_refused<S: Shelf + Drop>(
     }
 }
 
+// Appends what a limit means, and how a plan may enter more moments.
+fn append_limit(into: &mut Vec<u8>, verdict: &str) -> Result<(), AllocError> {
+    if verdict.starts_with("beyond: happenings ") && !verdict.ends_with(" 1000000") {
+        let more =
+            "--happenings N behind the words of check lets a plan enter N moments, up to 1000000";
+        return append_line(into, &[more]);
+    }
+    if verdict.starts_with("beyond: literal ") {
+        let why = "its value is no fraction with both parts below 2^63";
+        return append_line(into, &[why]);
+    }
+    Ok(())
+}
+
 /// Appends what the tokens of the texts tell of a verdict: what was expected where a text is none, and which other place a
 /// fault of typing has to do with; what an unknown action is; why the world does not go on, and who moves or writes a
 /// fluent.
@@ -87,8 +105,11 @@ pub fn append_told<S: Shelf + Drop>(
         return Ok(());
     };
     append_plan(into, domain, verdict)?;
-    match File::of(words, shelf, "problem") {
-        Some(problem) => append_world(into, domain, problem, verdict),
-        None => Ok(()),
-    }
+    append_limit(into, verdict)?;
+    let Some(problem) = File::of(words, shelf, "problem") else {
+        return Ok(());
+    };
+    let plan = File::of(words, shelf, "plan");
+    append_literals(into, &[Some(domain), Some(problem), plan], verdict)?;
+    append_world(into, domain, problem, verdict)
 }

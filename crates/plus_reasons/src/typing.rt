@@ -1,10 +1,13 @@
 //! Why a domain and a problem are not well typed.
 
-use crate::declared::{HEADS, head, member, offer_heads, offer_members, param_type, params};
+use crate::declared::{HEADS, How, Names, head, member, param_type, params};
 use plus_expected::say::{append_all, append_line, append_number, text_of};
 use plus_expected::{File, Nearest, Outline};
 use plus_tokens::Kind;
 use std::alloc::{AllocError, Global};
+
+/// The words before a list that binds variables.
+static BINDERS: [&str; 3] = [":parameters", "forall", "exists"];
 
 /// A file with its tokens.
 #[derive(Clone, Copy)]
@@ -30,15 +33,36 @@ pub struct Fault<'a, 'b> {
     pub number: usize,
 }
 
-// Appends a word that is nearly the same, where there is one.
-fn append_near(into: &mut Vec<u8>, nearest: &Nearest<'_>) -> Result<(), AllocError> {
+// Appends a word that is nearly the same. Answers whether there is one.
+fn append_near(into: &mut Vec<u8>, nearest: &Nearest<'_>) -> Result<bool, AllocError> {
     match nearest.best() {
-        Some(word) => append_line(into, &["the nearest name is ", text_of(word)]),
-        None => Ok(()),
+        Some(word) => {
+            append_line(into, &["the nearest name is ", text_of(word)])?;
+            Ok(true)
+        }
+        None => Ok(false),
     }
 }
 
 impl<'a, 'b> Fault<'a, 'b> {
+    // What the domain declares behind a keyword.
+    fn declared(&self, keyword: &'static str, how: How) -> Names<'a, 'b> {
+        Names {
+            outline: self.domain.outline,
+            keyword,
+            how,
+        }
+    }
+
+    // The objects of the problem.
+    fn objects(&self) -> Option<Names<'a, 'b>> {
+        Some(Names {
+            outline: self.problem?.outline,
+            keyword: ":objects",
+            how: How::Members,
+        })
+    }
+
     // The name that is wrong.
     fn name(&self) -> &'a [u8] {
         self.at.outline.word(self.number)
@@ -72,7 +96,7 @@ impl<'a, 'b> Fault<'a, 'b> {
         Ok(())
     }
 
-    // Appends what a head that is unknown is in truth, or the nearest one.
+    // Appends what a head that is unknown is in truth, or the nearest one, or the first ones.
     fn append_head(&self, into: &mut Vec<u8>) -> Result<(), AllocError> {
         let name = text_of(self.name());
         if let Some(place) = head(self.domain.outline, ":predicates", self.name()) {
@@ -89,11 +113,16 @@ impl<'a, 'b> Fault<'a, 'b> {
             )?;
             return self.domain.append_token(into, place, "declared here");
         }
+        let predicates = self.declared(":predicates", How::Heads);
+        let functions = self.declared(":functions", How::Heads);
         let mut nearest = Nearest::to(self.name());
-        for section in &HEADS {
-            offer_heads(&mut nearest, self.domain.outline, section);
+        predicates.offer(&mut nearest);
+        functions.offer(&mut nearest);
+        if append_near(into, &nearest)? {
+            return Ok(());
         }
-        append_near(into, &nearest)
+        predicates.append(into, "the predicates: ")?;
+        functions.append(into, "the functions: ")
     }
 
     // The place of an object of the problem with the name.
@@ -103,17 +132,26 @@ impl<'a, 'b> Fault<'a, 'b> {
         Some((problem, place))
     }
 
-    // Appends where an object that is unknown is declared after all, or the nearest one.
+    // Appends where an object that is unknown is declared after all, or the nearest one, or the first ones.
     fn append_object(&self, into: &mut Vec<u8>) -> Result<(), AllocError> {
         if let Some((problem, place)) = self.object() {
             return problem.append_token(into, place, "a domain knows its constants alone");
         }
+        let constants = self.declared(":constants", How::Members);
         let mut nearest = Nearest::to(self.name());
-        offer_members(&mut nearest, self.domain.outline, ":constants");
-        if let Some(problem) = self.problem {
-            offer_members(&mut nearest, problem.outline, ":objects");
+        constants.offer(&mut nearest);
+        let objects = self.objects();
+        if let Some(objects) = objects {
+            objects.offer(&mut nearest);
         }
-        append_near(into, &nearest)
+        if append_near(into, &nearest)? {
+            return Ok(());
+        }
+        constants.append(into, "the constants: ")?;
+        match objects {
+            Some(objects) => objects.append(into, "the objects: "),
+            None => Ok(()),
+        }
     }
 
     // Appends what an unknown name is in truth.
@@ -125,11 +163,18 @@ impl<'a, 'b> Fault<'a, 'b> {
         }
     }
 
-    // Appends the nearest type.
+    // Appends the nearest type, or the first ones.
     fn append_type(&self, into: &mut Vec<u8>) -> Result<(), AllocError> {
+        if self.domain.outline.section(":types").is_none() {
+            return append_line(into, &["the domain has no :types"]);
+        }
+        let types = self.declared(":types", How::Members);
         let mut nearest = Nearest::to(self.name());
-        offer_members(&mut nearest, self.domain.outline, ":types");
-        append_near(into, &nearest)
+        types.offer(&mut nearest);
+        if append_near(into, &nearest)? {
+            return Ok(());
+        }
+        types.append(into, "the types: ")
     }
 
     // Appends which type is wanted of an argument.
@@ -185,6 +230,61 @@ impl<'a, 'b> Fault<'a, 'b> {
         (first..self.number).find(|number| self.is_declared(*number))
     }
 
+    // The numbers of the tokens of the section in which the fault is.
+    fn around(&self) -> Option<(usize, usize)> {
+        let first = self.at.outline.section_of(self.number)?;
+        Some((first, self.at.outline.close_of(first)))
+    }
+
+    // Appends that nothing binds a variable, and the nearest one.
+    fn append_unbound(&self, into: &mut Vec<u8>) -> Result<(), AllocError> {
+        let outline = self.at.outline;
+        let mut nearest = Nearest::to(self.name());
+        if let Some((first, close)) = self.around() {
+            for number in first..close {
+                if outline.has_kind(number, Kind::Variable)
+                    && !outline.repeats(number, self.number)
+                {
+                    nearest.offer(outline.word(number));
+                }
+            }
+        }
+        append_line(
+            into,
+            &["it stands in no :parameters and no list of a forall or an exists around this"],
+        )?;
+        append_near(into, &nearest)?;
+        Ok(())
+    }
+
+    // Whether a token stands in a list that binds variables.
+    fn is_binding(&self, number: usize) -> bool {
+        match self.at.outline.around(number) {
+            Some(open) => {
+                let before = open.saturating_sub(1);
+                BINDERS.iter().any(|word| self.at.outline.is(before, word))
+            }
+            None => false,
+        }
+    }
+
+    // Appends where a variable is bound that a list binds once more.
+    fn append_shadowed(&self, into: &mut Vec<u8>) -> Result<(), AllocError> {
+        let outline = self.at.outline;
+        let Some((first, close)) = self.around() else {
+            return Ok(());
+        };
+        for number in first..close {
+            let is_other = number != self.number && outline.repeats(number, self.number);
+            if is_other && self.is_binding(number) {
+                return self
+                    .at
+                    .append_token(into, number, "it is bound here already");
+            }
+        }
+        Ok(())
+    }
+
     // Whether two forms of `:init` give the same fluent a value.
     fn is_same_value(&self, number: usize) -> bool {
         let outline = self.at.outline;
@@ -234,6 +334,12 @@ impl<'a, 'b> Fault<'a, 'b> {
             "unknown type" => self.append_type(into),
             "wrong type" => self.append_wrong_type(into),
             "twice" => self.append_twice(into),
+            "unbound variable" => self.append_unbound(into),
+            "shadowed variable" => self.append_shadowed(into),
+            "type loop" => append_line(
+                into,
+                &["no type stands under itself, nor under one that stands under it"],
+            ),
             "domain name" => self.domain.append_token(into, 4, "the name of this domain"),
             "rate form" => append_rate_form(into),
             _ => Ok(()),

@@ -162,6 +162,12 @@ pub fn append_writers(
     Ok(())
 }
 
+/// Appends the first places where a fluent is written or moved, by its label.
+pub fn append_written(into: &mut Vec<u8>, domain: File<'_>, label: &str) -> Result<(), AllocError> {
+    let outline = Outline::read(*into.allocator(), domain.text)?;
+    append_writers(into, domain, &outline, Named { label }, &WRITERS)
+}
+
 // Whether `:init` gives a fluent a value whose head stands at a token of the domain: a variable stands for any object.
 fn has_value(problem: &Outline<'_>, domain: &Outline<'_>, used: usize) -> bool {
     for number in 0..problem.len() {
