@@ -1,0 +1,4 @@
+use Rattle.plus_cut.proofs.cutting.CutPlanner.over.Goals as goal
+
+pub invariant_of-result : goal.invariant_of-result
+invariant_of-result g c = record { kept = c.requires.kept }
