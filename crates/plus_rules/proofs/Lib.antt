@@ -1,0 +1,4 @@
+pub mod WalkedLemmas
+pub mod Counting
+pub mod Meaning
+pub mod AsGoal

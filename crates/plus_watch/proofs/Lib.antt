@@ -1,0 +1,12 @@
+pub mod BetweenLemmas
+pub mod Walking
+pub mod Stretches
+pub mod Histories
+pub mod Growing
+pub mod Telling
+pub mod Portions
+pub mod AllFound
+pub mod Looking
+pub mod Going
+pub mod Calls
+pub mod Moments
