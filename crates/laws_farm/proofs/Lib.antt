@@ -1,0 +1,9 @@
+pub mod Trees
+pub mod Names
+pub mod DomainReads
+pub mod Lengths
+pub mod ProblemTexts
+pub mod Members
+pub mod ProblemReads
+pub mod Typed
+pub mod FarmLaws
