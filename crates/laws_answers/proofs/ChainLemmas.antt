@@ -1,6 +1,6 @@
 -- What `plan` wrote is accepted, so a check of it has an answer that is Valid; and a check has one answer.
 use Rattle.std.proofs.Common.{◌≡◌, ℕ, ◌≤◌, List, ◌++◌, length, Option, Some, None, refl, sym, subst}
-use Rattle.std.specs.Prelude.{IfSome, IsSome, pos}
+use Rattle.std.specs.Prelude.{IfSome, pos}
 use Rattle.std.specs.Io.KnownBytes.{append_known}
 use Rattle.std.proofs.lemmas.List.{append_cancel_left}
 use Rattle.plus_fraction.specs.Fraction.{Fraction, whole, ◌<ℚ◌}
@@ -15,16 +15,18 @@ use Rattle.plus_planner.specs.declared.searching.Answer.TheVariants as answers
 use Rattle.plus_plan_command.specs.Planning.Planned.{IsPlanned}
 use Rattle.plus_plan_command.specs.Plan.{answer_text, Plans}
 use Rattle.plus_reply.specs.Pair.Pair.{SpellsWellTyped}
-use Rattle.plus_reply.specs.Reply.{Replied}
 use Rattle.plus_report.specs.declared.status.Status.TheVariants as s
 use Rattle.laws_found.specs.Room.{HasRoom, HasFewParameters, AcceptsText}
 use Rattle.laws_found.specs.Text.Written.{HasShortLines}
 use Rattle.laws_found.proofs.CheckedLemmas.Steps.{NamesArePlain, FoundIsCalled, TextReadsBack}
 use Rattle.laws_found.proofs.CheckedLemmas.Written.{plan_written}
 use Rattle.plus_run.specs.Command.{Check, Plan, files_of}
-use Rattle.plus_run.specs.Headline.{IsAnswer, RunsValid, IsValidRun}
+use Rattle.plus_run.specs.Checks.{Checks, accepted}
+use Rattle.plus_run.specs.Headline.{Answers, IsAnswer}
 use Rattle.plus_run.specs.Laws.{AreTold, OneAnswer}
 use Rattle.plus_run.proofs.AnswerLemmas.{by_text}
+use Rattle.plus_run.proofs.Deciding.{is_told}
+use Rattle.plus_run.proofs.OneAnswer.{settled_reply}
 use Rattle.laws_answers.specs.Chained.{FewDecisionsHaveRoom, FewParametersHaveShortLines, AreSameFiles, CheckAcceptsPlan}
 use Rattle.laws_answers.proofs.ExistingLemmas.{put}
 use Rattle.laws_answers.proofs.Room.{few_decisions_have_room}
@@ -62,10 +64,6 @@ told : (o : Option (List ℕ)) (x : List ℕ) (Q : List ℕ → Type 0) → o �
 told None x Q e h = cc e
 told (Some y) x Q e h = subst Q (let i : y ≡ x = cc e in i) h
 
-is_told : (o : Option (List ℕ)) (x : List ℕ) → o ≡ Some x → IsSome o
-is_told None x e = cc e
-is_told (Some y) x e = refl
-
 -- ---- what `plan` wrote
 
 taken : (before written w : List ℕ) → Some (before ++ written) ≡ append_known (Some before) w → w ≡ written
@@ -76,30 +74,29 @@ taken before written w e =
 module _ (q : Fraction) (k tries most : ℕ) (d p d' p' l domain problem before written : List ℕ) (bytes again : List ℕ → Option (List ℕ)) (same : AreSameFiles bytes again d p d' p' l domain problem written) where
   plans_of : (a b c e : ℕ) → IsAnswer (Some (Plan q k tries d p)) bytes (Some before) (Some (before ++ written)) a b c e s.Valid → Plans q k tries domain problem s.Valid written
   plans_of a b c e h =
-      let one = told (bytes d) domain (λ ds. IfSome (bytes p) (λ ps. Replied (Plans q k tries ds ps) (Some before) (Some (before ++ written)) s.Valid)) same.domain_is (h.valid refl) in
-      let r = told (bytes p) problem (λ ps. Replied (Plans q k tries domain ps) (Some before) (Some (before ++ written)) s.Valid) same.problem_is one in
-      subst (Plans q k tries domain problem s.Valid) (taken before written r.written r.took) r.reply
+      let r = settled_reply (Some (Plan q k tries d p)) bytes (Some before) (Some (before ++ written)) a b c e s.Valid
+      (is_told (bytes d) domain same.domain_is, (is_told (bytes p) problem same.problem_is, tt)) h tt in
+      let one = told (bytes d) domain (λ ds. IfSome (bytes p) (λ ps. Plans q k tries ds ps s.Valid r.written)) same.domain_is r.reply in
+      let two = told (bytes p) problem (λ ps. Plans q k tries domain ps s.Valid r.written) same.problem_is one in
+      subst (Plans q k tries domain problem s.Valid) (taken before written r.written r.took) two
 
-  valid_run : (x : Domain) (y : Problem) (report : List ℕ) (old : Option (List ℕ)) → SpellsWellTyped domain problem x y → IsAccepted x y most written report → IsValidRun most domain problem written old (append_known old report)
-  valid_run x y report old t h = record { d = x; p = y; pair = t; accepted = record { bytes = report; took = refl; accepted = h } }
-
-  runs : (old new : Option (List ℕ)) → IsValidRun most domain problem written old new → RunsValid (Some (Check d' p' l most)) again old new
-  runs old new v =
-      put (again d') domain (λ ds. IfSome (again p') (λ ps. IfSome (again l) (λ ls. IsValidRun most ds ps ls old new))) same.domain_again
-      (put (again p') problem (λ ps. IfSome (again l) (λ ls. IsValidRun most domain ps ls old new)) same.problem_again
-      (put (again l) written (λ ls. IsValidRun most domain problem ls old new) same.plan_is v))
+  -- the check accepts it
+  checks : (x : Domain) (y : Problem) (report : List ℕ) → SpellsWellTyped domain problem x y → IsAccepted x y most written report → Answers (Some (Check d' p' l most)) again s.Valid report
+  checks x y report t h =
+      put (again d') domain (λ ds. IfSome (again p') (λ ps. Checks most ds ps (again l) s.Valid report)) same.domain_again
+      (put (again p') problem (λ ps. Checks most domain ps (again l) s.Valid report) same.problem_again
+      (subst (λ o. Checks most domain problem o s.Valid report) (sym same.plan_is) (accepted x y t refl h)))
 
   all_told : AreTold again (files_of (Some (Check d' p' l most)))
   all_told = (is_told (again d') domain same.domain_again, (is_told (again p') problem same.problem_again, (is_told (again l) written same.plan_is, tt)))
 
 pub check_accepts_plan : WrittenIsAccepted → FewDecisionsHaveRoom → OneAnswer → CheckAcceptsPlan
-check_accepts_plan accepted room once q k tries most d p d' p' l domain problem before written bytes again old new a b c e a' b' c' e' status above few same h short more g settled =
+check_accepts_plan passes room once q k tries most d p d' p' l domain problem before written bytes again old new a b c e a' b' c' e' status above few same h short more g settled =
     let plans = plans_of q k tries most d p d' p' l domain problem before written bytes again same a b c e h in
-    let x = accepted q k tries most domain problem written above plans
+    let x = passes q k tries most domain problem written above plans
     (record { within = room q k tries domain problem written above few plans short; lines = short }) more in
-    let v = valid_run q k tries most d p d' p' l domain problem before written bytes again same x.0 x.1 x.3.0 old x.2 x.3.1 in
-    let f = by_text (Check d' p' l most) again old (append_known old x.3.0) 0 0 0 0 s.Valid refl
-    (runs q k tries most d p d' p' l domain problem before written bytes again same old (append_known old x.3.0) v) in
+    let f = by_text (Check d' p' l most) again old (append_known old x.3.0) 0 0 0 0 s.Valid s.Valid refl tt x.3.0
+    (checks q k tries most d p d' p' l domain problem before written bytes again same x.0 x.1 x.3.0 x.2 x.3.1) refl in
     let one = once (Some (Check d' p' l most)) again old (append_known old x.3.0) new 0 0 0 0 a' b' c' e' s.Valid status
     (all_told q k tries most d p d' p' l domain problem before written bytes again same) f g tt settled tt in
     sym one.0

@@ -1,5 +1,5 @@
 -- Where no cause of a refusal stands, a command is answered as valid.
-use Rattle.std.proofs.Common.{true, ◌≡◌, ℕ, ◌≤◌, List, ◌++◌, Option, Some, None, refl, ap, sym, subst, ◌∙◌, inl, inr, length, All}
+use Rattle.std.proofs.Common.{true, ◌≡◌, ◌⊎◌, ℕ, ◌≤◌, List, ◌++◌, Option, Some, None, refl, ap, sym, subst, ◌∙◌, inl, inr, length, All}
 use Rattle.std.specs.Prelude.{IfSome, IsSomeAnd}
 use Rattle.plus_fraction.specs.Fraction.{Fraction}
 use Rattle.plus_io.specs.Limits.{text_limit}
@@ -58,26 +58,13 @@ use Rattle.plus_trial.specs.Trial.{farm_domain, farm_problem, farm_plan, IsTrial
 use Rattle.plus_trial.specs.Trial as trials
 use Rattle.plus_words.specs.Numbers.{default_happenings}
 use Rattle.plus_run.specs.Command.{Check, ShowDomain, ShowProblem, Numeric, Trial, Translate, Lift, Plan}
-use Rattle.plus_run.specs.Headline.{OnRefusal, IsAnswer}
+use Rattle.plus_run.specs.Headline.{Answers, IsAnswer}
 use Rattle.plus_run.specs.Laws.{IsSettled, is_valid, is_invalid}
-use Rattle.plus_run.specs.Numeric.{RefusesNumeric, IsNotNumeric}
+use Rattle.plus_run.specs.Numeric.{PlaysUntimed}
 use Rattle.plus_run.specs.Numeric as numeric
-use Rattle.plus_run.specs.Shown.{IsNotShown}
+use Rattle.plus_run.specs.Shown.{Shows, a_tree, no_tree}
 use Rattle.plus_run.proofs.Deciding as runs
-use Rattle.plus_run.proofs.NumericLemmas.{IsLess}
-use Rattle.plus_run.proofs.OneAnswer.{no_usage}
 use Rattle.laws_answers.specs.Complete.{SpellsPairWith, IsGood, IsLiftable, IsFindable, SpellsTree, Complete}
-
--- a status that tells of no fault, of no want of memory, and of no refusal
-valid_by : (R : Status → Type 0) (x : Status) → IsSettled x → OnRefusal x (R x) → (x ≡ s.Usage → ⊥) → ((y : Status) → IsLess y → R y → ⊥) → x ≡ s.Valid
-valid_by R s.Valid g r u n = refl
-valid_by R s.Invalid g r u n = absurd (n s.Invalid tt r)
-valid_by R s.Beyond g r u n = absurd (n s.Beyond tt r)
-valid_by R s.BadText g r u n = absurd (n s.BadText tt r)
-valid_by R s.Usage g r u n = absurd (u refl)
-valid_by R s.ReadFault g r u n = absurd g
-valid_by R s.WriteFault g r u n = absurd g
-valid_by R s.NoMemory g r u n = absurd g
 
 -- ---- a plan text
 
@@ -93,8 +80,8 @@ judged_valid d p most text j k h =
       ]
     ]
 
-judged_less : (d : Domain) (p : Problem) (most : ℕ) (text : List ℕ) (j : Judged) (y : Status) → IsGood d p most text → JudgesText d p most text j → y ≡ status_of (outcome_of j.verdict) → IsLess y → ⊥
-judged_less d p most text j y k h i l = subst IsLess (i ∙ ap status_of (judged_valid d p most text j k h)) l
+judged_status : (d : Domain) (p : Problem) (most : ℕ) (text : List ℕ) (j : Judged) (y : Status) → IsGood d p most text → JudgesText d p most text j → y ≡ status_of (outcome_of j.verdict) → y ≡ s.Valid
+judged_status d p most text j y k h i = i ∙ ap status_of (judged_valid d p most text j k h)
 
 -- tests that pass refuse nothing
 not_refused : (source : Source) (d : Domain) (p : Problem) (text : List ℕ) (kind : Kind) (line : List ℕ) → AllPass (numeric_tests d p text) → IsRefused source d p text kind line → ⊥
@@ -102,11 +89,14 @@ not_refused source d p text kind line a r = (one_test Passes).none (numeric_test
 
 -- ---- `show`
 
-module _ {T : Type 0} (Spells : List ℕ → T → Type 0) (Refused : List ℕ → Early → Type 0) (apart : (text : List ℕ) (e : Early) (a : T) → Refused text e → length text ≤ text_limit → Spells text a → ⊥) where
-  shows : (o old new : Option (List ℕ)) (x : Status) → IsSettled x → OnRefusal x (IfSome o (λ text. IsNotShown Refused text old new x)) → (x ≡ s.Usage → ⊥) → IsSomeAnd o (SpellsTree Spells) → x ≡ s.Valid
-  shows None old new x g r u h = absurd h
-  shows (Some text) old new x g r u h =
-      valid_by (λ y. IsNotShown Refused text old new y) x g r u (λ y l k. apart text k.early h.0 k.cause h.1.1 h.1.0)
+module _ {T : Type 0} (Spells : List ℕ → T → Type 0) (canon : T → List ℕ) (Refused : List ℕ → Early → Type 0) (apart : (text : List ℕ) (e : Early) (a : T) → Refused text e → length text ≤ text_limit → Spells text a → ⊥) where
+  shown : (text : List ℕ) (x : Status) (w : List ℕ) → Shows Spells canon Refused text x w → SpellsTree Spells text → x ≡ s.Valid
+  shown text x w (a_tree a h i k) t = i
+  shown text x w (no_tree e h i k) t = absurd (apart text e t.0 h t.1.1 t.1.0)
+
+  shows : (o : Option (List ℕ)) (x : Status) (w : List ℕ) → IfSome o (λ text. Shows Spells canon Refused text x w) → IsSomeAnd o (SpellsTree Spells) → x ≡ s.Valid
+  shows None x w h t = absurd t
+  shows (Some text) x w h t = shown text x w h t
 
 -- ---- `check` and `numeric`
 
@@ -121,65 +111,51 @@ module _ (dn pn ln : List ℕ) (n : ℕ) (bytes : List ℕ → Option (List ℕ)
         | is_invalid v none ↦ absurd (none t.holds.has)
       ]
 
-numeric_less : (ds ps ls : List ℕ) (y : Status) (line : List ℕ) → SpellsPairWith ds ps (λ x z. AllPass (numeric_tests x z ls)) → IsNotNumeric ds ps ls y line → ⊥
-numeric_less ds ps ls y line t (numeric.no_pair e h i k) = pair_or_not ds ps e t.d t.p h t.pair
-numeric_less ds ps ls y line t (numeric.no_plan d p kind u h i) =
-    not_refused Given t.d t.p ls kind line t.holds (same_pair ds ps (λ x z. IsRefused Given x z ls kind line) d t.d p t.p u t.pair h)
+numeric_valid : (ds ps ls : List ℕ) (y : Status) (w : List ℕ) → PlaysUntimed ds ps ls y w → SpellsPairWith ds ps (λ x z. AllPass (numeric_tests x z ls)) → y ≡ s.Valid
+numeric_valid ds ps ls y w (numeric.no_pair e h i k) t = absurd (pair_or_not ds ps e t.d t.p h t.pair)
+numeric_valid ds ps ls y w (numeric.accepted d p u a i k) t = i
+numeric_valid ds ps ls y w (numeric.refused d p kind u h i) t =
+    absurd (not_refused Given t.d t.p ls kind w t.holds (same_pair ds ps (λ x z. IsRefused Given x z ls kind w) d t.d p t.p u t.pair h))
 
-numerics :
-    (d p l old new : Option (List ℕ)) (x : Status) → IsSettled x
-    → OnRefusal x (IfSome d (λ ds. IfSome p (λ ps. IfSome l (λ ls. RefusesNumeric ds ps ls old new x)))) → (x ≡ s.Usage → ⊥)
-    → IsSomeAnd d (λ ds. IsSomeAnd p (λ ps. IsSomeAnd l (λ ls. SpellsPairWith ds ps (λ y z. AllPass (numeric_tests y z ls))))) → x ≡ s.Valid
-numerics None p l old new x g r u t = absurd t
-numerics (Some ds) None l old new x g r u t = absurd t
-numerics (Some ds) (Some ps) None old new x g r u t = absurd t
-numerics (Some ds) (Some ps) (Some ls) old new x g r u t =
-    valid_by (λ y. RefusesNumeric ds ps ls old new y) x g r u (λ y l k. numeric_less ds ps ls y k.line t k.is)
-
--- ---- the commands with one reply
-
--- no reply has the status of a refusal
-abbrev IsNeverLess : (Status → List ℕ → Type 0) → Type 0
-IsNeverLess Q = (y : Status) (w : List ℕ) → IsLess y → Q y w → ⊥
-
-replies : (Q : Status → List ℕ → Type 0) (old new : Option (List ℕ)) (x : Status) → IsSettled x → OnRefusal x (Replied Q old new x) → (x ≡ s.Usage → ⊥) → IsNeverLess Q → x ≡ s.Valid
-replies Q old new x g r u n = valid_by (λ y. Replied Q old new y) x g r u (λ y l k. n y k.written l k.reply)
+-- ---- where the shelf tells the files
 
 on_two :
-    (Q : List ℕ → List ℕ → Status → List ℕ → Type 0) (Holds : List ℕ → List ℕ → Type 0) → ((ds ps : List ℕ) → Holds ds ps → IsNeverLess (Q ds ps))
-    → (d p old new : Option (List ℕ)) (x : Status) → IsSettled x → OnRefusal x (IfSome d (λ ds. IfSome p (λ ps. Replied (Q ds ps) old new x))) → (x ≡ s.Usage → ⊥)
+    (Q : List ℕ → List ℕ → Status → List ℕ → Type 0) (Holds : List ℕ → List ℕ → Type 0)
+    → ((ds ps : List ℕ) (y : Status) (w : List ℕ) → Q ds ps y w → Holds ds ps → y ≡ s.Valid)
+    → (d p : Option (List ℕ)) (x : Status) (w : List ℕ) → IfSome d (λ ds. IfSome p (λ ps. Q ds ps x w))
     → IsSomeAnd d (λ ds. IsSomeAnd p (λ ps. Holds ds ps)) → x ≡ s.Valid
-on_two Q Holds n None p old new x g r u t = absurd t
-on_two Q Holds n (Some ds) None old new x g r u t = absurd t
-on_two Q Holds n (Some ds) (Some ps) old new x g r u t = replies (Q ds ps) old new x g r u (n ds ps t)
+on_two Q Holds n None p x w h t = absurd t
+on_two Q Holds n (Some ds) None x w h t = absurd t
+on_two Q Holds n (Some ds) (Some ps) x w h t = n ds ps x w h t
 
 on_three :
     (Q : List ℕ → List ℕ → List ℕ → Status → List ℕ → Type 0) (Holds : List ℕ → List ℕ → List ℕ → Type 0)
-    → ((ds ps ls : List ℕ) → Holds ds ps ls → IsNeverLess (Q ds ps ls))
-    → (d p l old new : Option (List ℕ)) (x : Status) → IsSettled x
-    → OnRefusal x (IfSome d (λ ds. IfSome p (λ ps. IfSome l (λ ls. Replied (Q ds ps ls) old new x)))) → (x ≡ s.Usage → ⊥)
+    → ((ds ps ls : List ℕ) (y : Status) (w : List ℕ) → Q ds ps ls y w → Holds ds ps ls → y ≡ s.Valid)
+    → (d p l : Option (List ℕ)) (x : Status) (w : List ℕ) → IfSome d (λ ds. IfSome p (λ ps. IfSome l (λ ls. Q ds ps ls x w)))
     → IsSomeAnd d (λ ds. IsSomeAnd p (λ ps. IsSomeAnd l (λ ls. Holds ds ps ls))) → x ≡ s.Valid
-on_three Q Holds n None p l old new x g r u t = absurd t
-on_three Q Holds n (Some ds) None l old new x g r u t = absurd t
-on_three Q Holds n (Some ds) (Some ps) None old new x g r u t = absurd t
-on_three Q Holds n (Some ds) (Some ps) (Some ls) old new x g r u t = replies (Q ds ps ls) old new x g r u (n ds ps ls t)
+on_three Q Holds n None p l x w h t = absurd t
+on_three Q Holds n (Some ds) None l x w h t = absurd t
+on_three Q Holds n (Some ds) (Some ps) None x w h t = absurd t
+on_three Q Holds n (Some ds) (Some ps) (Some ls) x w h t = n ds ps ls x w h t
+
+-- ---- the commands with one reply
 
 -- `trial`
-trial_less : (n : ℕ) → SpellsPairWith farm_domain (farm_problem n) (λ x z. IsGood x z default_happenings (farm_plan n)) → IsNeverLess (IsTrial n)
-trial_less n t y w l (trials.is_judged d p j u h i k) =
+trial_valid : (n : ℕ) (y : Status) (w : List ℕ) → IsTrial n y w → SpellsPairWith farm_domain (farm_problem n) (λ x z. IsGood x z default_happenings (farm_plan n)) → y ≡ s.Valid
+trial_valid n y w (trials.is_judged d p j u h i k) t =
     let good = same_pair farm_domain (farm_problem n) (λ x z. IsGood x z default_happenings (farm_plan n)) t.d d t.p p t.pair u t.holds in
-    judged_less d p default_happenings (farm_plan n) j y good h i l
-trial_less n t y w l (trials.no_pair e h i k) = pair_or_not farm_domain (farm_problem n) e t.d t.p h t.pair
+    judged_status d p default_happenings (farm_plan n) j y good h i
+trial_valid n y w (trials.no_pair e h i k) t = absurd (pair_or_not farm_domain (farm_problem n) e t.d t.p h t.pair)
 
 -- `translate`
 abbrev HasNoFault : Fraction → Domain → Problem → Type 0
 HasNoFault q d p = IsTranslation q d p (translated_domain q d p) (translated_problem q d p)
 
-translate_less : (file : File) (q : Fraction) (ds ps : List ℕ) → SpellsPairWith ds ps (HasNoFault q) → IsNeverLess (Translates file q ds ps)
-translate_less file q ds ps t y w l (translated.no_pair e h i k) = pair_or_not ds ps e t.d t.p h t.pair
-translate_less file q ds ps t y w l (translated.of_pair d p u (half d' p' tr i k)) = subst IsLess i l
-translate_less file q ds ps t y w l (translated.of_pair d p u (no_translation e h i k)) =
-    translation_or_not q d p (translated_domain q d p) (translated_problem q d p) e (same_pair ds ps (HasNoFault q) t.d d t.p p t.pair u t.holds) h
+translate_valid : (file : File) (q : Fraction) (ds ps : List ℕ) (y : Status) (w : List ℕ) → Translates file q ds ps y w → SpellsPairWith ds ps (HasNoFault q) → y ≡ s.Valid
+translate_valid file q ds ps y w (translated.no_pair e h i k) t = absurd (pair_or_not ds ps e t.d t.p h t.pair)
+translate_valid file q ds ps y w (translated.of_pair d p u (half d' p' tr i k)) t = i
+translate_valid file q ds ps y w (translated.of_pair d p u (no_translation e h i k)) t =
+    absurd (translation_or_not q d p (translated_domain q d p) (translated_problem q d p) e (same_pair ds ps (HasNoFault q) t.d d t.p p t.pair u t.holds) h)
 
 -- `lift`
 module _ (q : Fraction) (d : Domain) (p : Problem) (ls : List ℕ) (t : IsLiftable q d p ls) where
@@ -198,20 +174,21 @@ module _ (q : Fraction) (d : Domain) (p : Problem) (ls : List ℕ) (t : IsLiftab
       subst (λ z. SpellsWellTyped (domain_text t.again.d') (problem_text z) a b) one.1 (subst (λ z. SpellsWellTyped (domain_text z) (problem_text x.p') a b) one.0 x.again) in
       same_pair (domain_text t.again.d') (problem_text t.again.p') P a t.d' b t.p' again t.again.again h
 
-  calls_less : (calls : List Call) (y : Status) (w : List ℕ) → IsAccepted t.d' t.p' ls true calls → IsLess y → LiftsCalls q d p calls y w → ⊥
-  calls_less calls y w a l (late n h i k) =
-      h.late (one_of (λ c. IsFrac64 (time_of_step q c)) h.before h.after n (subst (All (λ c. IsFrac64 (time_of_step q c))) h.split (t.times calls a)))
-  calls_less calls y w a l (lifted.judged plan j x h i k) = judged_less d p default_happenings (lifted_text q calls) j y (t.good calls a) h i l
+  calls_valid : (calls : List Call) (y : Status) (w : List ℕ) → IsAccepted t.d' t.p' ls true calls → LiftsCalls q d p calls y w → y ≡ s.Valid
+  calls_valid calls y w a (late n h i k) =
+      absurd (h.late (one_of (λ c. IsFrac64 (time_of_step q c)) h.before h.after n (subst (All (λ c. IsFrac64 (time_of_step q c))) h.split (t.times calls a))))
+  calls_valid calls y w a (lifted.judged plan j x h i k) = judged_status d p default_happenings (lifted_text q calls) j y (t.good calls a) h i
 
-  pair_less : (y : Status) (w : List ℕ) → IsLess y → LiftsPair q d p ls y w → ⊥
-  pair_less y w l (no_texts e h i k) = texts_again e h
-  pair_less y w l (of_texts a b x (no_plan kind h i)) = not_refused Translated t.d' t.p' ls kind w t.passed (read_again a b (λ z v. IsRefused Translated z v ls kind w) x h)
-  pair_less y w l (of_texts a b x (lifts calls h k)) = calls_less calls y w (read_again a b (λ z v. IsAccepted z v ls true calls) x h) l k
+  pair_valid : (y : Status) (w : List ℕ) → LiftsPair q d p ls y w → y ≡ s.Valid
+  pair_valid y w (no_texts e h i k) = absurd (texts_again e h)
+  pair_valid y w (of_texts a b x (no_plan kind h i)) =
+      absurd (not_refused Translated t.d' t.p' ls kind w t.passed (read_again a b (λ z v. IsRefused Translated z v ls kind w) x h))
+  pair_valid y w (of_texts a b x (lifts calls h k)) = calls_valid calls y w (read_again a b (λ z v. IsAccepted z v ls true calls) x h) k
 
-lift_less : (q : Fraction) (ds ps ls : List ℕ) → SpellsPairWith ds ps (λ x z. IsLiftable q x z ls) → IsNeverLess (Lifts q ds ps ls)
-lift_less q ds ps ls t y w l (lifted.no_pair e h i k) = pair_or_not ds ps e t.d t.p h t.pair
-lift_less q ds ps ls t y w l (lifted.of_pair d p u h) =
-    pair_less q d p ls (same_pair ds ps (λ x z. IsLiftable q x z ls) t.d d t.p p t.pair u t.holds) y w l h
+lift_valid : (q : Fraction) (ds ps ls : List ℕ) (y : Status) (w : List ℕ) → Lifts q ds ps ls y w → SpellsPairWith ds ps (λ x z. IsLiftable q x z ls) → y ≡ s.Valid
+lift_valid q ds ps ls y w (lifted.no_pair e h i k) t = absurd (pair_or_not ds ps e t.d t.p h t.pair)
+lift_valid q ds ps ls y w (lifted.of_pair d p u h) t =
+    pair_valid q d p ls (same_pair ds ps (λ x z. IsLiftable q x z ls) t.d d t.p p t.pair u t.holds) y w h
 
 -- `plan`
 module _ (q : Fraction) (k tries : ℕ) (d : Domain) (p : Problem) (t : IsFindable q k tries d p) where
@@ -226,40 +203,49 @@ module _ (q : Fraction) (k tries : ℕ) (d : Domain) (p : Problem) (t : IsFindab
       u.first.fails (one_of (LiteralFits IsFrac64) u.first.front u.first.back u.literal (subst (All (LiteralFits IsFrac64)) u.first.split t.inside.actions.literals))
   not_unsearched e faults.Memory i r = cc i
 
-  answer_less : (answer : Answer Frac64) (y : Status) → IsPlanned d p q k tries answer → y ≡ answer_status answer → IsLess y → ⊥
-  answer_less (answers.Plan plan) y h i l = subst IsLess i l
-  answer_less (answers.NoPlan beyond) y h i l = h.answers.none t.decisions t.is
-  answer_less (answers.Spent tried) y h i l = h.enough t.enough
+  answer_valid : (answer : Answer Frac64) (y : Status) → IsPlanned d p q k tries answer → y ≡ answer_status answer → y ≡ s.Valid
+  answer_valid (answers.Plan plan) y h i = i
+  answer_valid (answers.NoPlan beyond) y h i = absurd (h.answers.none t.decisions t.is)
+  answer_valid (answers.Spent tried) y h i = absurd (h.enough t.enough)
 
-  search_less : (y : Status) (w : List ℕ) → IsLess y → PlansPair q k tries d p y w → ⊥
-  search_less y w l (answered answer h i x) = answer_less answer y h i l
-  search_less y w l (no_search e h i x) = not_unsearched e h.fault h.refusal_is h.cause
+  search_valid : (y : Status) (w : List ℕ) → PlansPair q k tries d p y w → y ≡ s.Valid
+  search_valid y w (answered answer h i x) = answer_valid answer y h i
+  search_valid y w (no_search e h i x) = absurd (not_unsearched e h.fault h.refusal_is h.cause)
 
-plan_less : (q : Fraction) (k tries : ℕ) (ds ps : List ℕ) → SpellsPairWith ds ps (λ x z. IsFindable q k tries x z) → IsNeverLess (Plans q k tries ds ps)
-plan_less q k tries ds ps t y w l (planned.no_pair e h i x) = pair_or_not ds ps e t.d t.p h t.pair
-plan_less q k tries ds ps t y w l (planned.of_pair d p u h) =
-    search_less q k tries d p (same_pair ds ps (λ x z. IsFindable q k tries x z) t.d d t.p p t.pair u t.holds) y w l h
+plan_valid : (q : Fraction) (k tries : ℕ) (ds ps : List ℕ) (y : Status) (w : List ℕ) → Plans q k tries ds ps y w → SpellsPairWith ds ps (λ x z. IsFindable q k tries x z) → y ≡ s.Valid
+plan_valid q k tries ds ps y w (planned.no_pair e h i x) t = absurd (pair_or_not ds ps e t.d t.p h t.pair)
+plan_valid q k tries ds ps y w (planned.of_pair d p u h) t =
+    search_valid q k tries d p (same_pair ds ps (λ x z. IsFindable q k tries x z) t.d d t.p p t.pair u t.holds) y w h
 
 -- ---- all commands
+
+-- what is said of a check whose plan is not told is said of no other command
+reply_of : (Q : Status → List ℕ → Type 0) (old new : Option (List ℕ)) (x : Status) → Replied Q old new x ⊎ ⊥ → Replied Q old new x
+reply_of Q old new x (inl r) = r
+reply_of Q old new x (inr u) = absurd u
 
 pub complete : Complete
 complete None bytes old new a b c d x h g t = absurd t
 complete (Some (Check dn pn ln n)) bytes old new a b c d x h g t =
     checks dn pn ln n bytes old new a b c d x h g (bytes dn) (bytes pn) (bytes ln) refl refl refl t
 complete (Some (ShowDomain f)) bytes old new a b c d x h g t =
-    shows (IsDomainText depth_limit) DomainRefused domain_or_not (bytes f) old new x g h.refused (no_usage (ShowDomain f) x h.usage) t
+    let r = reply_of (Answers (Some (ShowDomain f)) bytes) old new x (h.replied g) in
+    shows (IsDomainText depth_limit) domain_text DomainRefused domain_or_not (bytes f) x r.written r.reply t
 complete (Some (ShowProblem f)) bytes old new a b c d x h g t =
-    shows (IsProblemText depth_limit) ProblemRefused problem_or_not (bytes f) old new x g h.refused (no_usage (ShowProblem f) x h.usage) t
+    let r = reply_of (Answers (Some (ShowProblem f)) bytes) old new x (h.replied g) in
+    shows (IsProblemText depth_limit) problem_text ProblemRefused problem_or_not (bytes f) x r.written r.reply t
 complete (Some (Numeric dn pn ln)) bytes old new a b c d x h g t =
-    numerics (bytes dn) (bytes pn) (bytes ln) old new x g h.refused (no_usage (Numeric dn pn ln) x h.usage) t
+    let r = reply_of (Answers (Some (Numeric dn pn ln)) bytes) old new x (h.replied g) in
+    on_three PlaysUntimed (λ ds ps ls. SpellsPairWith ds ps (λ y z. AllPass (numeric_tests y z ls))) numeric_valid (bytes dn) (bytes pn) (bytes ln) x r.written r.reply t
 complete (Some (Trial n)) bytes old new a b c d x h g t =
-    replies (IsTrial n) old new x g h.refused (no_usage (Trial n) x h.usage) (trial_less n t)
+    let r = reply_of (IsTrial n) old new x (h.replied g) in
+    trial_valid n x r.written r.reply t
 complete (Some (Translate file q dn pn)) bytes old new a b c d x h g t =
-    on_two (Translates file q) (λ ds ps. SpellsPairWith ds ps (HasNoFault q)) (translate_less file q) (bytes dn) (bytes pn) old new x g h.refused
-    (no_usage (Translate file q dn pn) x h.usage) t
+    let r = reply_of (Answers (Some (Translate file q dn pn)) bytes) old new x (h.replied g) in
+    on_two (Translates file q) (λ ds ps. SpellsPairWith ds ps (HasNoFault q)) (translate_valid file q) (bytes dn) (bytes pn) x r.written r.reply t
 complete (Some (Lift q dn pn ln)) bytes old new a b c d x h g t =
-    on_three (Lifts q) (λ ds ps ls. SpellsPairWith ds ps (λ y z. IsLiftable q y z ls)) (lift_less q) (bytes dn) (bytes pn) (bytes ln) old new x g h.refused
-    (no_usage (Lift q dn pn ln) x h.usage) t
+    let r = reply_of (Answers (Some (Lift q dn pn ln)) bytes) old new x (h.replied g) in
+    on_three (Lifts q) (λ ds ps ls. SpellsPairWith ds ps (λ y z. IsLiftable q y z ls)) (lift_valid q) (bytes dn) (bytes pn) (bytes ln) x r.written r.reply t
 complete (Some (Plan q k tries dn pn)) bytes old new a b c d x h g t =
-    on_two (Plans q k tries) (λ ds ps. SpellsPairWith ds ps (λ y z. IsFindable q k tries y z)) (plan_less q k tries) (bytes dn) (bytes pn) old new x g h.refused
-    (no_usage (Plan q k tries dn pn) x h.usage) t
+    let r = reply_of (Answers (Some (Plan q k tries dn pn)) bytes) old new x (h.replied g) in
+    on_two (Plans q k tries) (λ ds ps. SpellsPairWith ds ps (λ y z. IsFindable q k tries y z)) (plan_valid q k tries) (bytes dn) (bytes pn) x r.written r.reply t

@@ -8,4 +8,6 @@ pub mod PairOrRefused
 pub mod Tested
 pub mod ExistingLemmas
 pub mod LiftedLemmas
+pub mod StatusLemmas
+pub mod LineLemmas
 pub mod NamedLemmas

@@ -1,5 +1,5 @@
 -- The calls that `lift` makes a timed plan of are a stepped plan of the pair.
-use Rattle.std.proofs.Common.{ℕ, ◌<◌, ◌≤◌, ◌^◌, List, [], ◌∷◌, length, sym, ap, subst, arith}
+use Rattle.std.proofs.Common.{◌≡◌, ℕ, ◌<◌, ◌≤◌, ◌^◌, List, [], ◌∷◌, length, sym, ap, subst, arith}
 use Rattle.plus_fraction.specs.Fraction.{Fraction}
 use Rattle.plus_io.specs.Limits.{text_limit}
 use Rattle.plus_model.specs.Terms.{Condition, State}
@@ -21,12 +21,14 @@ use Rattle.laws_translation.proofs.ReadLaws.{read_plans}
 use Rattle.plus_numeric.specs.Calls.{call_meant, PlanOf}
 use Rattle.plus_reply.specs.Pair.Pair.{depth_limit, SpellsWellTyped}
 use Rattle.plus_report.specs.declared.status.Status.TheVariants as s
+use Rattle.plus_numeric.specs.declared.answer.Kind.{Kind}
+use Rattle.plus_numeric.specs.declared.answer.Kind.TheVariants as kinds
+use Rattle.plus_numeric.specs.Verdicts.{kind_status}
 use Rattle.plus_lift.specs.Lifts.{names_of}
 use Rattle.plus_lift.specs.Command.Again.{SpellsAgain}
 use Rattle.plus_lift.specs.Command.Lift.{no_pair, of_pair, LiftsPair, no_texts, of_texts, LiftsPlan, no_plan, lifts, LiftsCalls, late, judged}
-use Rattle.plus_run.proofs.NumericLemmas.{IsLess}
+use Rattle.laws_found.proofs.CheckedLemmas.Written.{not_valid}
 use Rattle.laws_answers.specs.Lifted.{AcceptedIsStepped, TellsSteppedPlan, LiftedIsStepped}
-use Rattle.laws_answers.proofs.ExistingLemmas.{early_less, less_of_kind}
 
 -- ---- texts, whatever the depth
 
@@ -69,19 +71,25 @@ accepted_is_stepped q ds ps ls d p d' p' calls step t x a =
 
 -- ---- what is written
 
+-- a plan that is refused is not valid
+pub kind_not_valid : (kind : Kind) → s.Valid ≡ kind_status kind → ⊥
+kind_not_valid kinds.Invalid i = cc
+kind_not_valid kinds.Beyond i = cc
+kind_not_valid kinds.BadText i = cc
+
 module _ (q : Fraction) (ds ps ls written : List ℕ) (step : IsStep q) (d : Domain) (p : Problem) (t : SpellsWellTyped ds ps d p) where
   of_calls : (calls : List Call) → IsSteppedPlan d p q (stripped (names_of calls)) → LiftsCalls q d p calls s.Valid written → TellsSteppedPlan q ds ps written
   of_calls calls h (late n l i k) = cc i
   of_calls calls h (judged plan j l g i k) = record { d = d; p = p; pair = t; moves = stripped (names_of calls); stepped = h; verdict = j.line.items; text = k }
 
   of_plan : (d' : Domain) (p' : Problem) → SpellsAgain q d p d' p' → LiftsPlan q d p d' p' ls s.Valid written → TellsSteppedPlan q ds ps written
-  of_plan d' p' x (no_plan kind h i) = absurd (less_of_kind kind s.Valid i)
+  of_plan d' p' x (no_plan kind h i) = absurd (kind_not_valid kind i)
   of_plan d' p' x (lifts calls a h) = of_calls calls (accepted_is_stepped q ds ps ls d p d' p' calls step t x a) h
 
   of_texts_pair : LiftsPair q d p ls s.Valid written → TellsSteppedPlan q ds ps written
-  of_texts_pair (no_texts e h i k) = absurd (subst IsLess (sym i) (early_less e))
+  of_texts_pair (no_texts e h i k) = absurd (not_valid e i)
   of_texts_pair (of_texts d' p' x h) = of_plan d' p' x h
 
 pub lifted_is_stepped : LiftedIsStepped
-lifted_is_stepped q ds ps ls written step (no_pair e h i k) = absurd (subst IsLess (sym i) (early_less e))
+lifted_is_stepped q ds ps ls written step (no_pair e h i k) = absurd (not_valid e i)
 lifted_is_stepped q ds ps ls written step (of_pair d p t h) = of_texts_pair q ds ps ls written step d p t h

@@ -39,7 +39,8 @@ use Rattle.plus_validator.proofs.Inside.{one_of}
 use Rattle.plus_validator.proofs.OneAnswer.{Parted, same, left, right, parted}
 use Rattle.plus_validator.proofs.OneRefusal.{passed_by}
 use Rattle.plus_validator.proofs.OneText.{read_once, accepted_whole}
-use Rattle.plus_validator.proofs.TextStops.{lines_meant-more, goes_on, begun_more, unbegun_is, report_more}
+use Rattle.plus_validator.proofs.TextStops.{lines_meant-more, goes_on, begun_more, unbegun_is}
+use Rattle.plus_validator.specs.Told.{report_more}
 use Rattle.laws_answers.specs.Beginnings.{ToldOnWayBegins}
 use Rattle.laws_answers.proofs.Cuts.{one_whole}
 

@@ -1,4 +1,4 @@
-//! Laws over whole answers of the program: there is one, what was cut short begins it, where no cause of a refusal stands it is valid, and what `plan` writes is accepted by `check`.
+//! Laws over whole answers of the program: there is one, what was cut short begins it, where no cause of a refusal stands it is valid, what each status shows, and what `plan` writes is accepted by `check`.
 #![tactic(auto)]
 
 pub mod beginnings;
@@ -6,4 +6,6 @@ pub mod chained;
 pub mod complete;
 pub mod existing;
 pub mod lifted;
+pub mod lines;
 pub mod named;
+pub mod statuses;

@@ -1,11 +1,8 @@
 //! planplus validates timed plans for PDDL+ problems, with exact fractions.
 #![tactic(auto)]
 
-mod explain;
 mod files;
-mod lifted;
 mod screen;
-mod unmet;
 
 ghost use Rattle.std.specs.Prelude.{◌≡◌, ◌⊎◌, ◌≤◌, ◌+◌, map, string_bytes, None};
 ghost use Rattle.std.specs.Process.{exit_status};
@@ -17,8 +14,8 @@ ghost use Rattle.plus_run.specs.Headline.{IsAnswer, EndsWith, MayEnd};
 ghost use Rattle.plus_run.specs.Laws.{DecidesFor};
 ghost use Rattle.plus_run.specs.Stopping.{StopsRun, BreaksRun};
 
-use explain::explain;
 use files::shelf_for;
+use plus_causes::explain;
 use plus_explain::{Ending, Kept};
 use plus_io::{Freeing, Shelf, Sink};
 use plus_report::Status;

@@ -1,8 +1,7 @@
 -- What a reply shows, put together from what its calls answer.
-use Rattle.std.proofs.Common.{◌≡◌, ℕ, ◌≤◌, List, Option, Some, None, subst, sym, ◌∙◌, refl, IsTrue, inl, inr}
+use Rattle.std.proofs.Common.{◌≡◌, ℕ, List, Option, subst, sym, refl, IsTrue}
 use Rattle.std.specs.Prelude.{IfSome, IfOk, IfErr, Result, Ok, Err}
 use Rattle.plus_io.specs.Faults.{Rose}
-use Rattle.plus_io.specs.Taken.{Took, TookPart}
 use Rattle.plus_tree.specs.declared.trees.Domain.{Domain}
 use Rattle.plus_tree.specs.declared.trees.Problem.{Problem}
 use Rattle.plus_types.specs.Faults.{is_well_typed}
@@ -10,17 +9,15 @@ use Rattle.plus_report.specs.declared.refusals.Early.{Early}
 use Rattle.plus_report.specs.declared.refusals.Early.TheVariants as es
 use Rattle.plus_report.specs.Refusals.{early_text}
 use Rattle.plus_report.specs.declared.status.Status.{Status}
-use Rattle.plus_report.specs.declared.status.Status.TheVariants as s
 use Rattle.plus_reply.specs.declared.reply.Reply.{Reply}
 use Rattle.plus_reply.specs.declared.reply.Fault.{Fault}
-use Rattle.plus_reply.specs.declared.reply.Fault.TheVariants as faults
 use Rattle.plus_reply.specs.declared.pair.pair.Refusal.{Refusal}
 use Rattle.plus_reply.specs.declared.pair.pair.Refusal.TheVariants as refusals
 use Rattle.plus_reply.specs.Pair.Pair.{PairRefused, SpellsWellTyped}
 use Rattle.plus_reply.specs.Pair.Reads.{ReadsPair, NoPair}
-use Rattle.plus_reply.specs.Statuses.{early_status, Writes}
+use Rattle.plus_reply.specs.Statuses.{early_status}
 use Rattle.plus_reply.proofs.PairLemmas.SpelledLemmas.{on_pair, told}
-use Rattle.plus_reply.specs.Reply.{IsPlain, HasCause, TellsRefusal, Gives, Replied, RepliedInPart}
+use Rattle.plus_reply.specs.Reply.{IsPlain, HasCause, TellsRefusal}
 
 -- ---- a refusal as a reply
 
@@ -79,60 +76,3 @@ refusal_told domain problem d p refusals.ReadFault r P f rd w t =
     subst (λ x. IfOk x (λ y. IfSome domain (λ ds. IfSome problem (λ ps. P ds ps y.status y.text.items)))) (sym t) tt
 refusal_told domain problem d p refusals.NoMemory r P f rd w t =
     subst (λ x. IfOk x (λ y. IfSome domain (λ ds. IfSome problem (λ ps. P ds ps y.status y.text.items)))) (sym t) tt
-
--- what is replied on two texts was taken
-pub two_taken :
-    (domain problem : Option (List ℕ)) (P : List ℕ → List ℕ → Status → List ℕ → Type 0) (old new : Option (List ℕ)) (status : Status) (text : List ℕ)
-    → IfSome domain (λ ds. IfSome problem (λ ps. P ds ps status text)) → Took old new text
-    → IfSome domain (λ ds. IfSome problem (λ ps. Replied (P ds ps) old new status))
-two_taken None problem P old new status text h t = tt
-two_taken (Some ds) None P old new status text h t = tt
-two_taken (Some ds) (Some ps) P old new status text h t = record { written = text; reply = h; took = t }
-
-pub two_in_part :
-    (domain problem : Option (List ℕ)) (P : List ℕ → List ℕ → Status → List ℕ → Type 0) (old new : Option (List ℕ)) (status : Status) (text : List ℕ)
-    → IfSome domain (λ ds. IfSome problem (λ ps. P ds ps status text)) → TookPart old new text
-    → IfSome domain (λ ds. IfSome problem (λ ps. RepliedInPart (P ds ps) old new))
-two_in_part None problem P old new status text h t = tt
-two_in_part (Some ds) None P old new status text h t = tt
-two_in_part (Some ds) (Some ps) P old new status text h t = record { status = status; written = text; reply = h; part = t }
-
--- with this status
-pub two_taken_as :
-    (domain problem : Option (List ℕ)) (P : List ℕ → List ℕ → Status → List ℕ → Type 0) (old new : Option (List ℕ)) (status wanted : Status) (text : List ℕ)
-    → IfSome domain (λ ds. IfSome problem (λ ps. P ds ps status text)) → status ≡ wanted → Took old new text
-    → IfSome domain (λ ds. IfSome problem (λ ps. Replied (P ds ps) old new wanted))
-two_taken_as domain problem P old new status wanted text h e t =
-    subst (λ x. IfSome domain (λ ds. IfSome problem (λ ps. Replied (P ds ps) old new x))) e (two_taken domain problem P old new status text h t)
-
--- ---- the same of three texts
-
-on_three :
-    (domain problem plan : Option (List ℕ)) (Q R : List ℕ → List ℕ → List ℕ → Type 0) → ((ds ps ls : List ℕ) → Q ds ps ls → R ds ps ls)
-    → IfSome domain (λ ds. IfSome problem (λ ps. IfSome plan (λ ls. Q ds ps ls)))
-    → IfSome domain (λ ds. IfSome problem (λ ps. IfSome plan (λ ls. R ds ps ls)))
-on_three None problem plan Q R f h = tt
-on_three (Some ds) None plan Q R f h = tt
-on_three (Some ds) (Some ps) None Q R f h = tt
-on_three (Some ds) (Some ps) (Some ls) Q R f h = f ds ps ls h
-
-module _ (domain problem plan : Option (List ℕ)) (P : List ℕ → List ℕ → List ℕ → Status → List ℕ → Type 0) (old new : Option (List ℕ)) where
-  pub three_taken :
-      (status : Status) (text : List ℕ) → IfSome domain (λ ds. IfSome problem (λ ps. IfSome plan (λ ls. P ds ps ls status text))) → Took old new text
-      → IfSome domain (λ ds. IfSome problem (λ ps. IfSome plan (λ ls. Replied (P ds ps ls) old new status)))
-  three_taken status text h t =
-      on_three domain problem plan (λ ds ps ls. P ds ps ls status text) (λ ds ps ls. Replied (P ds ps ls) old new status)
-      (λ ds ps ls k. record { written = text; reply = k; took = t }) h
-
-  pub three_in_part :
-      (status : Status) (text : List ℕ) → IfSome domain (λ ds. IfSome problem (λ ps. IfSome plan (λ ls. P ds ps ls status text))) → TookPart old new text
-      → IfSome domain (λ ds. IfSome problem (λ ps. IfSome plan (λ ls. RepliedInPart (P ds ps ls) old new)))
-  three_in_part status text h t =
-      on_three domain problem plan (λ ds ps ls. P ds ps ls status text) (λ ds ps ls. RepliedInPart (P ds ps ls) old new)
-      (λ ds ps ls k. record { status = status; written = text; reply = k; part = t }) h
-
-  pub three_taken_as :
-      (status wanted : Status) (text : List ℕ) → IfSome domain (λ ds. IfSome problem (λ ps. IfSome plan (λ ls. P ds ps ls status text))) → status ≡ wanted
-      → Took old new text → IfSome domain (λ ds. IfSome problem (λ ps. IfSome plan (λ ls. Replied (P ds ps ls) old new wanted)))
-  three_taken_as status wanted text h e t =
-      subst (λ x. IfSome domain (λ ds. IfSome problem (λ ps. IfSome plan (λ ls. Replied (P ds ps ls) old new x)))) e (three_taken status text h t)

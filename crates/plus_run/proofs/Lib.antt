@@ -2,7 +2,6 @@ pub mod AnswerLemmas
 pub mod CommandLemmas
 pub mod OneAnswer
 pub mod OneNumeric
-pub mod OneReply
 pub mod OneCommand
 pub mod NumericLemmas
 pub mod ReplyLemmas

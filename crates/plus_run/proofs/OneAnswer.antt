@@ -1,35 +1,36 @@
--- A check and a text that is shown have one answer over the same files.
-use Rattle.std.proofs.Common.{◌≡◌, ℕ, ◌≤◌, List, ◌++◌, length, Option, Some, None, subst, sym, ◌∙◌, ap, refl}
+-- A command over the same files has one answer: what it replies is one.
+use Rattle.std.proofs.Common.{◌≡◌, ℕ, ◌≤◌, List, length, Option, Some, None, subst, sym, ◌∙◌, ap, inl, inr}
 use Rattle.std.specs.Prelude.{IfSome, IsSome}
 use Rattle.std.specs.Io.KnownBytes.{append_known}
-use Rattle.plus_io.specs.Taken.{Took}
 use Rattle.plus_tree.specs.declared.trees.Domain.{Domain}
 use Rattle.plus_tree.specs.declared.trees.Problem.{Problem}
 use Rattle.plus_report.specs.declared.refusals.Early.{Early}
 use Rattle.plus_report.specs.Refusals.{early_text}
 use Rattle.plus_validator.specs.declared.judge.Outcome.{Outcome}
 use Rattle.plus_validator.specs.declared.judge.Outcome.TheVariants as outcomes
-use Rattle.plus_validator.specs.Validates.{IsUngrounded, IsRefusedIn, IsWhole}
-use Rattle.plus_validator.specs.Laws.{IsJudgedFor, accepted, refused}
+use Rattle.plus_validator.specs.Outcomes.{status_of}
+use Rattle.plus_validator.specs.Validates.{IsUngrounded, IsWhole}
+use Rattle.plus_validator.specs.Laws as laws
+use Rattle.plus_validator.specs.Laws.{IsJudgedFor}
 use Rattle.plus_validator.proofs.Excluding.{pair_or_plan}
 use Rattle.plus_validator.proofs.OneLine.{one_line}
 use Rattle.plus_validator.proofs.OneText as plans
-use Rattle.plus_reply.specs.Pair.Pair.{PairRefused}
 use Rattle.plus_io.specs.Limits.{text_limit}
-use Rattle.plus_reply.proofs.PairLemmas.OnePair.{pair_once, pair_refused_once, pair_or_not}
 use Rattle.plus_report.specs.declared.status.Status.{Status}
 use Rattle.plus_report.specs.declared.status.Status.TheVariants as s
+use Rattle.plus_reply.specs.Pair.Pair.{PairRefused, SpellsWellTyped}
 use Rattle.plus_reply.specs.Statuses.{early_status}
-use Rattle.plus_reply.specs.Reply.{Same}
-use Rattle.plus_run.specs.Command.{Command, Check, ShowDomain, ShowProblem}
-use Rattle.plus_run.specs.Shown.{IsSpelled, IsShown, IsNotShown}
-use Rattle.plus_run.specs.Headline.{SpellsWellTyped, IsValidRun, IsRefusedRun, for_pair, for_ground, for_plan, OnRefusal, status_of}
-use Rattle.plus_run.specs.Laws.{IsSettled}
-use Rattle.plus_run.proofs.NumericLemmas.{IsLess}
+use Rattle.plus_reply.specs.Reply.{Same, HasOneReply, Replied}
+use Rattle.plus_reply.proofs.PairLemmas.OnePair.{pair_once, pair_refused_once, pair_or_not}
+use Rattle.plus_run.specs.Command.{Command, Check, ShowDomain, ShowProblem, Numeric, Trial, Translate, Lift, Plan, files_of}
+use Rattle.plus_run.specs.Checks.{Checks, no_pair, no_ground, accepted, refused, OnPlan}
+use Rattle.plus_run.specs.Shown.{Shows, a_tree, no_tree}
+use Rattle.plus_run.specs.Headline.{Answers, OnWay, IsSettled, IsAnswer}
+use Rattle.plus_run.specs.Laws.{AreTold}
 
 -- ---- the answer of a check
 
--- what a check wrote, with its status
+-- what a check wrote, with its status: an accepted plan and a refused one have a report and a verdict line
 pub data Checked (n : ℕ) (ds ps ls : List ℕ) (status : Status) (written : List ℕ) : Type 0 where
   by_pair : (e : Early) → PairRefused ds ps e → status ≡ early_status e → written ≡ early_text e → Checked n ds ps ls status written
   by_ground : (d : Domain) (p : Problem) → SpellsWellTyped ds ps d p → status ≡ s.Beyond → IsUngrounded d p written → Checked n ds ps ls status written
@@ -39,13 +40,25 @@ pub data Checked (n : ℕ) (ds ps ls : List ℕ) (status : Status) (written : Li
 
 -- an answer to a plan is one for its pair
 judged : (n : ℕ) (d : Domain) (p : Problem) (ls : List ℕ) (outcome : Outcome) (written : List ℕ) → IsWhole d p n ls outcome written → IsJudgedFor d p
-judged n d p ls outcomes.Valid w h = accepted n ls w h
-judged n d p ls outcomes.Invalid w h = refused n h.text h.goes_on outcomes.Invalid w h.refused
-judged n d p ls outcomes.Beyond w h = refused n h.text h.goes_on outcomes.Beyond w h.refused
-judged n d p ls outcomes.BadText w h = refused n h.text h.goes_on outcomes.BadText w h.refused
+judged n d p ls outcomes.Valid w h = laws.accepted n ls w h
+judged n d p ls outcomes.Invalid w h = laws.refused n h.text h.goes_on outcomes.Invalid w h.refused
+judged n d p ls outcomes.Beyond w h = laws.refused n h.text h.goes_on outcomes.Beyond w h.refused
+judged n d p ls outcomes.BadText w h = laws.refused n h.text h.goes_on outcomes.BadText w h.refused
 judged n d p ls outcomes.ReadFault w h = absurd h
 judged n d p ls outcomes.WriteFault w h = absurd h
 judged n d p ls outcomes.NoMemory w h = absurd h
+
+pub checked : (n : ℕ) (ds ps ls : List ℕ) (x : Status) (w : List ℕ) → Checks n ds ps (Some ls) x w → Checked n ds ps ls x w
+checked n ds ps ls x w (no_pair e h i k) = by_pair e h i k
+checked n ds ps ls x w (no_ground d p t i g) = by_ground d p t i g
+checked n ds ps ls x w (accepted d p t i h) = by_plan d p outcomes.Valid t i h
+checked n ds ps ls x w (refused d p outcomes.Invalid t l i h) = by_plan d p outcomes.Invalid t i h
+checked n ds ps ls x w (refused d p outcomes.Beyond t l i h) = by_plan d p outcomes.Beyond t i h
+checked n ds ps ls x w (refused d p outcomes.BadText t l i h) = by_plan d p outcomes.BadText t i h
+checked n ds ps ls x w (refused d p outcomes.Valid t l i h) = absurd l
+checked n ds ps ls x w (refused d p outcomes.ReadFault t l i h) = absurd l
+checked n ds ps ls x w (refused d p outcomes.WriteFault t l i h) = absurd l
+checked n ds ps ls x w (refused d p outcomes.NoMemory t l i h) = absurd l
 
 module _ (n : ℕ) (ds ps ls : List ℕ) (x y : Status) (w v : List ℕ) where
   grounds : (d d' : Domain) (p p' : Problem) → SpellsWellTyped ds ps d p → SpellsWellTyped ds ps d' p' → x ≡ s.Beyond → y ≡ s.Beyond → IsUngrounded d p w → IsUngrounded d' p' v → Same x y w v
@@ -80,118 +93,74 @@ module _ (n : ℕ) (ds ps ls : List ℕ) (x y : Status) (w v : List ℕ) where
 
 -- ---- the answer of `show`
 
--- what was shown, or the line that says why nothing is
-data Showed {T : Type 0} (Spells : List ℕ → T → Type 0) (canon : T → List ℕ) (Refused : List ℕ → Early → Type 0) (text : List ℕ) (status : Status) (written : List ℕ) : Type 0 where
-  a_tree : (tree : T) → IsSpelled Spells text tree → status ≡ s.Valid → written ≡ canon tree → Showed Spells canon Refused text status written
-  a_line : (e : Early) → Refused text e → status ≡ early_status e → written ≡ early_text e → Showed Spells canon Refused text status written
+module _ {T : Type 0} (Spells : List ℕ → T → Type 0) (canon : T → List ℕ) (Refused : List ℕ → Early → Type 0) (text : List ℕ) (trees : (a b : T) → Spells text a → Spells text b → a ≡ b) (lines : (e f : Early) → Refused text e → Refused text f → e ≡ f) (apart : (e : Early) (a : T) → Refused text e → length text ≤ text_limit → Spells text a → ⊥) where
+  pub shown_once : HasOneReply (Shows Spells canon Refused text)
+  shown_once x y w v (a_tree a h i k) (a_tree b g j l) = (i ∙ sym j, k ∙ ap canon (trees a b h.0 g.0) ∙ sym l)
+  shown_once x y w v (a_tree a h i k) (no_tree e g j l) = absurd (apart e a g h.1 h.0)
+  shown_once x y w v (no_tree e h i k) (a_tree b g j l) = absurd (apart e b h g.1 g.0)
+  shown_once x y w v (no_tree e h i k) (no_tree f g j l) =
+      let one = lines e f h g in
+      (i ∙ ap early_status one ∙ sym j, k ∙ ap early_text one ∙ sym l)
 
-showed_once :
-    {T : Type 0} (Spells : List ℕ → T → Type 0) (canon : T → List ℕ) (Refused : List ℕ → Early → Type 0) (text : List ℕ) (x y : Status) (w v : List ℕ)
-    → ((a b : T) → Spells text a → Spells text b → a ≡ b) → ((e f : Early) → Refused text e → Refused text f → e ≡ f)
-    → ((e : Early) (a : T) → Refused text e → length text ≤ text_limit → Spells text a → ⊥)
-    → Showed Spells canon Refused text x w → Showed Spells canon Refused text y v → Same x y w v
-showed_once Spells canon Refused text x y w v trees lines apart (a_tree a h i k) (a_tree b g j l) =
-    (i ∙ sym j, k ∙ ap canon (trees a b h.0 g.0) ∙ sym l)
-showed_once Spells canon Refused text x y w v trees lines apart (a_tree a h i k) (a_line e g j l) = absurd (apart e a g h.1 h.0)
-showed_once Spells canon Refused text x y w v trees lines apart (a_line e h i k) (a_tree b g j l) = absurd (apart e b h g.1 g.0)
-showed_once Spells canon Refused text x y w v trees lines apart (a_line e h i k) (a_line f g j l) =
-    let one = lines e f h g in
-    (i ∙ ap early_status one ∙ sym j, k ∙ ap early_text one ∙ sym l)
+-- ---- where the shelf tells the files
 
--- ---- from an answer to what was written
+-- one file has one text, of which the reply is
+pub on_one : (Q : List ℕ → Status → List ℕ → Type 0) (o : Option (List ℕ)) → IsSome o → ((text : List ℕ) → HasOneReply (Q text)) → HasOneReply (λ x w. IfSome o (λ text. Q text x w))
+on_one Q None i once = cc i
+on_one Q (Some text) i once = once text
 
--- what the output took, and what it says with this status
-pub record Wrote (Says : Status → List ℕ → Type 0) (old new : Option (List ℕ)) (status : Status) : Type 0 where
-  pub written : List ℕ
-  pub took : Took old new written
-  pub says : Says status written
+pub on_two :
+    (Q : List ℕ → List ℕ → Status → List ℕ → Type 0) (d p : Option (List ℕ)) → IsSome d → IsSome p → ((ds ps : List ℕ) → HasOneReply (Q ds ps))
+    → HasOneReply (λ x w. IfSome d (λ ds. IfSome p (λ ps. Q ds ps x w)))
+on_two Q d p i j once = on_one (λ ds x w. IfSome p (λ ps. Q ds ps x w)) d i (λ ds. on_one (Q ds) p j (once ds))
 
-pub wrote_once :
-    (Says : Status → List ℕ → Type 0) (old new new' : Option (List ℕ)) (x y : Status) → ((w v : List ℕ) → Says x w → Says y v → Same x y w v)
-    → Wrote Says old new x → Wrote Says old new' y → (x ≡ y) × (new ≡ new')
-wrote_once Says old new new' x y once a b =
-    let same = once a.written b.written a.says b.says in
-    (same.0, a.took ∙ ap (append_known old) same.1 ∙ sym b.took)
+pub on_three :
+    (Q : List ℕ → List ℕ → List ℕ → Status → List ℕ → Type 0) (d p l : Option (List ℕ)) → IsSome d → IsSome p → IsSome l
+    → ((ds ps ls : List ℕ) → HasOneReply (Q ds ps ls)) → HasOneReply (λ x w. IfSome d (λ ds. IfSome p (λ ps. IfSome l (λ ls. Q ds ps ls x w))))
+on_three Q d p l i j k once = on_two (λ ds ps x w. IfSome l (λ ls. Q ds ps ls x w)) d p i j (λ ds ps. on_one (Q ds ps) l k (once ds ps))
 
-whole_of : (n : ℕ) (d : Domain) (p : Problem) (ls : List ℕ) (o : Outcome) (status : Status) (w : List ℕ) → status ≡ status_of o → IsLess status → IsRefusedIn d p n ls o w → IsWhole d p n ls o w
-whole_of n d p ls outcomes.Invalid status w i l h = h
-whole_of n d p ls outcomes.Beyond status w i l h = h
-whole_of n d p ls outcomes.BadText status w i l h = h
-whole_of n d p ls outcomes.Valid status w i l h = absurd (subst IsLess i l)
-whole_of n d p ls outcomes.ReadFault status w i l h = absurd (subst IsLess i l)
-whole_of n d p ls outcomes.WriteFault status w i l h = absurd (subst IsLess i l)
-whole_of n d p ls outcomes.NoMemory status w i l h = absurd (subst IsLess i l)
+check_once : (n : ℕ) (ds ps : List ℕ) (l : Option (List ℕ)) → IsSome l → HasOneReply (Checks n ds ps l)
+check_once n ds ps None k = cc k
+check_once n ds ps (Some ls) k = λ x y w v a b. checked_once n ds ps ls x y w v (checked n ds ps ls x w a) (checked n ds ps ls y v b)
 
--- a check
-module _ (n : ℕ) (ds ps ls : List ℕ) (old new : Option (List ℕ)) where
-  refused_wrote : (status : Status) → IsLess status → IsRefusedRun n ds ps (Some ls) old new status → Wrote (Checked n ds ps ls) old new status
-  refused_wrote status l (for_pair e h i t) = record { written = early_text e; took = t; says = by_pair e h i refl }
-  refused_wrote status l (for_ground d p t i g) = record { written = g.line; took = g.took; says = by_ground d p t i g.ungrounded }
-  refused_wrote status l (for_plan d p o t i h) =
-      record { written = h.bytes; took = h.took; says = by_plan d p o t i (whole_of n d p ls o status h.bytes i l h.refused) }
+pub checks_once : (n : ℕ) (d p l : Option (List ℕ)) → IsSome d → IsSome p → IsSome l → HasOneReply (λ x w. IfSome d (λ ds. IfSome p (λ ps. Checks n ds ps l x w)))
+checks_once n d p l i j k = on_two (λ ds ps. Checks n ds ps l) d p i j (λ ds ps. check_once n ds ps l k)
 
-  pub check_wrote : (status : Status) → IsSettled status → (status ≡ s.Valid → IsValidRun n ds ps ls old new) → OnRefusal status (IsRefusedRun n ds ps (Some ls) old new status) → (status ≡ s.Usage → ⊥) → Wrote (Checked n ds ps ls) old new status
-  check_wrote s.Valid g v r u =
-      let a = v refl in
-      record { written = a.accepted.bytes; took = a.accepted.took; says = by_plan a.d a.p outcomes.Valid a.pair refl a.accepted.accepted }
-  check_wrote s.Invalid g v r u = refused_wrote s.Invalid tt r
-  check_wrote s.Beyond g v r u = refused_wrote s.Beyond tt r
-  check_wrote s.BadText g v r u = refused_wrote s.BadText tt r
-  check_wrote s.Usage g v r u = absurd (u refl)
-  check_wrote s.ReadFault g v r u = absurd g
-  check_wrote s.WriteFault g v r u = absurd g
-  check_wrote s.NoMemory g v r u = absurd g
+-- ---- what was written
 
--- a text that is shown
-module _ {T : Type 0} (Spells : List ℕ → T → Type 0) (canon : T → List ℕ) (Refused : List ℕ → Early → Type 0) (text : List ℕ) (old new : Option (List ℕ)) where
-  line_wrote : (status : Status) → IsNotShown Refused text old new status → Wrote (Showed Spells canon Refused text) old new status
-  line_wrote status h = record { written = early_text h.early; took = h.took; says = a_line h.early h.cause h.status_is refl }
+-- a check whose files are told is not one whose plan is not
+no_plan : (ds ps : List ℕ) (l : Option (List ℕ)) → IsSome l → OnPlan ds ps l (λ d p text. ⊥) → ⊥
+no_plan ds ps None k h = cc k
+no_plan ds ps (Some ls) k h = h.holds
 
-  show_wrote : (status : Status) → IsSettled status → (status ≡ s.Valid → IsShown Spells canon text old new) → OnRefusal status (IsNotShown Refused text old new status) → (status ≡ s.Usage → ⊥) → Wrote (Showed Spells canon Refused text) old new status
-  show_wrote s.Valid g v r u =
-      let a = v refl in
-      record { written = canon a.tree; took = a.took; says = a_tree a.tree a.spelled refl refl }
-  show_wrote s.Invalid g v r u = line_wrote s.Invalid r
-  show_wrote s.Beyond g v r u = line_wrote s.Beyond r
-  show_wrote s.BadText g v r u = line_wrote s.BadText r
-  show_wrote s.Usage g v r u = absurd (u refl)
-  show_wrote s.ReadFault g v r u = absurd g
-  show_wrote s.WriteFault g v r u = absurd g
-  show_wrote s.NoMemory g v r u = absurd g
+untold : (d p l : Option (List ℕ)) → IsSome d → IsSome p → IsSome l → IfSome d (λ ds. IfSome p (λ ps. OnPlan ds ps l (λ a b text. ⊥))) → ⊥
+untold None p l i j k h = cc i
+untold (Some ds) None l i j k h = cc j
+untold (Some ds) (Some ps) l i j k h = no_plan ds ps l k h
 
--- ---- two answers
+not_untold : (command : Option Command) (bytes : List ℕ → Option (List ℕ)) → AreTold bytes (files_of command) → OnWay command bytes (λ most d p plan. ⊥) → ⊥
+not_untold None bytes t h = h
+not_untold (Some (Check d p l n)) bytes t h = untold (bytes d) (bytes p) (bytes l) t.0 t.1.0 t.1.1.0 h
+not_untold (Some (ShowDomain file)) bytes t h = h
+not_untold (Some (ShowProblem file)) bytes t h = h
+not_untold (Some (Numeric d p l)) bytes t h = h
+not_untold (Some (Trial n)) bytes t h = h
+not_untold (Some (Translate file q d p)) bytes t h = h
+not_untold (Some (Lift q d p l)) bytes t h = h
+not_untold (Some (Plan q k n d p)) bytes t h = h
 
--- of a check, where the shelf tells its files
-pub both_checks :
-    (n : ℕ) (d p l : Option (List ℕ)) (old new new' : Option (List ℕ)) (x y : Status) → IsSome d → IsSome p → IsSome l → IsSettled x → IsSettled y
-    → (x ≡ s.Valid → IfSome d (λ ds. IfSome p (λ ps. IfSome l (λ ls. IsValidRun n ds ps ls old new))))
-    → OnRefusal x (IfSome d (λ ds. IfSome p (λ ps. IsRefusedRun n ds ps l old new x))) → (x ≡ s.Usage → ⊥)
-    → (y ≡ s.Valid → IfSome d (λ ds. IfSome p (λ ps. IfSome l (λ ls. IsValidRun n ds ps ls old new'))))
-    → OnRefusal y (IfSome d (λ ds. IfSome p (λ ps. IsRefusedRun n ds ps l old new' y))) → (y ≡ s.Usage → ⊥)
+-- where the shelf tells the files, the sink took what the command answers
+pub settled_reply :
+    (command : Option Command) (bytes : List ℕ → Option (List ℕ)) (old new : Option (List ℕ)) (a b c d : ℕ) (x : Status)
+    → AreTold bytes (files_of command) → IsAnswer command bytes old new a b c d x → IsSettled x → Replied (Answers command bytes) old new x
+settled_reply command bytes old new a b c d x t h g = elim (h.replied g) [
+  | inl r ↦ r
+  | inr u ↦ absurd (not_untold command bytes t u)
+]
+
+pub replied_once :
+    (Q : Status → List ℕ → Type 0) (old new new' : Option (List ℕ)) (x y : Status) → HasOneReply Q → Replied Q old new x → Replied Q old new' y
     → (x ≡ y) × (new ≡ new')
-both_checks n None p l old new new' x y i j k g h v r u w q t = cc i
-both_checks n (Some ds) None l old new new' x y i j k g h v r u w q t = cc j
-both_checks n (Some ds) (Some ps) None old new new' x y i j k g h v r u w q t = cc k
-both_checks n (Some ds) (Some ps) (Some ls) old new new' x y i j k g h v r u w q t =
-    wrote_once (Checked n ds ps ls) old new new' x y (λ a b. checked_once n ds ps ls x y a b)
-    (check_wrote n ds ps ls old new x g v r u) (check_wrote n ds ps ls old new' y h w q t)
-
--- of `show`, where the shelf tells its file
-module _ {T : Type 0} (Spells : List ℕ → T → Type 0) (canon : T → List ℕ) (Refused : List ℕ → Early → Type 0) where
-  pub both_shows :
-      (o : Option (List ℕ)) (old new new' : Option (List ℕ)) (x y : Status) → IsSome o
-      → ((text : List ℕ) (a b : T) → Spells text a → Spells text b → a ≡ b) → ((text : List ℕ) (e f : Early) → Refused text e → Refused text f → e ≡ f)
-      → ((text : List ℕ) (e : Early) (a : T) → Refused text e → length text ≤ text_limit → Spells text a → ⊥)
-      → IsSettled x → IsSettled y
-      → (x ≡ s.Valid → IfSome o (λ text. IsShown Spells canon text old new)) → OnRefusal x (IfSome o (λ text. IsNotShown Refused text old new x)) → (x ≡ s.Usage → ⊥)
-      → (y ≡ s.Valid → IfSome o (λ text. IsShown Spells canon text old new')) → OnRefusal y (IfSome o (λ text. IsNotShown Refused text old new' y)) → (y ≡ s.Usage → ⊥)
-      → (x ≡ y) × (new ≡ new')
-  both_shows None old new new' x y i trees lines apart g h v r u w q t = cc i
-  both_shows (Some text) old new new' x y i trees lines apart g h v r u w q t =
-      wrote_once (Showed Spells canon Refused text) old new new' x y
-      (λ a b. showed_once Spells canon Refused text x y a b (trees text) (lines text) (apart text))
-      (show_wrote Spells canon Refused text old new x g v r u) (show_wrote Spells canon Refused text old new' y h w q t)
-
--- ---- the words are a command
-pub no_usage : (c : Command) (x : Status) → (x ≡ s.Usage → Some c ≡ None) → x ≡ s.Usage → ⊥
-no_usage c x f e = let k : Some c ≡ None = f e in cc k
+replied_once Q old new new' x y once a b =
+    let same = once x y a.written b.written a.reply b.reply in
+    (same.0, a.took ∙ ap (append_known old) same.1 ∙ sym b.took)

@@ -50,6 +50,10 @@ pub usage_no_read :
 usage_no_read line old new before now r = written_no_read line s.Usage old new before now r (λ q. cc q)
 
 -- of a command that is no check nothing is out
+at_once : {A : Type 0} → A ⊎ ⊥ → A
+at_once (inl h) = h
+at_once (inr h) = absurd h
+
 abbrev pub IsNoCheck : Option Command → Type 0
 IsNoCheck (Some (Check d p l n)) = ⊥
 IsNoCheck _ = Unit {0}
@@ -76,15 +80,15 @@ module _ {S : Type 0} (bytes : S → List ℕ → Option (List ℕ)) (picked res
   nothing_out :
       (m : Option Command) (files : List ℕ → Option (List ℕ)) (a b c d : ℕ) (r : Status) → IsNoCheck m → IsAnswer m files old new a b c d r
       → r ≡ s.ReadFault → StopsRun bytes picked rest picks m before after old new
-  nothing_out None files a b c d r k h v = (h.read_fault v).1
+  nothing_out None files a b c d r k h v = at_once ((h.read_fault v).1)
   nothing_out (Some (Check x y z n)) files a b c d r k h v = absurd k
-  nothing_out (Some (ShowDomain x)) files a b c d r k h v = (h.read_fault v).1
-  nothing_out (Some (ShowProblem x)) files a b c d r k h v = (h.read_fault v).1
-  nothing_out (Some (Numeric x y z)) files a b c d r k h v = (h.read_fault v).1
-  nothing_out (Some (Trial n)) files a b c d r k h v = (h.read_fault v).1
-  nothing_out (Some (Translate file q x y)) files a b c d r k h v = (h.read_fault v).1
-  nothing_out (Some (Lift q x y z)) files a b c d r k h v = (h.read_fault v).1
-  nothing_out (Some (Plan q k' n x y)) files a b c d r k h v = (h.read_fault v).1
+  nothing_out (Some (ShowDomain x)) files a b c d r k h v = at_once ((h.read_fault v).1)
+  nothing_out (Some (ShowProblem x)) files a b c d r k h v = at_once ((h.read_fault v).1)
+  nothing_out (Some (Numeric x y z)) files a b c d r k h v = at_once ((h.read_fault v).1)
+  nothing_out (Some (Trial n)) files a b c d r k h v = at_once ((h.read_fault v).1)
+  nothing_out (Some (Translate file q x y)) files a b c d r k h v = at_once ((h.read_fault v).1)
+  nothing_out (Some (Lift q x y z)) files a b c d r k h v = at_once ((h.read_fault v).1)
+  nothing_out (Some (Plan q k' n x y)) files a b c d r k h v = at_once ((h.read_fault v).1)
 
   -- another command than a check
   pub other_stops :

@@ -1,166 +1,78 @@
 -- What an answer of the top call shows.
-use Rattle.std.specs.Prelude.{◌≡◌, ℕ, List, Option, Some, None, IfSome, codes}
+use Rattle.std.specs.Prelude.{◌≡◌, ◌⊎◌, ℕ, List, Option, Some, None, IfSome, codes}
 use Rattle.plus_io.specs.Faults.{Rose}
-use Rattle.plus_io.specs.Taken.{Took, TookPart}
 use Rattle.plus_tree.specs.declared.trees.Domain.{Domain}
 use Rattle.plus_tree.specs.declared.trees.Problem.{Problem}
-use Rattle.plus_report.specs.declared.refusals.Early.{Early}
-use Rattle.plus_validator.specs.declared.judge.Outcome.{Outcome}
 use Rattle.plus_report.specs.declared.status.Status.{Status}
 use Rattle.plus_report.specs.declared.status.Status.TheVariants as s
-use Rattle.plus_report.specs.Refusals.{early_text}
-use Rattle.plus_validator.specs.Validates.{Accepts, Refuses, BreaksOff, RefusesPair, RefusesPairInPart}
 use Rattle.plus_validator.specs.Leaving.{TookLines, TookSoFar, BreaksOffSoFar}
 use Rattle.plus_grammar.specs.Texts.{IsDomainText, IsProblemText}
 use Rattle.plus_printer.specs.Canon.{domain_text, problem_text}
 use Rattle.plus_run.specs.Command.{Command, Check, ShowDomain, ShowProblem, Numeric, Trial, Translate, Lift, Plan}
-use Rattle.plus_reply.specs.Pair.Pair.{depth_limit, PairRefused, DomainRefused, ProblemRefused}
+use Rattle.plus_reply.specs.Pair.Pair.{depth_limit, DomainRefused, ProblemRefused}
 pub use Rattle.plus_reply.specs.Pair.Pair.{SpellsWellTyped}
-use Rattle.plus_reply.specs.Statuses.{early_status, Writes}
+use Rattle.plus_reply.specs.Statuses.{Writes}
 pub use Rattle.plus_report.specs.Statuses.{exit_number}
-pub use Rattle.plus_validator.specs.Outcomes.{status_of}
 use Rattle.plus_reply.specs.Reply.{Replied, RepliedInPart}
 use Rattle.plus_trial.specs.Trial.{IsTrial}
 use Rattle.plus_translate_command.specs.Translate.{Translates}
 use Rattle.plus_lift.specs.Command.Lift.{Lifts}
 use Rattle.plus_plan_command.specs.Plan.{Plans}
-use Rattle.plus_run.specs.Numeric.{RunsNumeric, RefusesNumeric, BreaksNumeric}
-use Rattle.plus_run.specs.Shown.{IsShown, IsNotShown, IsShownInPart}
-
--- The bytes under the three names spell a well-typed pair and a plan of lines, exactly one trajectory of the pair has
--- that plan's actions, and between old and new the sink took that trajectory's text and `valid`. The plan enters at most
--- so many moments.
-pub record IsValidRun (happenings : ℕ) (domain problem plan : List ℕ) (old new : Option (List ℕ)) : Type 0 where
-  pub d : Domain
-  pub p : Problem
-  pub pair : SpellsWellTyped domain problem d p
-  pub accepted : Accepts d p happenings plan old new
-
--- the same for a command, where the shelf tells what stands under its names
-abbrev pub RunsValid : Option Command → (List ℕ → Option (List ℕ)) → Option (List ℕ) → Option (List ℕ) → Type 0
-RunsValid None bytes old new = ⊥
-RunsValid (Some (Check d p l n)) bytes old new =
-    IfSome (bytes d) (λ ds. IfSome (bytes p) (λ ps. IfSome (bytes l) (λ ls. IsValidRun n ds ps ls old new)))
-RunsValid (Some (ShowDomain file)) bytes old new =
-    IfSome (bytes file) (λ text. IsShown (IsDomainText depth_limit) domain_text text old new)
-RunsValid (Some (ShowProblem file)) bytes old new =
-    IfSome (bytes file) (λ text. IsShown (IsProblemText depth_limit) problem_text text old new)
-RunsValid (Some (Numeric d p l)) bytes old new =
-    IfSome (bytes d) (λ ds. IfSome (bytes p) (λ ps. IfSome (bytes l) (λ ls. RunsNumeric ds ps ls old new)))
-RunsValid (Some (Trial n)) bytes old new = Replied (IsTrial n) old new s.Valid
-RunsValid (Some (Translate file q d p)) bytes old new =
-    IfSome (bytes d) (λ ds. IfSome (bytes p) (λ ps. Replied (Translates file q ds ps) old new s.Valid))
-RunsValid (Some (Lift q d p l)) bytes old new =
-    IfSome (bytes d) (λ ds. IfSome (bytes p) (λ ps. IfSome (bytes l) (λ ls. Replied (Lifts q ds ps ls) old new s.Valid)))
-RunsValid (Some (Plan q k n d p)) bytes old new =
-    IfSome (bytes d) (λ ds. IfSome (bytes p) (λ ps. Replied (Plans q k n ds ps) old new s.Valid))
+use Rattle.plus_run.specs.Checks.{Checks, OnPlan}
+use Rattle.plus_run.specs.Numeric.{PlaysUntimed}
+use Rattle.plus_run.specs.Shown.{Shows}
 
 -- the line that is written where the words mean no command
 abbrev pub usage_line : List ℕ
 usage_line = codes "usage: planplus COMMAND ARGUMENTS\n"
 
--- The command is refused, and between old and new the sink took: one line, where the two texts are no well-typed pair;
--- one line, where the pair is not grounded; else the report of what happens before the refusal, and the verdict line.
-pub data IsRefusedRun (happenings : ℕ) (domain problem : List ℕ) (plan : Option (List ℕ)) (old new : Option (List ℕ)) (status : Status) : Type 0 where
-  for_pair : (e : Early) → PairRefused domain problem e → status ≡ early_status e → Took old new (early_text e) → IsRefusedRun happenings domain problem plan old new status
-  for_ground :
-      (d : Domain) (p : Problem) → SpellsWellTyped domain problem d p → status ≡ s.Beyond → RefusesPair d p old new
-      → IsRefusedRun happenings domain problem plan old new status
-  for_plan :
-      (d : Domain) (p : Problem) (outcome : Outcome) → SpellsWellTyped domain problem d p → status ≡ status_of outcome
-      → IfSome plan (λ text. Refuses d p happenings text outcome old new) → IsRefusedRun happenings domain problem plan old new status
+-- What a command answers, where the shelf tells what stands under its names: the status, and the whole text that is written.
+abbrev pub Answers : Option Command → (List ℕ → Option (List ℕ)) → Status → List ℕ → Type 0
+Answers None bytes status text = (status ≡ s.Usage) × (text ≡ usage_line)
+Answers (Some (Check d p l n)) bytes status text = IfSome (bytes d) (λ ds. IfSome (bytes p) (λ ps. Checks n ds ps (bytes l) status text))
+Answers (Some (ShowDomain file)) bytes status text =
+    IfSome (bytes file) (λ shown. Shows (IsDomainText depth_limit) domain_text DomainRefused shown status text)
+Answers (Some (ShowProblem file)) bytes status text =
+    IfSome (bytes file) (λ shown. Shows (IsProblemText depth_limit) problem_text ProblemRefused shown status text)
+Answers (Some (Numeric d p l)) bytes status text =
+    IfSome (bytes d) (λ ds. IfSome (bytes p) (λ ps. IfSome (bytes l) (λ ls. PlaysUntimed ds ps ls status text)))
+Answers (Some (Trial n)) bytes status text = IsTrial n status text
+Answers (Some (Translate file q d p)) bytes status text = IfSome (bytes d) (λ ds. IfSome (bytes p) (λ ps. Translates file q ds ps status text))
+Answers (Some (Lift q d p l)) bytes status text =
+    IfSome (bytes d) (λ ds. IfSome (bytes p) (λ ps. IfSome (bytes l) (λ ls. Lifts q ds ps ls status text)))
+Answers (Some (Plan q k n d p)) bytes status text = IfSome (bytes d) (λ ds. IfSome (bytes p) (λ ps. Plans q k n ds ps status text))
 
--- The sink failed, and took the beginning of what was to be written, and not all of it.
-pub data IsBrokenRun (happenings : ℕ) (domain problem : List ℕ) (plan : Option (List ℕ)) (old new : Option (List ℕ)) : Type 0 where
-  in_pair : (e : Early) → PairRefused domain problem e → TookPart old new (early_text e) → IsBrokenRun happenings domain problem plan old new
-  in_ground :
-      (d : Domain) (p : Problem) → SpellsWellTyped domain problem d p → RefusesPairInPart d p old new
-      → IsBrokenRun happenings domain problem plan old new
-  in_report :
-      (d : Domain) (p : Problem) → SpellsWellTyped domain problem d p
-      → IfSome plan (λ text. BreaksOffSoFar d p happenings text old new) → IsBrokenRun happenings domain problem plan old new
-  in_plan :
-      (d : Domain) (p : Problem) → SpellsWellTyped domain problem d p
-      → IfSome plan (λ text. BreaksOff d p happenings text old new) → IsBrokenRun happenings domain problem plan old new
+-- A check writes while it reads its plan: of its pair, of what the plan has, and of how many moments it may enter, this holds. Every
+-- other command writes when all is read.
+abbrev pub OnWay : Option Command → (List ℕ → Option (List ℕ)) → (ℕ → Domain → Problem → List ℕ → Type 0) → Type 0
+OnWay (Some (Check d p l n)) bytes Holds = IfSome (bytes d) (λ ds. IfSome (bytes p) (λ ps. OnPlan ds ps (bytes l) (Holds n)))
+OnWay _ bytes Holds = ⊥
 
--- A file failed: the sink took nothing, or the report for the whole lines of a beginning of the plan text, and no verdict line.
-pub data IsUnreadRun (happenings : ℕ) (domain problem : List ℕ) (plan : Option (List ℕ)) (old new : Option (List ℕ)) : Type 0 where
-  at_once : new ≡ old → IsUnreadRun happenings domain problem plan old new
-  in_lines :
-      (d : Domain) (p : Problem) → SpellsWellTyped domain problem d p
-      → IfSome plan (λ text. TookLines d p happenings text old new) → IsUnreadRun happenings domain problem plan old new
-
--- Memory was wanting: the sink took nothing, or first bytes of the report of a history that the first lines of the plan text tell,
--- and no verdict line.
-pub data IsStoppedRun (happenings : ℕ) (domain problem : List ℕ) (plan : Option (List ℕ)) (old new : Option (List ℕ)) : Type 0 where
-  nothing : new ≡ old → IsStoppedRun happenings domain problem plan old new
-  so_far :
-      (d : Domain) (p : Problem) → SpellsWellTyped domain problem d p
-      → IfSome plan (λ text. TookSoFar d p happenings text old new) → IsStoppedRun happenings domain problem plan old new
-
--- what is said where a command is refused: its plan is not valid, a limit stands, or a text is none
-abbrev pub OnRefusal : Status → Type 0 → Type 0
-OnRefusal s.Invalid P = P
-OnRefusal s.Beyond P = P
-OnRefusal s.BadText P = P
-OnRefusal _ P = Unit {0}
-
-abbrev pub RunsRefused : Option Command → (List ℕ → Option (List ℕ)) → Option (List ℕ) → Option (List ℕ) → Status → Type 0
-RunsRefused None bytes old new status = ⊥
-RunsRefused (Some (Check d p l n)) bytes old new status =
-    IfSome (bytes d) (λ ds. IfSome (bytes p) (λ ps. IsRefusedRun n ds ps (bytes l) old new status))
-RunsRefused (Some (ShowDomain file)) bytes old new status = IfSome (bytes file) (λ text. IsNotShown DomainRefused text old new status)
-RunsRefused (Some (ShowProblem file)) bytes old new status = IfSome (bytes file) (λ text. IsNotShown ProblemRefused text old new status)
-RunsRefused (Some (Numeric d p l)) bytes old new status =
-    IfSome (bytes d) (λ ds. IfSome (bytes p) (λ ps. IfSome (bytes l) (λ ls. RefusesNumeric ds ps ls old new status)))
-RunsRefused (Some (Trial n)) bytes old new status = Replied (IsTrial n) old new status
-RunsRefused (Some (Translate file q d p)) bytes old new status =
-    IfSome (bytes d) (λ ds. IfSome (bytes p) (λ ps. Replied (Translates file q ds ps) old new status))
-RunsRefused (Some (Lift q d p l)) bytes old new status =
-    IfSome (bytes d) (λ ds. IfSome (bytes p) (λ ps. IfSome (bytes l) (λ ls. Replied (Lifts q ds ps ls) old new status)))
-RunsRefused (Some (Plan q k n d p)) bytes old new status =
-    IfSome (bytes d) (λ ds. IfSome (bytes p) (λ ps. Replied (Plans q k n ds ps) old new status))
-
--- the same where the sink failed
-abbrev pub RunsBroken : Option Command → (List ℕ → Option (List ℕ)) → Option (List ℕ) → Option (List ℕ) → Type 0
-RunsBroken None bytes old new = TookPart old new usage_line
-RunsBroken (Some (Check d p l n)) bytes old new =
-    IfSome (bytes d) (λ ds. IfSome (bytes p) (λ ps. IsBrokenRun n ds ps (bytes l) old new))
-RunsBroken (Some (ShowDomain file)) bytes old new =
-    IfSome (bytes file) (λ text. IsShownInPart (IsDomainText depth_limit) domain_text DomainRefused text old new)
-RunsBroken (Some (ShowProblem file)) bytes old new =
-    IfSome (bytes file) (λ text. IsShownInPart (IsProblemText depth_limit) problem_text ProblemRefused text old new)
-RunsBroken (Some (Numeric d p l)) bytes old new =
-    IfSome (bytes d) (λ ds. IfSome (bytes p) (λ ps. IfSome (bytes l) (λ ls. BreaksNumeric ds ps ls old new)))
-RunsBroken (Some (Trial n)) bytes old new = RepliedInPart (IsTrial n) old new
-RunsBroken (Some (Translate file q d p)) bytes old new =
-    IfSome (bytes d) (λ ds. IfSome (bytes p) (λ ps. RepliedInPart (Translates file q ds ps) old new))
-RunsBroken (Some (Lift q d p l)) bytes old new =
-    IfSome (bytes d) (λ ds. IfSome (bytes p) (λ ps. IfSome (bytes l) (λ ls. RepliedInPart (Lifts q ds ps ls) old new)))
-RunsBroken (Some (Plan q k n d p)) bytes old new =
-    IfSome (bytes d) (λ ds. IfSome (bytes p) (λ ps. RepliedInPart (Plans q k n ds ps) old new))
-
--- what is written where a file failed: of a check a part of the report, and else nothing
-abbrev pub RunsUnread : Option Command → (List ℕ → Option (List ℕ)) → Option (List ℕ) → Option (List ℕ) → Type 0
-RunsUnread (Some (Check d p l n)) bytes old new =
-    IfSome (bytes d) (λ ds. IfSome (bytes p) (λ ps. IsUnreadRun n ds ps (bytes l) old new))
-RunsUnread _ bytes old new = new ≡ old
-
--- the same where memory was wanting
-abbrev pub RunsStopped : Option Command → (List ℕ → Option (List ℕ)) → Option (List ℕ) → Option (List ℕ) → Type 0
-RunsStopped (Some (Check d p l n)) bytes old new =
-    IfSome (bytes d) (λ ds. IfSome (bytes p) (λ ps. IsStoppedRun n ds ps (bytes l) old new))
-RunsStopped _ bytes old new = new ≡ old
+-- the status tells of no fault of a file or of the output, and of no want of memory
+abbrev pub IsSettled : Status → Type 0
+IsSettled s.ReadFault = ⊥
+IsSettled s.WriteFault = ⊥
+IsSettled s.NoMemory = ⊥
+IsSettled _ = Unit {0}
 
 -- What the status of the top call shows: of the files and the output, and of the counts of faults before and now.
 pub record IsAnswer (command : Option Command) (bytes : List ℕ → Option (List ℕ)) (old new : Option (List ℕ)) (read_before read_now write_before write_now : ℕ) (status : Status) : Type 0 where
-  pub valid : status ≡ s.Valid → RunsValid command bytes old new
-  pub refused : OnRefusal status (RunsRefused command bytes old new status)
+  -- the sink took what the command answers with this status; or it is a check whose plan the shelf does not tell
+  pub replied : IsSettled status → Replied (Answers command bytes) old new status ⊎ OnWay command bytes (λ most d p plan. ⊥)
   pub usage : status ≡ s.Usage → command ≡ None
   pub no_command : command ≡ None → Writes usage_line s.Usage old new write_before write_now status
-  pub read_fault : status ≡ s.ReadFault → Rose read_before read_now × RunsUnread command bytes old new
-  pub write_fault : status ≡ s.WriteFault → Rose write_before write_now × RunsBroken command bytes old new
-  pub no_memory : status ≡ s.NoMemory → RunsStopped command bytes old new
+  -- a file failed: the sink took nothing, or the report for the whole lines of a beginning of the plan text, and no verdict line
+  pub read_fault :
+      status ≡ s.ReadFault
+      → Rose read_before read_now × ((new ≡ old) ⊎ OnWay command bytes (λ most d p plan. TookLines d p most plan old new))
+  -- the sink failed: it took the beginning of what the command answers, and not all; or that of the report of a history that the first
+  -- lines of the plan text tell
+  pub write_fault :
+      status ≡ s.WriteFault
+      → Rose write_before write_now
+      × (RepliedInPart (Answers command bytes) old new ⊎ OnWay command bytes (λ most d p plan. BreaksOffSoFar d p most plan old new))
+  -- memory was wanting: the sink took nothing, or first bytes of such a report, and no verdict line
+  pub no_memory : status ≡ s.NoMemory → (new ≡ old) ⊎ OnWay command bytes (λ most d p plan. TookSoFar d p most plan old new)
 
 -- a process ends with this number, which is that of a status that shows so much
 abbrev pub EndsWith : ℕ → (Status → Type 0) → Type 0

@@ -7,13 +7,7 @@ use Rattle.plus_report.specs.declared.status.Status.{Status}
 use Rattle.plus_report.specs.declared.status.Status.TheVariants as s
 use Rattle.plus_run.specs.Command.{Command, Check, Plan, files_of}
 use Rattle.plus_run.specs.Headline.{SpellsWellTyped, IsAnswer}
-
--- the status tells of no fault of a file or of the output, and of no want of memory
-abbrev pub IsSettled : Status → Type 0
-IsSettled s.ReadFault = ⊥
-IsSettled s.WriteFault = ⊥
-IsSettled s.NoMemory = ⊥
-IsSettled _ = Unit {0}
+pub use Rattle.plus_run.specs.Headline.{IsSettled}
 
 -- the shelf tells what stands under each of these names
 abbrev pub AreTold : (List ℕ → Option (List ℕ)) → List (List ℕ) → Type 0

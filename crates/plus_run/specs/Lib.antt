@@ -1,5 +1,6 @@
 -- What the claim of `run` stands on.
 pub mod Command
+pub mod Checks
 pub mod Shown
 pub mod Numeric
 pub mod Headline

@@ -7,3 +7,4 @@ pub mod WalkRows
 pub mod TextsLemmas
 pub mod ReportsLemmas
 pub mod AcceptedLemmas
+pub mod WatchedLemmas

@@ -6,3 +6,4 @@ pub mod Walk
 pub mod Texts
 pub mod Reports
 pub mod Accepted
+pub mod Watched

@@ -9,3 +9,4 @@ pub mod tested;
 pub mod texts;
 pub mod time;
 pub mod walk;
+pub mod watched;

@@ -2,6 +2,8 @@
 #![tactic(auto)]
 
 #[cfg(test)]
+mod constraints;
+#[cfg(test)]
 mod crossings;
 #[cfg(test)]
 mod devices;

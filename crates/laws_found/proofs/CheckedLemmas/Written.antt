@@ -17,7 +17,7 @@ use Rattle.plus_reply.specs.Statuses.{early_status}
 use Rattle.plus_plan_command.specs.Plan.{answer_status, answer_text, answered, no_search, Plans, no_pair, of_pair}
 
 -- a refusal is no plan
-not_valid : (e : Early) → s.Valid ≡ early_status e → ⊥
+pub not_valid : (e : Early) → s.Valid ≡ early_status e → ⊥
 not_valid (es.BadText text start finish word) i = cc i
 not_valid (es.BadLine line start finish) i = cc i
 not_valid (es.TooLong text) i = cc i

@@ -52,7 +52,7 @@ module _ (q : Fraction) (d : Domain) (p : Problem) (d' : Domain) (p' : Problem) 
       (λ ls k. lifts calls k (subst (λ c. LiftsCalls q d p c x.status x.text.items) same l))
   calls_told calls given (Err f) same h l = tt
 
-kind_plain : (kind : Kind) → IsPlain (kind_status kind)
+pub kind_plain : (kind : Kind) → IsPlain (kind_status kind)
 kind_plain kinds.Invalid = tt
 kind_plain kinds.Beyond = tt
 kind_plain kinds.BadText = tt

@@ -1,16 +1,21 @@
 -- Texts, and the canonical texts of the trees that they spell; and the places of refusals.
-use Rattle.std.specs.Prelude.{◌≡◌, ℕ, List, Result, Ok, Err, codes}
+use Rattle.std.specs.Prelude.{◌≡◌, ℕ, List, [], ◌∷◌, ◌++◌, map, Result, Ok, Err, codes}
 use Prim.Native.String.{String}
 use Rattle.plus_tokens.specs.Items.{items_of}
 use Rattle.plus_tokens.specs.declared.token.LexFault.TheVariants as lex
 use Rattle.plus_tree.specs.declared.faults.TextFault.{TextFault}
 use Rattle.plus_tree.specs.declared.faults.TextFault.TheVariants as faults
+use Rattle.plus_tree.specs.declared.trees.Rule.{Rule}
+use Rattle.plus_tree.specs.declared.trees.Rule.TheVariants.{Always, Sometime, Within, HoldAfter}
+use Rattle.plus_tree.specs.declared.trees.Constraint.{Constraint}
 use Rattle.plus_parser.specs.ReadingDomain.{domain_of}
 use Rattle.plus_parser.specs.ReadingProblem.{problem_of}
-use Rattle.plus_printer.specs.Canon.{domain_text, problem_text}
+use Rattle.plus_parser.specs.ReadingConstraints.{constraints_of}
+use Rattle.plus_printer.specs.Words.{literal_text}
+use Rattle.plus_printer.specs.Canon.{cond_text, domain_text, problem_text}
 
--- the text of the tree that is read, or the refusal
-abbrev pub shown : {A : Type 0} → (A → List ℕ) → Result A TextFault → Result (List ℕ) TextFault
+-- what is told of the tree that is read, or the refusal
+abbrev pub shown : {A B : Type 0} → (A → B) → Result A TextFault → Result B TextFault
 shown f (Ok x) = Ok (f x)
 shown f (Err e) = Err e
 
@@ -66,3 +71,44 @@ pub record FaultRows : Type 0 where
   pub at_negative : RefusedProblem "(define (problem q) (:init (at -0 (p))))" (form 31 33)
   pub no_goal : RefusedProblem "(define (problem q) (:domain d) (:init))" (form 39 40)
   pub not_timed : RefusedProblem "(define (problem q) (:init (not (at 5 (p)))))" (form 36 37)
+
+-- ---- constraints
+
+-- the words of a rule, and the canonical text of its condition
+abbrev pub rule_text : Rule → List ℕ
+rule_text Always = codes "always"
+rule_text Sometime = codes "sometime"
+rule_text (Within t) = codes "within " ++ literal_text t
+rule_text (HoldAfter t) = codes "hold-after " ++ literal_text t
+
+abbrev pub constraint_text : Constraint → List ℕ
+constraint_text c = rule_text c.rule ++ (codes " " ++ cond_text c.cond)
+
+-- the text spells these constraints
+abbrev pub ShowsConstraints : String → List (List ℕ) → Type 0
+ShowsConstraints text told = shown (map constraint_text) (constraints_of 64 (items_of (codes text))) ≡ Ok told
+
+abbrev pub RefusedConstraints : String → TextFault → Type 0
+RefusedConstraints text fault = constraints_of 64 (items_of (codes text)) ≡ Err fault
+
+-- a list of all rules, an empty one, and a single constraint; and each refusal at its place
+pub record ConstraintRows : Type 0 where
+  pub list : ShowsConstraints
+      "(and (always (<= (level) 5)) (sometime (open)) (within 3 (>= (level) 5)) (hold-after 3.5 (not (open))) (always (<= (level) 4)))"
+      (codes "always (<= (level) 5)" ∷ codes "sometime (open)" ∷ codes "within 3 (>= (level) 5)" ∷ codes "hold-after 3.5 (not (open))" ∷ codes "always (<= (level) 4)" ∷ [])
+  pub none : ShowsConstraints "(and)" []
+  pub single : ShowsConstraints "(Within 02.50 (P))" (codes "within 2.5 (p)" ∷ [])
+  pub places : shown (map (λ (c : Constraint). c.span)) (constraints_of 64 (items_of (codes "(and (always (p)) (sometime ()) )"))) ≡ Ok (record { start = 5; «end» = 17 } ∷ record { start = 18; «end» = 31 } ∷ [])
+  pub empty : RefusedConstraints "" faults.Unclosed
+  pub unclosed : RefusedConstraints "(and (always (p))" faults.Unclosed
+  pub bare : RefusedConstraints "()" (form 1 2)
+  pub condition : RefusedConstraints "(not (p))" (form 1 4)
+  pub nested : RefusedConstraints "(and (and))" (form 6 9)
+  pub behind : RefusedConstraints "(and) (and)" (form 6 7)
+  pub no_condition : RefusedConstraints "(always)" (form 7 8)
+  pub two_conditions : RefusedConstraints "(always (p) (p))" (form 12 13)
+  pub no_time : RefusedConstraints "(within (p))" (form 8 9)
+  pub time : RefusedConstraints "(sometime 3 (p))" (form 10 11)
+  pub negative : RefusedConstraints "(within -1 (p))" (form 8 10)
+  pub negative_zero : RefusedConstraints "(hold-after -0 (p))" (form 12 14)
+  pub fraction : RefusedConstraints "(within 1/2 (p))" (form 9 10)

@@ -1,16 +1,19 @@
 use Rattle.std.proofs.Common.{[], ◌∷◌}
 use Rattle.plus_io.proofs.Pieces.{KeepsFiles-trans}
 use Rattle.plus_io.proofs.Readings.{each_then, of_more}
-use Rattle.plus_run.proofs.AnswerLemmas.{line_answer}
-use Rattle.plus_run.proofs.NumericLemmas.{pair_refuses, pair_breaks, from_before}
+use Rattle.plus_report.specs.Refusals.{early_text}
+use Rattle.plus_reply.specs.Statuses.{early_status}
+use Rattle.plus_reply.proofs.ReplyLemmas.{early_plain}
+use Rattle.plus_run.proofs.AnswerLemmas.{text_answer}
+use Rattle.plus_run.proofs.NumericLemmas.{pair_plays, from_before}
 use Rattle.plus_run.proofs.numeric.numeric.Goals as goal
 
 pub returns-in-Err-Early-clause-answers : goal.returns-in-Err-Early-clause-answers
 returns-in-Err-Early-clause-answers g c =
     let line = rw c.in-Err-Early.early-is at c.refuse.ensures.writes in
     let cause = rw c.in-Err-Early.field-0-is at c.in-Err-Early.ensures.not_read in
-    line_answer _ _ _ _ _ _ _ _ _ c.in-Err-Early.early line (pair_refuses _ _ _ c.in-Err-Early.early _ _ _ _ _ cause line)
-    (pair_breaks _ _ _ c.in-Err-Early.early _ _ _ _ _ cause line)
+    let early = c.in-Err-Early.early in
+    text_answer _ _ _ _ _ _ _ _ _ (early_status early) (early_text early) (early_plain early) line (pair_plays _ _ _ early cause)
 
 pub returns-in-Err-Early-clause-reads : goal.returns-in-Err-Early-clause-reads
 returns-in-Err-Early-clause-reads g c =

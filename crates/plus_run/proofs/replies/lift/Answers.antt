@@ -1,8 +1,7 @@
-use Rattle.plus_number.specs.Frac.{fraction_of}
-use Rattle.plus_run.proofs.ReplyLemmas.{lift_answer}
+use Rattle.plus_run.proofs.ReplyLemmas.{reply_answer}
 use Rattle.plus_run.proofs.replies.lift.Goals as goal
 
 pub returns-clause-answers : goal.returns-clause-answers
 returns-clause-answers g c =
-    lift_answer _ _ _ _ _ _ _ _ c.answer-reply.result (fraction_of c.args.words.interval.value) c.args.words.domain.now c.args.words.problem.now
-    c.args.words.plan.now c.answer-reply.ensures.replies c.answer-reply.ensures.plain c.answer-reply.ensures.fault c.give.ensures.gives
+    reply_answer _ _ _ _ _ _ _ _ _ c.answer-reply.result c.answer-reply.ensures.replies c.answer-reply.ensures.plain c.answer-reply.ensures.fault
+    c.give.ensures.gives

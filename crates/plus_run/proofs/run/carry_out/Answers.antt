@@ -1,9 +1,19 @@
-use Rattle.std.proofs.Common.{◌≡◌, ◌∙◌, ap, sym, subst, option_map, Some, Option}
+use Rattle.std.proofs.Common.{◌∙◌, ap, sym, subst, option_map, Some, Option}
 use Rattle.plus_run.specs.Command.{Command}
 use Rattle.plus_run.specs.Meant.{meant}
 use Rattle.plus_run.specs.Headline.{IsAnswer}
+use Rattle.plus_run.proofs.AnswerLemmas.{usage_answer}
 use Rattle.plus_run.proofs.StopLemmas.{stops_as, other_stops, usage_no_read, keeps_up_as, other_keeps_up}
 use Rattle.plus_run.proofs.run.carry_out.Goals as goal
+
+pub returns-in-None-clause-answers : goal.returns-in-None-clause-answers
+returns-in-None-clause-answers g c =
+    let is = sym (ap (option_map meant) c.in-None.is) ∙ c.parse.ensures in
+    let faults = g.S.Shelf.faults c.args.shelf.now in
+    subst
+    (λ (o : Option Command). IsAnswer o (g.S.Shelf.bytes c.args.shelf.now) (g.O.Sink.taken c.args.out.now) (g.O.Sink.taken c.usage.new.out) faults faults
+    (g.O.Sink.faults c.args.out.now) (g.O.Sink.faults c.usage.new.out) c.usage.result) is
+    (usage_answer _ _ _ _ _ _ _ _ c.usage.ensures.writes)
 
 pub returns-in-Some-Trial-clause-answers : goal.returns-in-Some-Trial-clause-answers
 returns-in-Some-Trial-clause-answers g c =

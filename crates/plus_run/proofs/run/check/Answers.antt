@@ -1,34 +1,37 @@
 use Rattle.std.proofs.Common.{[], ◌∷◌, ap, sym, ◌∙◌, refl}
 use Rattle.plus_io.proofs.Pieces.{KeepsFiles-trans}
 use Rattle.plus_io.proofs.Readings.{each_then, of_more}
-use Rattle.plus_run.proofs.RunLemmas.{only_broken, only_read, only_memory, no_usage, rose_before, valid_run, plan_refused, plan_broken, plan_stopped, plan_unread, pair_refused, pair_broken}
-use Rattle.plus_run.proofs.AnswerLemmas.{some_none, line_answer}
+use Rattle.plus_report.specs.Refusals.{early_text}
+use Rattle.plus_reply.specs.Statuses.{early_status}
+use Rattle.plus_reply.proofs.ReplyLemmas.{early_plain}
+use Rattle.plus_run.proofs.RunLemmas.{only_broken, only_read, only_memory, no_usage, rose_before, plan_told, plan_broken, plan_stopped, plan_unread, pair_line}
+use Rattle.plus_run.proofs.AnswerLemmas.{some_none, text_answer}
 use Rattle.plus_run.specs.Stopping.{in_pair}
 use Rattle.plus_run.proofs.StopLemmas.{line_no_read, plan_stops, plan_keeps_up, line_keeps_up}
 use Rattle.plus_run.proofs.run.check.Goals as goal
 
 pub returns-in-Ok-clause-answers : goal.returns-in-Ok-clause-answers
 returns-in-Ok-clause-answers g c =
+    let d = c.in-Ok.typed.domain in
+    let p = c.in-Ok.typed.problem in
+    let read = c.in-Ok.ensures.read in
+    let typed = c.in-Ok.typed.well_typed in
     let same = ap (λ f. f c.args.files.plan.now) c.in-Ok.ensures.keeps.same_bytes in
     record {
-      valid = λ v. valid_run _ _ _ _ _ c.in-Ok.typed.domain c.in-Ok.typed.problem _ _ _ _ same c.in-Ok.ensures.read c.in-Ok.typed.well_typed
-          c.validate-outcome.ensures.valid c.status.ensures v;
-      refused = plan_refused _ _ _ _ _ c.in-Ok.typed.domain c.in-Ok.typed.problem _ _ _ _ same c.in-Ok.ensures.read c.in-Ok.typed.well_typed
-          c.validate-outcome.ensures.refused c.status.ensures;
+      replied = plan_told _ _ _ d p _ _ read typed _ _ c.validate-outcome.result _ same c.validate-outcome.ensures.valid c.validate-outcome.ensures.refused
+          c.status.ensures;
       usage = λ v. absurd (no_usage c.validate-outcome.result c.status.result c.status.ensures v);
       no_command = λ n. some_none _ n;
       read_fault = λ v.
           let h = c.validate-outcome.ensures.read_fault (only_read c.validate-outcome.result (sym c.status.ensures ∙ v)) in (
             rose_before _ _ _ c.in-Ok.ensures.keeps.no_fall h.0,
-            plan_unread _ _ _ _ _ _ _ c.in-Ok.typed.domain c.in-Ok.typed.problem _ _ same c.in-Ok.ensures.read c.in-Ok.typed.well_typed h.1,
+            plan_unread _ _ _ d p _ _ read typed _ _ _ _ same h.1,
           );
-      write_fault = λ v. (
-        (c.validate-outcome.ensures.write_fault (only_broken c.validate-outcome.result (sym c.status.ensures ∙ v))).0,
-        plan_broken _ _ _ _ _ c.in-Ok.typed.domain c.in-Ok.typed.problem _ _ _ _ _ _ same c.in-Ok.ensures.read c.in-Ok.typed.well_typed
-            c.validate-outcome.ensures.write_fault c.status.ensures v,
-      );
+      write_fault = λ v.
+          let h = c.validate-outcome.ensures.write_fault (only_broken c.validate-outcome.result (sym c.status.ensures ∙ v)) in
+          (h.0, plan_broken _ _ _ d p _ _ read typed _ _ same h.1);
       no_memory = λ v.
-          plan_stopped _ _ _ _ _ c.in-Ok.typed.domain c.in-Ok.typed.problem _ _ same c.in-Ok.ensures.read c.in-Ok.typed.well_typed
+          plan_stopped _ _ _ d p _ _ read typed _ _ same
           (c.validate-outcome.ensures.no_memory (only_memory c.validate-outcome.result (sym c.status.ensures ∙ v)));
     }
 
@@ -36,8 +39,8 @@ pub returns-in-Err-Early-clause-answers : goal.returns-in-Err-Early-clause-answe
 returns-in-Err-Early-clause-answers g c =
     let line = rw c.in-Err-Early.early-is at c.refuse.ensures.writes in
     let cause = rw c.in-Err-Early.field-0-is at c.in-Err-Early.ensures.not_read in
-    line_answer _ _ _ _ _ _ _ _ _ c.in-Err-Early.early line (pair_refused _ _ _ _ c.in-Err-Early.early _ _ _ _ _ cause line)
-    (pair_broken _ _ _ _ c.in-Err-Early.early _ _ _ _ _ cause line)
+    let early = c.in-Err-Early.early in
+    text_answer _ _ _ _ _ _ _ _ _ (early_status early) (early_text early) (early_plain early) line (pair_line _ _ _ _ early cause)
 
 pub returns-in-Ok-clause-keeps : goal.returns-in-Ok-clause-keeps
 returns-in-Ok-clause-keeps g c = KeepsFiles-trans _ _ _ c.in-Ok.ensures.keeps c.validate-outcome.ensures.keeps
