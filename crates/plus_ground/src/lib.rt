@@ -1,9 +1,9 @@
 //! The ground problem of a well-typed pair, and the ground action that a call names.
 #![tactic(auto)]
 
-mod conditions;
+pub mod conditions;
 mod effects;
-mod environments;
+pub mod environments;
 mod expansion;
 mod expressions;
 pub mod faults;

@@ -28,7 +28,7 @@ event-nodes c a env = ap₂ (λ (m n : ℕ). m + n) (condition-nodes c env true 
 process-nodes : (c : Context) (a : Schema) (env : Environment) → process_nodes (process_meant c a env) ≡ schema_size c true a
 process-nodes c a env = ap₂ (λ (m n : ℕ). m + n) (condition-nodes c env true a.condition) (rates-nodes c env a.effect)
 
-all-nodes : (d : Domain) (p : tree.Problem) → problem_nodes (expanded d p) ≡ problem_size (problem_context d p) d p
+pub all-nodes : (d : Domain) (p : tree.Problem) → problem_nodes (expanded d p) ≡ problem_size (problem_context d p) d p
 all-nodes d p =
     let c = problem_context d p in
     ap₂ (λ (m n : ℕ). m + n) (instances-nodes c event_nodes (event_meant c) (schema_size c false) (event-nodes c) d.events)

@@ -47,8 +47,9 @@ fn expression<Q: FromParts>(expr: &ExprTree) -> Result<(), Span>
     }
 }
 
+/// Looks for the first literal of a condition, in text order, that fractions of this kind do not hold.
 #[tactic(auto, using(crate::proofs::Unfits::walking))]
-fn condition<Q: FromParts>(cond: &CondTree) -> Result<(), Span>
+pub fn condition<Q: FromParts>(cond: &CondTree) -> Result<(), Span>
     ensures { Tests Q.fits (condition_literals cond.now) result }
 {
     match &cond.node {
