@@ -14,12 +14,10 @@ ghost use Rattle.plus_expansion.specs.Calls.{called_of, bound_by};
 ghost use Rattle.plus_expansion.specs.Counting.{IsGroundable};
 ghost use Rattle.plus_ground.specs.Refusals.{IsInstance, RefusesGround, RefusesCall};
 
-use crate::conditions::condition;
 use crate::environments::Environment;
 use crate::faults::InstanceFault;
-use crate::initial::initial;
-use crate::schemas::{action, events, processes};
-use crate::timed_literals::timed_literals;
+use crate::parts::{ground_contents, ground_names};
+use crate::schemas::action;
 use plus_literal::FromParts;
 use plus_numbering::{GroundFault, Numbering, fit, is_small, schema_fits, within};
 use plus_state::{Action, Ground};
@@ -43,24 +41,16 @@ fn expand<Q: FromParts>(alloc: Global, numbering: &Numbering) -> Result<Ground<Q
     ensures expands { IfOk result (λ g. problem_of Q.value g ≡ expanded numbering.now.typed.now.domain numbering.now.typed.now.problem) }
     ensures labels { IfOk result (λ g. labels_of g ≡ labels_meant numbering.now.typed.now.domain numbering.now.typed.now.problem) }
 {
-    let domain = numbering.typed.domain();
-    let problem = numbering.typed.problem();
-    let none = Environment::new(alloc);
-    let atoms = numbering.atom_labels(alloc)?;
-    let fluents = numbering.fluent_labels(alloc)?;
-    let initial = initial(alloc, numbering, problem.init.as_slice())?;
-    let goal = condition(alloc, numbering, &none, true, &problem.goal)?;
-    let processes = processes(alloc, numbering, domain.processes.as_slice())?;
-    let events = events(alloc, numbering, domain.events.as_slice())?;
-    let timed = timed_literals(alloc, numbering, problem.init.as_slice())?;
+    let names = ground_names(alloc, numbering)?;
+    let contents = ground_contents(alloc, numbering)?;
     Ok(Ground {
-        atoms,
-        fluents,
-        processes,
-        events,
-        timed,
-        initial,
-        goal,
+        atoms: names.atoms,
+        fluents: names.fluents,
+        processes: contents.happenings.rules.processes,
+        events: contents.happenings.rules.events,
+        timed: contents.happenings.timed,
+        initial: contents.ends.initial,
+        goal: contents.ends.goal,
     })
 }
 

@@ -8,8 +8,9 @@ mod expansion;
 mod expressions;
 pub mod faults;
 mod initial;
+mod parts;
 mod rates;
-mod schemas;
+pub mod schemas;
 mod timed_literals;
 
 pub use expansion::{ground, instance};
