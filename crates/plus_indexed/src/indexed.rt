@@ -11,6 +11,7 @@ ghost use Rattle.plus_timeline.specs.Advance.{IsAhead, AdvanceTold};
 ghost use Rattle.plus_indexed.specs.Knows.{Knows};
 
 use crate::stepper::Stepper;
+use plus_crossing::rates::Rates;
 use plus_number::exact::Exact;
 use plus_reads::Index;
 use plus_state::changes::Changes;
@@ -153,6 +154,13 @@ impl<Q: Exact> Indexed<Q> {
         ensures { process_numbers result.now ≡ self.now.line.running }
     {
         self.timeline.running()
+    }
+
+    /// The net rates of the last running set.
+    pub fn rates(&self) -> &Rates<Q>
+        ensures { result.now ≡ self.now.line.rates }
+    {
+        self.timeline.rates()
     }
 
     /// Whether the present entry has a timed literal.

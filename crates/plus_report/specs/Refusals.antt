@@ -6,7 +6,7 @@ use Rattle.plus_report.specs.declared.refusals.Text.TheVariants as texts
 use Rattle.plus_report.specs.declared.refusals.Word.{Word}
 use Rattle.plus_report.specs.declared.refusals.Word.TheVariants.{Byte, Long, Unclosed, Form, UnknownType, UnknownName, Arity, WrongType, Twice, UnboundVariable, ShadowedVariable, TypeLoop, RateForm, DomainName, NameTaken, NotLevelTwo, OffGrid}
 use Rattle.plus_report.specs.declared.refusals.Kinds.{Kinds}
-use Rattle.plus_report.specs.declared.refusals.Kinds.TheVariants.{Objects, Atoms, Fluents, Processes, Events, Actions, Nodes}
+use Rattle.plus_report.specs.declared.refusals.Kinds.TheVariants.{Objects, Atoms, Fluents, Processes, Events, Actions, Nodes, NodesInConstraints}
 use Rattle.plus_report.specs.declared.refusals.Early.{Early}
 use Rattle.plus_report.specs.declared.refusals.Early.TheVariants.{BadText, BadLine, TooLong, Depth, DepthOut, LineTooLong, Literal, TooMany}
 use Rattle.plus_report.specs.Text.{newline}
@@ -15,6 +15,7 @@ abbrev pub text_name : Text → List ℕ
 text_name texts.Domain = codes "domain"
 text_name texts.Problem = codes "problem"
 text_name texts.Plan = codes "plan"
+text_name texts.Constraints = codes "constraints"
 text_name texts.TranslatedDomain = codes "translated domain"
 text_name texts.TranslatedProblem = codes "translated problem"
 
@@ -45,6 +46,7 @@ kind_text Processes = codes "processes"
 kind_text Events = codes "events"
 kind_text Actions = codes "actions"
 kind_text Nodes = codes "nodes"
+kind_text NodesInConstraints = codes "nodes in constraints"
 
 -- the bytes from the first to the last of a place
 unfoldable pub place_text : ℕ → ℕ → List ℕ

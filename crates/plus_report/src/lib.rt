@@ -7,7 +7,7 @@ pub mod laws;
 mod listed;
 mod parts;
 mod plans;
-mod put;
+pub mod put;
 mod refusals;
 mod status;
 mod verdicts;
@@ -19,4 +19,4 @@ pub use parts::{
 pub use plans::write_plan;
 pub use refusals::{Early, Kinds, Text, Word, write_early};
 pub use status::Status;
-pub use verdicts::{Verdict, write_verdict};
+pub use verdicts::{Verdict, put_operation, write_verdict};

@@ -14,6 +14,7 @@ pub enum Text {
     Domain,
     Problem,
     Plan,
+    Constraints,
     TranslatedDomain,
     TranslatedProblem,
 }
@@ -50,6 +51,7 @@ pub enum Kinds {
     Events,
     Actions,
     Nodes,
+    NodesInConstraints,
 }
 
 /// A refusal before a problem is ground or a plan is judged. Places are offsets of bytes, as the
@@ -104,6 +106,7 @@ fn name_of(text: Text) -> &'static [u8]
         Text::Domain => b"domain",
         Text::Problem => b"problem",
         Text::Plan => b"plan",
+        Text::Constraints => b"constraints",
         Text::TranslatedDomain => b"translated domain",
         Text::TranslatedProblem => b"translated problem",
     }
@@ -144,6 +147,7 @@ fn kind_of(kind: Kinds) -> &'static [u8]
         Kinds::Events => b"events",
         Kinds::Actions => b"actions",
         Kinds::Nodes => b"nodes",
+        Kinds::NodesInConstraints => b"nodes in constraints",
     }
 }
 

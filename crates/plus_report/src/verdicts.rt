@@ -39,7 +39,8 @@ fn sign_of(sign: Sign) -> &'static [u8]
     }
 }
 
-fn put_operation<Q: Exact, O: Sink>(
+/// Puts an operation that gives no value of the number type, as `A + B`, and the end of its line.
+pub fn put_operation<Q: Exact, O: Sink>(
     out: &mut O,
     waiting: &mut Waiting,
     operation: &Overflow<Q>,

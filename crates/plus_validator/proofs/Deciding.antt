@@ -61,6 +61,7 @@ module _ (P : terms.Problem) (L : Plan) (most : ℕ) (instance : ℕ → List Te
   no_early (early.Literal texts.Domain start last) s = k h (no_number start last) p s tt
   no_early (early.Literal texts.Problem start last) s = s
   no_early (early.Literal texts.Plan start last) s = s
+  no_early (early.Literal texts.Constraints start last) s = s
   no_early (early.Literal texts.TranslatedDomain start last) s = s
   no_early (early.Literal texts.TranslatedProblem start last) s = s
   no_early (early.BadText text start last word) s = s

@@ -33,7 +33,7 @@ use Rattle.plus_validator.specs.Playing.{IsGroundOf}
 use Rattle.plus_validator.specs.Feeding.{HasPlayed, HaltsWith, PlaysText, IsPlayedOut}
 use Rattle.plus_validator.specs.PlayRules.{pair_of, labels_in, problem_in, telling_in, IsFresh, Hands, PlaysToEnd, HaltsBehind, play_rules}
 use Rattle.plus_validator.specs.Streaming.{IsPlayedFrom, IsPlayedThrough, ended, OnPlayed, OnReadFault, OnWriteFault, UnlessReadFault}
-use Rattle.plus_validator.specs.Told.{Telling, reports, report_told}
+use Rattle.plus_validator.specs.Told.{Telling, reports, report_told, report_kept}
 use Rattle.plus_validator.specs.declared.memory.Report.{Report}
 use Rattle.plus_validator.specs.Leaving as leaving
 use Rattle.plus_validator.specs.Leaving.{TellsSoFar, StopsReading, BreaksOffSoFar, KeepsUp}
@@ -48,14 +48,14 @@ if_some : (bytes : Option (List ℕ)) (P Q : List ℕ → Type 0) → ((text : L
 if_some None P Q f h = tt
 if_some (Some text) P Q f h = f text h
 
-module _ {S V O : Type 0} (told : List ℕ → S → V) (telling : Tellings V) (taken : O → Option (List ℕ)) (faults : O → ℕ) (first : Playing S) (start : O) (now : Playing S) (out : O) where
+module _ {S V K O : Type 0} (told : List ℕ → S → V) (telling : Tellings V) (kept : S → K) (taken : O → Option (List ℕ)) (faults : O → ℕ) (first : Playing S) (start : O) (now : Playing S) (out : O) where
   -- what is said of the pair and its ground form at the end is said of them at the beginning
-  at_first : (sent : List ℕ) → Hands told telling taken faults first start now out sent → (F : Pair → Labels → Problem → Type 0) → F (pair_of now) (labels_in now) (problem_in now) → F (pair_of first) (labels_in first) (problem_in first)
+  at_first : (sent : List ℕ) → Hands told telling kept taken faults first start now out sent → (F : Pair → Labels → Problem → Type 0) → F (pair_of now) (labels_in now) (problem_in now) → F (pair_of first) (labels_in first) (problem_in first)
   at_first sent h F k = subst (λ q. F (pair_in q.now.typed.now) (labels_in first) (problem_in first)) h.numbering
       (subst (λ q. F (pair_of now) (labels_of q.now) (problem_of fraction_of q.now)) h.ground k)
 
   -- all is played
-  text_plays : (text : List ℕ) (lines : List Line) → AreAll Timed text lines → (e : PlaysToEnd told telling taken faults first start lines now out) → PlaysText (pair_of first) (problem_in first) (telling_in telling first) text (progress told [] first.run) (progress told e.sent now.run)
+  text_plays : (text : List ℕ) (lines : List Line) → AreAll Timed text lines → (e : PlaysToEnd told telling kept taken faults first start lines now out) → PlaysText (pair_of first) (problem_in first) (telling_in telling first) text (progress told [] first.run) (progress told e.sent now.run)
   text_plays text lines a e =
       at_first e.sent e.hands (λ d N P. PlaysText d P (telling N P) text (progress told [] first.run) (progress told e.sent now.run)) (record {
         within = a.within;
@@ -64,25 +64,31 @@ module _ {S V O : Type 0} (told : List ℕ → S → V) (telling : Tellings V) (
       })
 
   -- the run halts
-  text_halts : (text : List ℕ) (lines : List Line) (why : Why) (halt : Halt) → Stands Timed text lines why → (s : HaltsBehind told telling taken faults first start lines why now out halt) → HaltsWith (pair_of first) (problem_in first) (telling_in telling first) text (progress told [] first.run) (left told s.sent now.run) halt
+  text_halts : (text : List ℕ) (lines : List Line) (why : Why) (halt : Halt) → Stands Timed text lines why → (s : HaltsBehind told telling kept taken faults first start lines why now out halt) → HaltsWith (pair_of first) (problem_in first) (telling_in telling first) text (progress told [] first.run) (left told s.sent now.run) halt
   text_halts text lines why halt k s =
       at_first s.sent s.hands (λ d N P. HaltsWith d P (telling N P) text (progress told [] first.run) (left told s.sent now.run) halt) (record {
         stops = λ g ready. halts_on (pair_of now) (problem_in now) (telling_in telling now) (progress told [] first.run) s.before lines s.played text (left told s.sent now.run) g ready why halt k s.by;
       })
 
-  halt_cause : (form : PlanForm) (bytes : Option (List ℕ)) (halt : Halt) → IsHalted (play_rules told telling taken faults) form bytes first start now out halt → HasCause (problem_in first) (faults start) (faults out) halt
+  halt_cause : (form : PlanForm) (bytes : Option (List ℕ)) (halt : Halt) → IsHalted (play_rules told telling kept taken faults) form bytes first start now out halt → HasCause (problem_in first) (faults start) (faults out) halt
   halt_cause form bytes halt h = at_first h.stops.sent h.stops.hands (λ d N P. HasCause P (faults start) (faults out) halt) h.stops.cause
 
   -- ---- a text that stands in memory
 
   module _ (form : PlanForm) (is : form ≡ Timed) (bytes : List ℕ) where
-    pub plays_through : (r : Result (Unit {0}) Halt) → OnOk r (IsPlayed (play_rules told telling taken faults) form (Some bytes) first start now out) → IfErr r (IsHalted (play_rules told telling taken faults) form (Some bytes) first start now out)
+    pub plays_through : (r : Result (Unit {0}) Halt) → OnOk r (IsPlayed (play_rules told telling kept taken faults) form (Some bytes) first start now out) → IfErr r (IsHalted (play_rules told telling kept taken faults) form (Some bytes) first start now out)
         → IsPlayedThrough (pair_of first) (problem_in first) (telling_in telling first) told bytes (progress told [] first.run) now.run r
     plays_through (Ok u) e h = record { gone = e.ended.sent; out = text_plays bytes e.lines (subst (λ f. AreAll f bytes e.lines) is e.all) e.ended }
     plays_through (Err halt) e h = record { gone = h.stops.sent; out = text_halts bytes h.lines h.why halt (subst (λ f. Stands f bytes h.lines h.why) is h.stands) h.stops }
 
+    -- and the one who tells tells by the same
+    pub keeps_through : (r : Result (Unit {0}) Halt) → OnOk r (IsPlayed (play_rules told telling kept taken faults) form (Some bytes) first start now out) → IfErr r (IsHalted (play_rules told telling kept taken faults) form (Some bytes) first start now out)
+        → kept now.run.teller ≡ kept first.run.teller
+    keeps_through (Ok u) e h = e.ended.hands.kept_so
+    keeps_through (Err halt) e h = h.stops.hands.kept_so
+
     -- a sink that counts no fault is none
-    pub fits_through : (r : Result (Unit {0}) Halt) → faults start ≡ 0 → faults out ≡ 0 → IfErr r (IsHalted (play_rules told telling taken faults) form (Some bytes) first start now out) → IfErr r (HaltFits (problem_in first))
+    pub fits_through : (r : Result (Unit {0}) Halt) → faults start ≡ 0 → faults out ≡ 0 → IfErr r (IsHalted (play_rules told telling kept taken faults) form (Some bytes) first start now out) → IfErr r (HaltFits (problem_in first))
     fits_through (Ok u) a b h = tt
     fits_through (Err halt) a b h = cause_inside (problem_in first) halt
         (subst (λ n. HasCause (problem_in first) n 0 halt) a (subst (λ n. HasCause (problem_in first) (faults start) n halt) b (halt_cause form (Some bytes) halt h)))
@@ -94,27 +100,27 @@ module _ {O : Type 0} (taken : O → Option (List ℕ)) (faults : O → ℕ) (fi
     abbrev From : Result (Unit {0}) Halt → Type 0
     From r = IsPlayedFrom first.instances.numbering.now.typed.now.domain first.instances.numbering.now.typed.now.problem (labels_in first) (problem_in first) bytes (progress report_told [] first.run) now.run (taken start) (taken out) r
 
-    plays_from : IsPlayed (play_rules report_told reports taken faults) form bytes first start now out → From (Ok tt)
+    plays_from : IsPlayed (play_rules report_told reports report_kept taken faults) form bytes first start now out → From (Ok tt)
     plays_from h = record {
       sent = h.ended.sent;
       took = h.ended.hands.took;
       out = if_some bytes (λ text. AreAll form text h.lines) (λ text. PlaysText (pair_of first) (problem_in first) (telling_in reports first) text (progress report_told [] first.run) (progress report_told h.ended.sent now.run))
-          (λ text a. text_plays report_told reports taken faults first start now out text h.lines (subst (λ f. AreAll f text h.lines) is a) h.ended) h.all;
+          (λ text a. text_plays report_told reports report_kept taken faults first start now out text h.lines (subst (λ f. AreAll f text h.lines) is a) h.ended) h.all;
     }
 
-    halts_from : (halt : Halt) → IsHalted (play_rules report_told reports taken faults) form bytes first start now out halt → From (Err halt)
+    halts_from : (halt : Halt) → IsHalted (play_rules report_told reports report_kept taken faults) form bytes first start now out halt → From (Err halt)
     halts_from halt h = record {
       sent = h.stops.sent;
       took = h.stops.hands.took;
       out = if_some bytes (λ text. Stands form text h.lines h.why) (λ text. HaltsWith (pair_of first) (problem_in first) (telling_in reports first) text (progress report_told [] first.run) (left report_told h.stops.sent now.run) halt)
-          (λ text k. text_halts report_told reports taken faults first start now out text h.lines h.why halt (subst (λ f. Stands f text h.lines h.why) is k) h.stops) h.stands;
+          (λ text k. text_halts report_told reports report_kept taken faults first start now out text h.lines h.why halt (subst (λ f. Stands f text h.lines h.why) is k) h.stops) h.stands;
     }
 
     -- ---- a file
 
     module _ (picked rest : Option (List ℕ)) (before after : ℕ) (reader : Pending) where
       abbrev Paused : Result (Unit {0}) (Pause Halt) → Type 0
-      Paused r = OnOk r (IsPlayed (play_rules report_told reports taken faults) form bytes first start now out) × IfErr r (Pauses (play_rules report_told reports taken faults) form bytes picked rest before after first start reader now out)
+      Paused r = OnOk r (IsPlayed (play_rules report_told reports report_kept taken faults) form bytes first start now out) × IfErr r (Pauses (play_rules report_told reports report_kept taken faults) form bytes picked rest before after first start reader now out)
 
       pub plays_by : (r : Result (Unit {0}) (Pause Halt)) → Paused r → OnPlayed (ended r) From
       plays_by (Ok u) h = plays_from h.0
@@ -125,12 +131,12 @@ module _ {O : Type 0} (taken : O → Option (List ℕ)) (faults : O → ℕ) (fi
 
       pub fits_by : (r : Result (Unit {0}) (Pause Halt)) → Paused r → OnPlayed (ended r) (λ played. IfErr played (HaltFits (problem_in first)))
       fits_by (Ok u) h = tt
-      fits_by (Err (pauses.Halt (Refused v))) h = halt_cause report_told reports taken faults first start now out form bytes (Refused v) h.1
-      fits_by (Err (pauses.Halt Memory)) h = halt_cause report_told reports taken faults first start now out form bytes Memory h.1
+      fits_by (Err (pauses.Halt (Refused v))) h = halt_cause report_told reports report_kept taken faults first start now out form bytes (Refused v) h.1
+      fits_by (Err (pauses.Halt Memory)) h = halt_cause report_told reports report_kept taken faults first start now out form bytes Memory h.1
       fits_by (Err (pauses.Halt WriteFault)) h = tt
       fits_by (Err pauses.Failed) h = tt
 
-      no_fall_cut : IsCutShort (play_rules report_told reports taken faults) form bytes picked rest first start reader now out → faults start ≤ faults out
+      no_fall_cut : IsCutShort (play_rules report_told reports report_kept taken faults) form bytes picked rest first start reader now out → faults start ≤ faults out
       no_fall_cut (unpicked none same still) = subst (λ x. faults start ≤ faults x) (sym still) (omega arith)
       no_fall_cut (reading total h) = h.come.fed.played.hands.no_fall
 
@@ -152,7 +158,7 @@ module _ {O : Type 0} (taken : O → Option (List ℕ)) (faults : O → ℕ) (fi
         all_out sent e t = subst (Took (taken start) (taken out)) (sym (e (labels_in now) (problem_in now) sent)) t
 
         -- and this is what they tell
-        module _ (total : ℕ) (h : IsReading (play_rules report_told reports taken faults) form bytes rest total first start reader now out) where
+        module _ (total : ℕ) (h : IsReading (play_rules report_told reports report_kept taken faults) form bytes rest total first start reader now out) where
           abbrev report : List ℕ
           report = (progress report_told h.come.fed.played.sent now.run).account.told
 
@@ -161,7 +167,7 @@ module _ {O : Type 0} (taken : O → Option (List ℕ)) (faults : O → ℕ) (fi
               let fed = h.come.fed in
               told_so_far d p (labels_in first) (problem_in first) most h.come.text (progress report_told [] first.run) (progress report_told fed.played.sent now.run) fed.lines reader groundable expands.expands expands.labels fresh.begins
               h.idle h.going (subst (λ f. HasGiven f h.come.text fed.lines reader) is fed.given)
-              (at_first report_told reports taken faults first start now out fed.played.sent fed.played.hands (λ e N P. HasPlayed e P (reports N P) fed.lines (progress report_told [] first.run) (progress report_told fed.played.sent now.run)) fed.played.played)
+              (at_first report_told reports report_kept taken faults first start now out fed.played.sent fed.played.hands (λ e N P. HasPlayed e P (reports N P) fed.lines (progress report_told [] first.run) (progress report_told fed.played.sent now.run)) fed.played.played)
 
           pub report_out : Took (taken start) (taken out) report
           report_out = all_out h.come.fed.played.sent h.handed h.come.fed.played.hands.took
@@ -169,7 +175,7 @@ module _ {O : Type 0} (taken : O → Option (List ℕ)) (faults : O → ℕ) (fi
           reads_so : StopsReading d p most bytes picked rest (taken start) (taken out)
           reads_so = leaving.reading h.come.text report h.come.front so_far_told report_out
 
-        reads_cut : IsCutShort (play_rules report_told reports taken faults) form bytes picked rest first start reader now out → StopsReading d p most bytes picked rest (taken start) (taken out)
+        reads_cut : IsCutShort (play_rules report_told reports report_kept taken faults) form bytes picked rest first start reader now out → StopsReading d p most bytes picked rest (taken start) (taken out)
         reads_cut (unpicked none same still) = leaving.unpicked none (ap taken still)
         reads_cut (reading total h) = reads_so total h
 
@@ -186,7 +192,7 @@ module _ {O : Type 0} (taken : O → Option (List ℕ)) (faults : O → ℕ) (fi
         writes_by (Err (pauses.Halt Memory)) h = tt
         writes_by (Err (pauses.Halt WriteFault)) h =
             let k = halts_from WriteFault h.1 in (
-              halt_cause report_told reports taken faults first start now out form bytes WriteFault h.1,
+              halt_cause report_told reports report_kept taken faults first start now out form bytes WriteFault h.1,
               leaves_broken d p (labels_in first) (problem_in first) most (progress report_told [] first.run) groundable expands.expands expands.labels fresh.begins bytes k.sent now.run (taken start) (taken out) k.took k.out,
             )
         writes_by (Err pauses.Failed) h = tt
@@ -199,7 +205,7 @@ module _ {O : Type 0} (taken : O → Option (List ℕ)) (faults : O → ℕ) (fi
   abbrev Keeps : Type 0
   Keeps = KeepsUp first.instances.numbering.now.typed.now.domain first.instances.numbering.now.typed.now.problem most bytes rest (taken start) (taken out)
 
-  keeps_so : playing.KeepsUp (play_rules report_told reports taken faults) form bytes rest first start out → Keeps
+  keeps_so : playing.KeepsUp (play_rules report_told reports report_kept taken faults) form bytes rest first start out → Keeps
   keeps_so (playing.unread t) = leaving.unread t
   keeps_so (playing.ahead total left reader now between piece h t l more) =
       leaving.ahead h.come.text piece (report taken faults first start now between form is bytes None left 0 0 reader most expands groundable fresh total h) more.0
@@ -208,7 +214,7 @@ module _ {O : Type 0} (taken : O → Option (List ℕ)) (faults : O → ℕ) (fi
       (took_both (taken start) (taken between) (taken out) (report taken faults first start now between form is bytes None left 0 0 reader most expands groundable fresh total h) more.0
       (report_out taken faults first start now between form is bytes None left 0 0 reader most expands groundable fresh total h) more.1)
 
-  pub keeps_by : (r : Result (Unit {0}) (Pause Halt)) → UnlessFailed r (playing.KeepsUp (play_rules report_told reports taken faults) form bytes rest first start out) → UnlessReadFault (ended r) Keeps
+  pub keeps_by : (r : Result (Unit {0}) (Pause Halt)) → UnlessFailed r (playing.KeepsUp (play_rules report_told reports report_kept taken faults) form bytes rest first start out) → UnlessReadFault (ended r) Keeps
   keeps_by (Ok u) k = keeps_so k
   keeps_by (Err (pauses.Halt (Refused v))) k = keeps_so k
   keeps_by (Err (pauses.Halt Memory)) k = keeps_so k

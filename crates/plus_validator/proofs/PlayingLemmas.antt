@@ -56,17 +56,17 @@ can_flush old new i g t c = record {
       (subst (λ q. IsResting (problem_in old) q.line.most q) (sym t) c.rests);
 }
 
-module _ {S V O : Type 0} (told : List ℕ → S → V) (telling : Tellings V) (taken : O → Option (List ℕ)) (faults : O → ℕ) where
-  pub fresh_played : (most : ℕ) (now : Playing S) (out : O) → IsFresh told telling most now → PlaysLines told telling taken faults now out [] now out
+module _ {S V K O : Type 0} (told : List ℕ → S → V) (telling : Tellings V) (kept : S → K) (taken : O → Option (List ℕ)) (faults : O → ℕ) where
+  pub fresh_played : (most : ℕ) (now : Playing S) (out : O) → IsFresh told telling most now → PlaysLines told telling kept taken faults now out [] now out
   fresh_played most now out f = record {
     sent = [];
-    hands = record { numbering = refl; ground = refl; took = took_none (taken out); no_fall = omega arith };
+    hands = record { numbering = refl; ground = refl; kept_so = refl; took = took_none (taken out); no_fall = omega arith };
     played = played_none (pair_of now) (problem_in now) (telling_in telling now) (progress told [] now.run) (rests_so (problem_in now) most now.run.timeline f.begins.rests);
   }
 
   -- ---- one call
 
-  module _ (old : Playing S) (out : O) (new : Playing S) (next : O) (numbering : new.instances.numbering ≡ old.instances.numbering) (ground : new.ground ≡ old.ground) (no_fall : faults out ≤ faults next) where
+  module _ (old : Playing S) (out : O) (new : Playing S) (next : O) (numbering : new.instances.numbering ≡ old.instances.numbering) (ground : new.ground ≡ old.ground) (keeps : kept new.run.teller ≡ kept old.run.teller) (no_fall : faults out ≤ faults next) where
     -- what is said of the pair and its ground form before is said of them after
     abbrev Said : Type 1
     Said = Pair → Labels → Problem → Type 0
@@ -75,17 +75,18 @@ module _ {S V O : Type 0} (told : List ℕ → S → V) (telling : Tellings V) (
     later F h = subst (λ q. F (pair_in q.now.typed.now) (labels_in new) (problem_in new)) (sym numbering)
         (subst (λ q. F (pair_of old) (labels_of q.now) (problem_of fraction_of q.now)) (sym ground) h)
 
-    hands_then : (first : Playing S) (start : O) (sent gone : List ℕ) → Hands told telling taken faults first start old out sent → Took (taken out) (taken next) gone → Hands told telling taken faults first start new next (sent ++ gone)
+    hands_then : (first : Playing S) (start : O) (sent gone : List ℕ) → Hands told telling kept taken faults first start old out sent → Took (taken out) (taken next) gone → Hands told telling kept taken faults first start new next (sent ++ gone)
     hands_then first start sent gone h t = record {
       numbering = numbering ∙ h.numbering;
       ground = ground ∙ h.ground;
+      kept_so = keeps ∙ h.kept_so;
       took = took_both (taken start) (taken out) (taken next) sent gone h.took t;
       no_fall = (let a = h.no_fall in omega arith);
     }
 
     pub line_plays :
         (line : Line) → HandsOn (progress told) (progress told) (PlaysLine (pair_of old) (problem_in old) (telling_in telling old) line) old.run new.run (taken out) (taken next)
-        → (first : Playing S) (start : O) (lines : List Line) → PlaysLines told telling taken faults first start lines old out → PlaysLines told telling taken faults first start (lines ++ line ∷ []) new next
+        → (first : Playing S) (start : O) (lines : List Line) → PlaysLines told telling kept taken faults first start lines old out → PlaysLines told telling kept taken faults first start (lines ++ line ∷ []) new next
     line_plays line k first start lines h = record {
       sent = h.sent ++ k.gone;
       hands = hands_then first start h.sent k.gone h.hands k.took;
@@ -95,12 +96,12 @@ module _ {S V O : Type 0} (told : List ℕ → S → V) (telling : Tellings V) (
 
     -- the run halts in a line, or at the end of the text
     module _ (halt : Halt) (cause : HasCause (problem_in old) (faults out) (faults next) halt) where
-      cause_then : (first : Playing S) (start : O) (sent : List ℕ) → Hands told telling taken faults first start old out sent → HasCause (problem_in new) (faults start) (faults next) halt
+      cause_then : (first : Playing S) (start : O) (sent : List ℕ) → Hands told telling kept taken faults first start old out sent → HasCause (problem_in new) (faults start) (faults next) halt
       cause_then first start sent h = later (λ d N P. HasCause P (faults start) (faults next) halt) (cause_since (problem_in old) (faults start) (faults out) (faults next) halt h.no_fall cause)
 
       pub line_halts :
           (line : Line) → HandsOn (progress told) (left told) (λ a b. HaltsInLine (pair_of old) (problem_in old) (telling_in telling old) line a b halt) old.run new.run (taken out) (taken next)
-          → (first : Playing S) (start : O) (lines : List Line) → PlaysLines told telling taken faults first start lines old out → HaltsBehind told telling taken faults first start lines (on_line line) new next halt
+          → (first : Playing S) (start : O) (lines : List Line) → PlaysLines told telling kept taken faults first start lines old out → HaltsBehind told telling kept taken faults first start lines (on_line line) new next halt
       line_halts line k first start lines h = record {
         sent = h.sent ++ k.gone;
         hands = hands_then first start h.sent k.gone h.hands k.took;
@@ -112,7 +113,7 @@ module _ {S V O : Type 0} (told : List ℕ → S → V) (telling : Tellings V) (
 
       pub end_halts :
           HandsOn (progress told) (left told) (λ a b. HaltsAtEnd (problem_in old) (telling_in telling old) a b halt) old.run new.run (taken out) (taken next)
-          → (first : Playing S) (start : O) (lines : List Line) → PlaysLines told telling taken faults first start lines old out → HaltsBehind told telling taken faults first start lines at_end new next halt
+          → (first : Playing S) (start : O) (lines : List Line) → PlaysLines told telling kept taken faults first start lines old out → HaltsBehind told telling kept taken faults first start lines at_end new next halt
       end_halts k first start lines h = record {
         sent = h.sent ++ k.gone;
         hands = hands_then first start h.sent k.gone h.hands k.took;
@@ -124,7 +125,7 @@ module _ {S V O : Type 0} (told : List ℕ → S → V) (telling : Tellings V) (
 
     pub end_plays :
         HandsOn (progress told) (progress told) (Closes (problem_in old) (telling_in telling old)) old.run new.run (taken out) (taken next)
-        → (first : Playing S) (start : O) (lines : List Line) → PlaysLines told telling taken faults first start lines old out → PlaysToEnd told telling taken faults first start lines new next
+        → (first : Playing S) (start : O) (lines : List Line) → PlaysLines told telling kept taken faults first start lines old out → PlaysToEnd told telling kept taken faults first start lines new next
     end_plays k first start lines h = record {
       sent = h.sent ++ k.gone;
       hands = hands_then first start h.sent k.gone h.hands k.took;
@@ -136,7 +137,7 @@ module _ {S V O : Type 0} (told : List ℕ → S → V) (telling : Tellings V) (
     -- what is told is handed on
     pub flush_hands :
         StaysSo (progress told) old.run new.run (taken out) (taken next)
-        → (first : Playing S) (start : O) (lines : List Line) → PlaysLines told telling taken faults first start lines old out → PlaysLines told telling taken faults first start lines new next
+        → (first : Playing S) (start : O) (lines : List Line) → PlaysLines told telling kept taken faults first start lines old out → PlaysLines told telling kept taken faults first start lines new next
     flush_hands k first start lines h = record {
       sent = h.sent ++ k.gone;
       hands = hands_then first start h.sent k.gone h.hands k.took;
@@ -147,7 +148,7 @@ module _ {S V O : Type 0} (told : List ℕ → S → V) (telling : Tellings V) (
     -- or the sink fails
     pub flush_halts :
         Rose (faults out) (faults next) → RunBreaksOff told telling old.run new.run (taken out) (taken next)
-        → (first : Playing S) (start : O) (lines : List Line) → PlaysLines told telling taken faults first start lines old out → HaltsBehind told telling taken faults first start lines handing new next WriteFault
+        → (first : Playing S) (start : O) (lines : List Line) → PlaysLines told telling kept taken faults first start lines old out → HaltsBehind told telling kept taken faults first start lines handing new next WriteFault
     flush_halts r breaks first start lines h =
         let k = breaks (labels_in new) (problem_in new) in
         record {
@@ -160,8 +161,8 @@ module _ {S V O : Type 0} (told : List ℕ → S → V) (telling : Tellings V) (
         }
 
   -- a stop that changes nothing
-  module _ (now : Playing S) (out : O) (first : Playing S) (start : O) (lines : List Line) (h : PlaysLines told telling taken faults first start lines now out) where
-    pub bad_halts : (fault : PlanFault) (halt : Halt) → IsPrefix h.sent ((telling_in telling now).bytes (told h.sent now.run.teller)) → halt ≡ line_halt fault → HaltFits (problem_in now) halt → HaltsBehind told telling taken faults first start lines (no_line fault) now out halt
+  module _ (now : Playing S) (out : O) (first : Playing S) (start : O) (lines : List Line) (h : PlaysLines told telling kept taken faults first start lines now out) where
+    pub bad_halts : (fault : PlanFault) (halt : Halt) → IsPrefix h.sent ((telling_in telling now).bytes (told h.sent now.run.teller)) → halt ≡ line_halt fault → HaltFits (problem_in now) halt → HaltsBehind told telling kept taken faults first start lines (no_line fault) now out halt
     bad_halts fault halt behind is f = record {
       sent = h.sent;
       hands = h.hands;
@@ -171,7 +172,7 @@ module _ {S V O : Type 0} (told : List ℕ → S → V) (telling : Tellings V) (
       cause = cause_of (problem_in now) (faults start) (faults out) halt f;
     }
 
-    pub long_halts : HaltsBehind told telling taken faults first start lines too_long_text now out (Refused (Other (TooLong texts.Plan)))
+    pub long_halts : HaltsBehind told telling kept taken faults first start lines too_long_text now out (Refused (Other (TooLong texts.Plan)))
     long_halts = record {
       sent = h.sent;
       hands = h.hands;

@@ -113,6 +113,7 @@ module _ (N : Labels) (P : Problem) (L : Plan) (most : ℕ) (instance : ℕ → 
   early_first (early.Literal texts.Domain start last) s = record { test = no_number start last; fails = s; tells = record { text = refl; outcome = refl } }
   early_first (early.Literal texts.Problem start last) s = absurd s
   early_first (early.Literal texts.Plan start last) s = absurd s
+  early_first (early.Literal texts.Constraints start last) s = absurd s
   early_first (early.Literal texts.TranslatedDomain start last) s = absurd s
   early_first (early.Literal texts.TranslatedProblem start last) s = absurd s
   early_first (early.BadText text start last word) s = absurd s

@@ -51,11 +51,12 @@ pub record CanPlay {S : Type 0} (now : Playing S) : Type 0 where
 
 -- ---- what is told
 
-module _ {S V O : Type 0} (told : List ℕ → S → V) (telling : Tellings V) (taken : O → Option (List ℕ)) (faults : O → ℕ) where
+module _ {S V K O : Type 0} (told : List ℕ → S → V) (telling : Tellings V) (kept : S → K) (taken : O → Option (List ℕ)) (faults : O → ℕ) where
   -- these first bytes of the report are handed on, in one play of one pair
   pub record Hands (first : Playing S) (start : O) (now : Playing S) (out : O) (sent : List ℕ) : Type 0 where
     pub numbering : now.instances.numbering ≡ first.instances.numbering
     pub ground : now.ground ≡ first.ground
+    pub kept_so : kept now.run.teller ≡ kept first.run.teller
     pub took : Took (taken start) (taken out) sent
     pub no_fall : faults start ≤ faults out
 
@@ -81,11 +82,11 @@ HaltsBy d P T too_long before new halt = (halt ≡ Refused (Other (TooLong texts
 HaltsBy d P T at_end before new halt = HaltsAtEnd P T before new halt
 HaltsBy d P T handing before new halt = (halt ≡ WriteFault) × IsPartOut WriteFault new.out (T.bytes before.account.told)
 
-module _ {S V O : Type 0} (told : List ℕ → S → V) (telling : Tellings V) (taken : O → Option (List ℕ)) (faults : O → ℕ) where
+module _ {S V K O : Type 0} (told : List ℕ → S → V) (telling : Tellings V) (kept : S → K) (taken : O → Option (List ℕ)) (faults : O → ℕ) where
   -- these lines are played, and then the run halts: the ids that its verdict names are those of the problem, or the sink failed
   pub record HaltsBehind (first : Playing S) (start : O) (lines : List Line) (why : Why) (now : Playing S) (out : O) (halt : Halt) : Type 0 where
     pub sent : List ℕ
-    pub hands : Hands told telling taken faults first start now out sent
+    pub hands : Hands told telling kept taken faults first start now out sent
     pub before : Progress V
     pub played : HasPlayed (pair_of now) (problem_in now) (telling_in telling now) lines (progress told [] first.run) before
     pub by : HaltsBy (pair_of now) (problem_in now) (telling_in telling now) why before (left told sent now.run) halt
@@ -97,7 +98,7 @@ module _ {S V O : Type 0} (told : List ℕ → S → V) (telling : Tellings V) (
     told = taken;
     Can = λ now out. CanPlay now;
     Handed = λ now out. IsAllOut told telling now.run.teller;
-    Played = λ first start lines now out. PlaysLines told telling taken faults first start lines now out;
-    Ended = λ first start lines now out. PlaysToEnd told telling taken faults first start lines now out;
+    Played = λ first start lines now out. PlaysLines told telling kept taken faults first start lines now out;
+    Ended = λ first start lines now out. PlaysToEnd told telling kept taken faults first start lines now out;
     Stops = λ first start lines why now out halt. HaltsBehind first start lines why now out halt;
   }

@@ -9,6 +9,7 @@ use Rattle.plus_model.specs.Trajectory.{next_line, IsWorked, Prefix, view_of}
 use Rattle.plus_state.specs.View.{Labels}
 use Rattle.plus_timeline.specs.Timeline.{TimelineView, begun}
 use Rattle.plus_timeline.specs.Advance.{Advances}
+use Rattle.plus_timeline.specs.Serving.{Serves}
 use Rattle.plus_indexed.specs.Indexed.{IndexedView}
 use Rattle.plus_indexed.specs.Knows.{Knows}
 use Rattle.plus_report.specs.Text.{entry_text, literals_text, round_text, run_text}
@@ -77,9 +78,10 @@ TellsNext P T old new Run before after = TellsPart P T old (history.Run new.runn
 TellsNext P T old new (Entry time) before after = TellsPart P T old (history.Enter new.now.time new.arrival new.now.state) before after
 TellsNext P T old new There before after = after ≡ before
 
--- by any step that leads here
+-- by any step that leads here from a timeline of the problem
 abbrev pub TellsStep : {V : Type 0} (P : Problem) → Telling P V → TimelineView → Next Frac64 → V → V → Type 0
-TellsStep P T new next before after = (old : TimelineView) (u : Fraction) → Advances fraction_of P u old new next → TellsNext P T old new next before after
+TellsStep P T new next before after =
+    (old : TimelineView) (u : Fraction) → Serves P old → Advances fraction_of P u old new next → TellsNext P T old new next before after
 
 -- by an action, in each plan in which it is due
 abbrev pub TellsAct : {V : Type 0} (P : Problem) → Telling P V → Action → TimelineView → TimelineView → V → V → Type 0
@@ -155,4 +157,5 @@ IsBegun P t = (most : ℕ) × (t ≡ begun P most)
 pub record IsStep (P : Problem) (new : TimelineView) (next : Next Frac64) : Type 0 where
   pub old : TimelineView
   pub until : Fraction
+  pub serves : Serves P old
   pub does : Advances fraction_of P until old new next

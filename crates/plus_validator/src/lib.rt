@@ -2,19 +2,19 @@
 #![tactic(auto)]
 
 mod checking;
-mod halt;
+pub mod halt;
 pub mod judge;
-mod judgement;
+pub mod judgement;
 pub mod laws;
-mod memory;
+pub mod memory;
 mod play;
-mod playing;
+pub mod playing;
 mod reporting;
-mod run;
-mod silent;
-mod stream;
-mod teller;
-mod ungrounded;
+pub mod run;
+pub mod silent;
+pub mod stream;
+pub mod teller;
+pub mod ungrounded;
 
 pub use checking::validate;
 pub use judge::{Judged, Outcome};

@@ -131,6 +131,7 @@ impl<T: Teller> Run<T> {
             (T.telling (labels_of ground.now) (problem_of fraction_of ground.now)) line call.now (progress T.told sent self.old) (left T.told sent self.new)) }
         ensures kept { StayMade instances.old instances.new }
         ensures fits { IfErr result (HaltFits (problem_of fraction_of ground.now)) }
+        ensures keeps { T.kept self.new.teller ≡ T.kept self.old.teller }
     {
         let place = match instances.place(alloc, call) {
             Ok(place) => place,
@@ -165,6 +166,7 @@ impl<T: Teller> Run<T> {
         ensures kept { StayMade instances.old instances.new }
         ensures cause { IfErr result (HasCause (problem_of fraction_of ground.now) (O.faults out.old) (O.faults out.new)) }
         ensures no_fall { O.faults out.old ≤ O.faults out.new }
+        ensures keeps { T.kept self.new.teller ≡ T.kept self.old.teller }
     {
         match read {
             Line::Act { line, time, call } => {
@@ -194,6 +196,7 @@ impl<T: Teller> Run<T> {
             (T.telling (labels_of ground.now) (problem_of fraction_of ground.now)) old new halt) self.old self.new (O.taken out.old) (O.taken out.new)) }
         ensures cause { IfErr result (HasCause (problem_of fraction_of ground.now) (O.faults out.old) (O.faults out.new)) }
         ensures no_fall { O.faults out.old ≤ O.faults out.new }
+        ensures keeps { T.kept self.new.teller ≡ T.kept self.old.teller }
     {
         let now = self.timeline.time();
         self.reach(ground, now, out)?;

@@ -24,7 +24,7 @@ pub struct Playing<'n, 'g, T> {
 impl<O: Sink, T: Teller> Plays<O> for Playing<'_, '_, T> {
     type Stop = Halt;
 
-    ghost rules = { play_rules T.told T.telling O.taken O.faults };
+    ghost rules = { play_rules T.told T.telling T.kept O.taken O.faults };
 
     fn line(&mut self, alloc: Global, read: &mut Line, out: &mut O) -> Result<(), Halt> {
         self.run

@@ -3,7 +3,7 @@ ghost use Rattle.std.specs.Prelude.{◌≡◌, ℕ, List, [], ◌++◌, OnOk, re
 ghost use Rattle.plus_number.specs.Frac.{fraction_of};
 ghost use Rattle.plus_state.specs.View.{problem_of, labels_of};
 ghost use Rattle.plus_validator.specs.Standing.{CanShow, MovesThenChanges, IsShown, next_text};
-ghost use Rattle.plus_validator.specs.Told.{reports, report_told};
+ghost use Rattle.plus_validator.specs.Told.{reports, report_told, report_kept};
 
 use crate::memory::Report;
 use crate::teller::Teller;
@@ -74,6 +74,10 @@ impl Teller for Report {
     ghost told = { report_told };
 
     ghost telling = { reports };
+
+    ghost Kept = { Unit {0} };
+
+    ghost kept = { report_kept };
 
     ghost IsNew = { λ r. r.bytes.items ≡ [] };
 

@@ -62,6 +62,7 @@ impl<T: Teller> Run<T> {
         ensures begins { IfOk result (λ run. Begins (problem_of fraction_of ground.now) (T.telling (labels_of ground.now) (problem_of fraction_of ground.now)) happenings
             (progress T.told [] run)) }
         ensures memory { IfErr result (λ halt. halt ≡ Halt.Memory) }
+        ensures keeps { IfOk result (λ run. T.kept run.teller ≡ T.kept teller) }
     {
         let timeline = Indexed::begin(alloc, ground, happenings)?;
         teller.begin(ground, &timeline)?;
@@ -76,10 +77,11 @@ impl<T: Teller> Run<T> {
 
     // Counts what the timeline did.
     fn count(&mut self, next: Next<Frac64>) -> Result<(), AllocError>
-        ensures { OnOk result (self.new ≡ record (self.old) {
+        ensures counts { OnOk result (self.new ≡ record (self.old) {
           entries = self.old.entries + entries_in next;
           firings = self.old.firings + firings_in self.old.timeline.line next;
         }) }
+        ensures same { self.new.teller ≡ self.old.teller }
     {
         match next {
             Next::Round => {
@@ -100,6 +102,7 @@ impl<T: Teller> Run<T> {
         ensures stops { (sent : List ℕ) → IfErr result (HaltsOnWay (problem_of fraction_of ground.now) (T.telling (labels_of ground.now) (problem_of fraction_of ground.now))
             (fraction_of until) (progress T.told sent self.old) (left T.told sent self.new)) }
         ensures fits { IfErr result (HaltFits (problem_of fraction_of ground.now)) }
+        ensures keeps { T.kept self.new.teller ≡ T.kept self.old.teller }
     {
         let next = match self.timeline.advance(ground, until) {
             Ok(next) => next,
@@ -125,6 +128,7 @@ impl<T: Teller> Run<T> {
             (fraction_of until) old new halt) self.old self.new (O.taken out.old) (O.taken out.new)) }
         ensures cause { IfErr result (HasCause (problem_of fraction_of ground.now) (O.faults out.old) (O.faults out.new)) }
         ensures no_fall { O.faults out.old ≤ O.faults out.new }
+        ensures keeps { T.kept self.new.teller ≡ T.kept self.old.teller }
     {
         'steps: loop {
             let there = self.step(ground, until)?;
@@ -143,6 +147,7 @@ impl<T: Teller> Run<T> {
         ensures breaks { OnErr result (RunBreaksOff T.told T.telling self.old self.new (O.taken out.old) (O.taken out.new)) }
         ensures cause { OnErr result (Rose (O.faults out.old) (O.faults out.new)) }
         ensures no_fall { O.faults out.old ≤ O.faults out.new }
+        ensures keeps { T.kept self.new.teller ≡ T.kept self.old.teller }
     {
         if self.teller.has_much() {
             return self.flush(out);
@@ -157,6 +162,7 @@ impl<T: Teller> Run<T> {
         ensures breaks { OnErr result (RunBreaksOff T.told T.telling self.old self.new (O.taken out.old) (O.taken out.new)) }
         ensures cause { OnErr result (Rose (O.faults out.old) (O.faults out.new)) }
         ensures no_fall { O.faults out.old ≤ O.faults out.new }
+        ensures keeps { T.kept self.new.teller ≡ T.kept self.old.teller }
     {
         self.teller.hand_on(out)
     }

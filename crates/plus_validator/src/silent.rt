@@ -23,6 +23,10 @@ impl Teller for Silent {
 
     ghost telling = { λ N P. silence P };
 
+    ghost Kept = { Unit {0} };
+
+    ghost kept = { λ s. tt };
+
     ghost IsNew = { λ s. Unit {0} };
 
     fn begin(

@@ -101,6 +101,7 @@ pub fn play_text<T: Teller>(
         (T.telling (labels_of playing.old.ground.now) (problem_of fraction_of playing.old.ground.now)) T.told
         bytes.now (progress T.told [] playing.old.run) playing.new.run result }
     ensures fits { IfErr result (HaltFits (problem_of fraction_of playing.old.ground.now)) }
+    ensures keeps { T.kept playing.new.run.teller ≡ T.kept playing.old.run.teller }
 {
     let mut quiet = QuietSink::new();
     play_bytes(playing, reader, alloc, bytes, &mut quiet)

@@ -29,6 +29,10 @@ pub trait Teller: Drop {
     ghost told: { List ℕ → Self → Told };
     // how the histories of plans over a problem are told
     ghost telling: { Labels → (P : Problem) → Telling P Told };
+    // what one keeps all the while: what one tells by
+    ghost Kept: { Type 0 };
+
+    ghost kept: { Self → Kept };
     // nothing is told yet
     ghost IsNew: { Self → Type 0 };
 
@@ -41,7 +45,8 @@ pub trait Teller: Drop {
         requires new { IsNew self.old }
         requires can { CanShow (problem_of fraction_of ground.now) timeline.now.line }
         requires begun { IsBegun (problem_of fraction_of ground.now) timeline.now.line }
-        ensures { OnOk result ((L : Plan) → (telling (labels_of ground.now) (problem_of fraction_of ground.now)).Tells L
+        ensures keeps { kept self.new ≡ kept self.old }
+        ensures tells { OnOk result ((L : Plan) → (telling (labels_of ground.now) (problem_of fraction_of ground.now)).Tells L
             (first_part (problem_of fraction_of ground.now) ∷ []) (told [] self.new)) };
 
     /// Tells what the timeline did: it took this step.
@@ -53,7 +58,8 @@ pub trait Teller: Drop {
     ) -> Result<(), AllocError>
         requires can { CanShow (problem_of fraction_of ground.now) timeline.now.line }
         requires step { IsStep (problem_of fraction_of ground.now) timeline.now.line next }
-        ensures { (sent : List ℕ) → OnOk result (TellsStep (problem_of fraction_of ground.now) (telling (labels_of ground.now) (problem_of fraction_of ground.now))
+        ensures keeps { kept self.new ≡ kept self.old }
+        ensures tells { (sent : List ℕ) → OnOk result (TellsStep (problem_of fraction_of ground.now) (telling (labels_of ground.now) (problem_of fraction_of ground.now))
             timeline.now.line next (told sent self.old) (told sent self.new)) };
 
     /// Tells an action that was done.
@@ -64,7 +70,8 @@ pub trait Teller: Drop {
         label: &Label,
     ) -> Result<(), AllocError>
         requires can { CanShow (problem_of fraction_of ground.now) timeline.now.line }
-        ensures { (sent : List ℕ) (action : Action) (old : TimelineView) → action.label ≡ label.now
+        ensures keeps { kept self.new ≡ kept self.old }
+        ensures tells { (sent : List ℕ) (action : Action) (old : TimelineView) → action.label ≡ label.now
             → DoesAct (problem_of fraction_of ground.now) action old timeline.now.line
             → OnOk result (TellsAct (problem_of fraction_of ground.now) (telling (labels_of ground.now) (problem_of fraction_of ground.now))
             action old timeline.now.line (told sent self.old) (told sent self.new)) };
@@ -74,6 +81,7 @@ pub trait Teller: Drop {
 
     /// Hands on all that waits.
     fn hand_on<O: Sink>(&mut self, out: &mut O) -> Result<(), Failed>
+        ensures keeps { kept self.new ≡ kept self.old }
         ensures stays { OnOk result (StaysSo told self.old self.new (O.taken out.old) (O.taken out.new)) }
         ensures all { OnOk result (IsAllOut told telling self.new) }
         ensures breaks { OnErr result (BreaksOff told telling self.old self.new (O.taken out.old) (O.taken out.new)) }

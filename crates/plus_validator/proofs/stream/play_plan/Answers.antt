@@ -1,7 +1,7 @@
 use Rattle.std.proofs.Common.{ap}
 use Rattle.plus_plan.specs.Pending.{Pending}
 use Rattle.plus_play.proofs.StreamLemmas.{fresh_so}
-use Rattle.plus_validator.specs.Told.{reports, report_told}
+use Rattle.plus_validator.specs.Told.{reports, report_told, report_kept}
 use Rattle.plus_validator.proofs.PlayingLemmas.{fresh_can, fresh_played}
 use Rattle.plus_validator.proofs.Endings.{plays_by, fits_by, no_fall_by, reads_by, writes_by, keeps_by}
 use Rattle.plus_validator.proofs.stream.play_plan.Goals as goal
@@ -10,7 +10,7 @@ pub play_file-requires-clause-can : goal.play_file-requires-clause-can
 play_file-requires-clause-can g c = fresh_can report_told reports _ c.args.playing.now c.requires.expands c.requires.fresh
 
 pub play_file-requires-clause-begun : goal.play_file-requires-clause-begun
-play_file-requires-clause-begun g c = fresh_played report_told reports g.O.Sink.taken g.O.Sink.faults _ c.args.playing.now c.args.out.now c.requires.fresh
+play_file-requires-clause-begun g c = fresh_played report_told reports report_kept g.O.Sink.taken g.O.Sink.faults _ c.args.playing.now c.args.out.now c.requires.fresh
 
 pub play_file-requires-clause-fresh : goal.play_file-requires-clause-fresh
 play_file-requires-clause-fresh g c = fresh_so _ c.args.reader.now c.requires.reader

@@ -16,13 +16,13 @@ pub returns-in-Ok-clause-hands : goal.returns-in-Ok-clause-hands
 returns-in-Ok-clause-hands g c =
     let old = c.args.self.now in
     let new : Playing g.row.T.Denot = record { run = c.flush.new.self; instances = old.instances; ground = old.ground } in
-    flush_hands g.T.Teller.told g.T.Teller.telling g.O.Sink.taken g.O.Sink.faults old c.args.out.now new c.flush.new.out refl refl c.flush.ensures.no_fall c.in-Ok.ensures.goes
+    flush_hands g.T.Teller.told g.T.Teller.telling g.T.Teller.kept g.O.Sink.taken g.O.Sink.faults old c.args.out.now new c.flush.new.out refl refl c.flush.ensures.keeps c.flush.ensures.no_fall c.in-Ok.ensures.goes
 
 pub returns-in-Err-clause-stops : goal.returns-in-Err-clause-stops
 returns-in-Err-clause-stops g c =
     let old = c.args.self.now in
     let new : Playing g.row.T.Denot = record { run = c.flush.new.self; instances = old.instances; ground = old.ground } in
-    flush_halts g.T.Teller.told g.T.Teller.telling g.O.Sink.taken g.O.Sink.faults old c.args.out.now new c.flush.new.out refl refl c.flush.ensures.no_fall c.in-Err.ensures.cause c.in-Err.ensures.breaks
+    flush_halts g.T.Teller.told g.T.Teller.telling g.T.Teller.kept g.O.Sink.taken g.O.Sink.faults old c.args.out.now new c.flush.new.out refl refl c.flush.ensures.keeps c.flush.ensures.no_fall c.in-Err.ensures.cause c.in-Err.ensures.breaks
 
 pub returns-in-Err-clause-told : goal.returns-in-Err-clause-told
 returns-in-Err-clause-told g c =

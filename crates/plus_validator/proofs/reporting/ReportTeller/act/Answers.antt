@@ -11,8 +11,8 @@ use Rattle.plus_validator.proofs.reporting.ReportTeller.act.Goals as goal
 pub write_act_changes-requires-clause-changes : goal.write_act_changes-requires-clause-changes
 write_act_changes-requires-clause-changes c = subst (λ (s : State). RisesIn s c.changes.result.now) (sym c.before-2.ensures.state) c.changes.ensures.rises
 
-pub returns-in-Ok : goal.returns-in-Ok
-returns-in-Ok c = λ sent action old label does.
+pub returns-in-Ok-clause-tells : goal.returns-in-Ok-clause-tells
+returns-in-Ok-clause-tells c = λ sent action old label does.
     let N = labels_of c.args.ground.now in
     let P = problem_of fraction_of c.args.ground.now in
     let t = c.args.timeline.now.line in

@@ -10,8 +10,8 @@ use Rattle.plus_validator.proofs.reporting.ReportTeller.begin.Goals as goal
 pub write_next-requires-clause-shown : goal.write_next-requires-clause-shown
 write_next-requires-clause-shown c = begun_shown (problem_of fraction_of c.args.ground.now) c.requires.begun.0 c.args.timeline.now.line c.requires.begun.1
 
-pub returns-in-Ok : goal.returns-in-Ok
-returns-in-Ok c =
+pub returns-in-Ok-clause-tells : goal.returns-in-Ok-clause-tells
+returns-in-Ok-clause-tells c =
     let N = labels_of c.args.ground.now in
     let P = problem_of fraction_of c.args.ground.now in
     report_begins N P c.requires.begun.0 c.time.result c.args.timeline.now.line c.write_next.new.report.bytes.items c.requires.begun.1 c.time.ensures

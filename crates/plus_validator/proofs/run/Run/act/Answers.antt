@@ -22,7 +22,7 @@ returns-clause-acts g c = λ sent.
     let new : Run g.row.T.Denot = record { timeline = c.act.new.self; teller = c.act-2.new.self; entries = old.entries; firings = old.firings; ended = old.ended } in
     acts_once (pair_in c.args.instances.now.numbering.now.typed.now) P T c.args.call.now (action_of fraction_of c.at-action.result.now)
     (progress told sent old) (progress told sent new) c.requires.can (made_here _ _ _ _ _ _ c.in-Ok.ensures.made c.at-action.ensures).called c.in_default.ensures.told.pass c.in_default.ensures.told.does refl
-    (c.in_ok-act.ensures sent (action_of fraction_of c.at-action.result.now) old.timeline.line refl c.in_default.ensures.told.does) refl refl c.in_default.ensures.knows
+    (c.in_ok-act.ensures.tells sent (action_of fraction_of c.at-action.result.now) old.timeline.line refl c.in_default.ensures.told.does) refl refl c.in_default.ensures.knows
 
 pub returns-in-Err-clause-fits : goal.returns-in-Err-clause-fits
 returns-in-Err-clause-fits g c = c.refused_call.ensures.fits (problem_of fraction_of c.args.ground.now)

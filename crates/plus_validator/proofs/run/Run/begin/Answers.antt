@@ -14,7 +14,7 @@ returns-clause-begins g c =
     let T = g.T.Teller.telling N P in
     let told = g.T.Teller.told in
     let new : Run g.row.T.Denot = record { timeline = c.in_ok-timeline.timeline; teller = c.begin-2.new.self; entries = 1; firings = 0; ended = false } in
-    begins P T c.args.happenings (progress told [] new) c.requires.some c.in_ok-timeline.ensures.begun c.in_ok-timeline.ensures.knows refl c.in_ok-begin.ensures refl refl
+    begins P T c.args.happenings (progress told [] new) c.requires.some c.in_ok-timeline.ensures.begun c.in_ok-timeline.ensures.knows refl c.in_ok-begin.ensures.tells refl refl
 
 pub begin-requires-2-clause-begun : goal.begin-requires-2-clause-begun
 begin-requires-2-clause-begun g c = (c.args.happenings, c.in_ok-timeline.ensures.begun)

@@ -1,4 +1,4 @@
-use Rattle.std.proofs.Common.{◌≡◌, true, false, [], sym, subst, arith}
+use Rattle.std.proofs.Common.{◌≡◌, true, false, [], refl, sym, subst, ◌∙◌, arith}
 use Rattle.plus_number.specs.Frac.{fraction_of}
 use Rattle.plus_state.specs.View.{problem_of, labels_of}
 use Rattle.plus_validator.specs.Account.{Progress, progress}
@@ -16,6 +16,7 @@ use Rattle.plus_validator.proofs.run.Run.reach.Goals as goal
 pub steps-init : goal.steps-init
 steps-init g c = record {
   goes = hands_none _ (λ sent. along_start (problem_of fraction_of c.args.ground.now) (g.T.Teller.telling (labels_of c.args.ground.now) (problem_of fraction_of c.args.ground.now)) (fraction_of c.args.until) (progress g.T.Teller.told sent c.args.self.now) c.requires.can);
+  keeps = refl;
   no_fall = omega arith;
 }
 
@@ -34,6 +35,7 @@ steps-preserved g c =
           along_step P T u (progress g.T.Teller.told sent c.args.self.now) (progress g.T.Teller.told mid c.steps.self) (progress g.T.Teller.told out c.flush_much.new.self) a
           (subst (λ (r : Progress _). Steps P T u (progress g.T.Teller.told mid c.steps.self) r false) (sym s)
           (subst (Steps P T u (progress g.T.Teller.told mid c.steps.self) (progress g.T.Teller.told mid c.step.new.self)) c.if-there.false (c.in_ok-there.ensures.steps mid))));
+      keeps = c.flush_much.ensures.keeps ∙ c.step.ensures.keeps ∙ c.steps.invariant.keeps;
       no_fall = omega (arith, c.steps.invariant.no_fall, c.flush_much.ensures.no_fall);
     }
 
@@ -48,6 +50,15 @@ returns-then-there-clause-reaches g c =
     along_done P T u (progress g.T.Teller.told sent c.args.self.now) (progress g.T.Teller.told mid c.steps.self) (progress g.T.Teller.told out c.flush_much.new.self) a
     (subst (λ (r : Progress _). Steps P T u (progress g.T.Teller.told mid c.steps.self) r true) (sym s)
     (subst (Steps P T u (progress g.T.Teller.told mid c.steps.self) (progress g.T.Teller.told mid c.step.new.self)) c.if-there.true (c.in_ok-there.ensures.steps mid))))
+
+pub returns-then-there-clause-keeps : goal.returns-then-there-clause-keeps
+returns-then-there-clause-keeps g c = c.flush_much.ensures.keeps ∙ c.step.ensures.keeps ∙ c.steps.invariant.keeps
+
+pub returns-in_err-there-clause-keeps : goal.returns-in_err-there-clause-keeps
+returns-in_err-there-clause-keeps g c = c.step.ensures.keeps ∙ c.steps.invariant.keeps
+
+pub returns-in_default-clause-keeps : goal.returns-in_default-clause-keeps
+returns-in_default-clause-keeps g c = c.flush_much.ensures.keeps ∙ c.step.ensures.keeps ∙ c.steps.invariant.keeps
 
 pub steps-smaller : goal.steps-smaller
 steps-smaller g c =

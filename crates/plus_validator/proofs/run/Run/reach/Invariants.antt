@@ -1,4 +1,4 @@
-use Rattle.std.proofs.Common.{◌≤◌}
+use Rattle.std.proofs.Common.{◌≡◌, ◌≤◌}
 use Rattle.plus_number.specs.Frac.{fraction_of}
 use Rattle.plus_state.specs.View.{problem_of, labels_of}
 use Rattle.plus_validator.specs.Account.{progress}
@@ -11,6 +11,7 @@ abbrev pub invariant-steps : goal.invariant-steps
 invariant-steps g l = record {
   goes : HandsOn (progress g.T.Teller.told) (progress g.T.Teller.told) (Along (problem_of fraction_of l.ground) (g.T.Teller.telling (labels_of l.ground) (problem_of fraction_of l.ground)) (fraction_of l.until)) l.initial.self l.self
       (g.O.Sink.taken l.initial.out) (g.O.Sink.taken l.out);
+  keeps : g.T.Teller.kept l.self.teller ≡ g.T.Teller.kept l.initial.self.teller;
   no_fall : g.O.Sink.faults l.initial.out ≤ g.O.Sink.faults l.out;
 }
 

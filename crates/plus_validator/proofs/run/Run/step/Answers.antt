@@ -12,7 +12,7 @@ use Rattle.std.proofs.lemmas.Result.{err_from_is_err_and}
 use Rattle.plus_validator.proofs.run.Run.step.Goals as goal
 
 pub step-requires-clause-step : goal.step-requires-clause-step
-step-requires-clause-step g c = record { old = c.args.self.now.timeline.line; until = fraction_of c.args.until; does = c.in-Ok.ensures.told.does }
+step-requires-clause-step g c = record { old = c.args.self.now.timeline.line; until = fraction_of c.args.until; serves = c.requires.can.goes.knows.serves; does = c.in-Ok.ensures.told.does }
 
 pub returns-clause-steps : goal.returns-clause-steps
 returns-clause-steps g c = λ sent.
@@ -29,10 +29,10 @@ returns-clause-steps g c = λ sent.
       firings = old.firings + firings_in c.advance.new.self.line c.in-Ok.next;
       ended = old.ended;
     } in
-    subst (λ (r : Run g.row.T.Denot). Steps P T u (progress told sent old) (progress told sent r) c.is_there.result) (sym c.in_ok-count.ensures)
+    subst (λ (r : Run g.row.T.Denot). Steps P T u (progress told sent old) (progress told sent r) c.is_there.result) (sym c.in_ok-count.ensures.counts)
     (subst (Steps P T u (progress told sent old) (progress told sent new)) (sym c.is_there.ensures)
     (step_says P T u (progress told sent old) (progress told sent new) c.in-Ok.next c.requires.can c.in-Ok.ensures.told.does c.in-Ok.ensures.told.pass refl
-    (record { tells = c.in_ok-step.ensures sent old.timeline.line u c.in-Ok.ensures.told.does; entries = refl; firings = refl }) c.in-Ok.ensures.knows))
+    (record { tells = c.in_ok-step.ensures.tells sent old.timeline.line u c.requires.can.goes.knows.serves c.in-Ok.ensures.told.does; entries = refl; firings = refl }) c.in-Ok.ensures.knows))
 
 pub halted-requires : goal.halted-requires
 halted-requires g c =
