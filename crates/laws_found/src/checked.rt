@@ -1,6 +1,6 @@
 //! What `plan` writes is accepted by `check`: laws alone, there is no code here.
 
-ghost use Rattle.std.specs.Prelude.{◌≡◌, ◌≤◌, ℕ, List, pos};
+ghost use Rattle.std.specs.Prelude.{◌≡◌, ◌≤◌, ℕ, Bool, List, pos};
 ghost use Rattle.plus_fraction.specs.Fraction.{Fraction, whole, ◌<ℚ◌};
 ghost use Rattle.plus_number.specs.declared.frac.Frac64.{Frac64};
 ghost use Rattle.plus_state.specs.declared.outcome.TimedPlan.{TimedPlan};
@@ -26,12 +26,12 @@ use crate::calls::{
 };
 use crate::text::{few_arguments_have_room, written_plan_reads_back};
 
-/// What `plan` writes with the status Valid is accepted by `check` over the same two files, where its text and its lines have
+/// What `plan` writes with the status Valid, with the cut or without, is accepted by `check` over the same two files, where its text and its lines have
 /// room, and as many moments are allowed as in a search or more.
 pub fn what_plan_writes_is_accepted()
-    ensures { (q : Fraction) (k tries most : ℕ) (domain problem written : List ℕ)
+    ensures { (q : Fraction) (k tries most : ℕ) (cut : Bool) (domain problem written : List ℕ)
         → whole (pos 0) <ℚ q
-        → Plans q k tries domain problem statuses.Valid written
+        → Plans q k tries cut domain problem statuses.Valid written
         → HasRoom written
         → most_entries ≤ most
         → (d : Domain) × (p : Problem) × SpellsWellTyped domain problem d p × AcceptsText d p most written }
@@ -41,9 +41,9 @@ pub fn what_plan_writes_is_accepted()
 
 /// So whatever `check` answers to it is that it is valid.
 pub fn what_plan_writes_is_valid()
-    ensures { (q : Fraction) (k tries most : ℕ) (domain problem written : List ℕ)
+    ensures { (q : Fraction) (k tries most : ℕ) (cut : Bool) (domain problem written : List ℕ)
         → whole (pos 0) <ℚ q
-        → Plans q k tries domain problem statuses.Valid written
+        → Plans q k tries cut domain problem statuses.Valid written
         → HasRoom written
         → most_entries ≤ most
         → (d : Domain) (p : Problem) → SpellsWellTyped domain problem d p
@@ -54,10 +54,10 @@ pub fn what_plan_writes_is_valid()
 
 /// A plan that a search finds is accepted as it is written.
 pub fn found_plan_is_accepted()
-    ensures { (domain problem : List ℕ) (d : Domain) (p : Problem) (q : Fraction) (k tries most : ℕ) (plan : TimedPlan Frac64)
+    ensures { (domain problem : List ℕ) (d : Domain) (p : Problem) (q : Fraction) (k tries most : ℕ) (cut : Bool) (plan : TimedPlan Frac64)
         → SpellsWellTyped domain problem d p
         → whole (pos 0) <ℚ q
-        → IsPlanned d p q k tries (Plan plan)
+        → IsPlanned d p q k tries cut (Plan plan)
         → HasRoom (answer_text k (Plan plan))
         → most_entries ≤ most → AcceptsText d p most (answer_text k (Plan plan)) }
 {
@@ -67,10 +67,10 @@ pub fn found_plan_is_accepted()
 
 /// And whatever a check of it answers, it is that the plan is valid.
 pub fn found_plan_is_valid()
-    ensures { (domain problem : List ℕ) (d : Domain) (p : Problem) (q : Fraction) (k tries most : ℕ) (plan : TimedPlan Frac64)
+    ensures { (domain problem : List ℕ) (d : Domain) (p : Problem) (q : Fraction) (k tries most : ℕ) (cut : Bool) (plan : TimedPlan Frac64)
         → SpellsWellTyped domain problem d p
         → whole (pos 0) <ℚ q
-        → IsPlanned d p q k tries (Plan plan)
+        → IsPlanned d p q k tries cut (Plan plan)
         → HasRoom (answer_text k (Plan plan))
         → most_entries ≤ most
         → (outcome : Outcome) (bytes : List ℕ) → IsAnswered d p most (answer_text k (Plan plan)) outcome bytes
@@ -83,10 +83,10 @@ pub fn found_plan_is_valid()
 /// What is written of a plan that a search finds says the decisions of the plan, line by line, and no instance that it calls is
 /// over a limit.
 pub fn found_plan_is_said()
-    ensures { (domain problem : List ℕ) (d : Domain) (p : Problem) (q : Fraction) (k tries : ℕ) (plan : TimedPlan Frac64)
+    ensures { (domain problem : List ℕ) (d : Domain) (p : Problem) (q : Fraction) (k tries : ℕ) (cut : Bool) (plan : TimedPlan Frac64)
         → SpellsWellTyped domain problem d p
         → whole (pos 0) <ℚ q
-        → (planned : IsPlanned d p q k tries (Plan plan))
+        → (planned : IsPlanned d p q k tries cut (Plan plan))
         → HasRoom (answer_text k (Plan plan))
         → (lines : List Line)
         × IsTextOf d p q planned.answers.decisions (answer_text k (Plan plan)) lines
@@ -99,10 +99,10 @@ pub fn found_plan_is_said()
 
 /// No line of it is too long where no action of the domain has more than 61 parameters.
 pub fn few_parameters_have_room()
-    ensures { (domain problem : List ℕ) (d : Domain) (p : Problem) (q : Fraction) (k tries : ℕ) (plan : TimedPlan Frac64)
+    ensures { (domain problem : List ℕ) (d : Domain) (p : Problem) (q : Fraction) (k tries : ℕ) (cut : Bool) (plan : TimedPlan Frac64)
         → SpellsWellTyped domain problem d p
         → whole (pos 0) <ℚ q
-        → IsPlanned d p q k tries (Plan plan)
+        → IsPlanned d p q k tries cut (Plan plan)
         → HasFewParameters d
         → HasShortLines (answer_text k (Plan plan)) }
 {

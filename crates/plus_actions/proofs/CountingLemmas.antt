@@ -18,8 +18,7 @@ use Rattle.plus_expansion.specs.Nodes.{action_nodes}
 use Rattle.plus_numbering.specs.Sizes.{held, instances, schema_size, schemas_size}
 use Rattle.plus_numbering.proofs.Nodes.{condition-nodes, effect-nodes, instances-length, instances-nodes}
 use Rattle.plus_fraction.specs.Fraction.{Fraction}
-use Rattle.plus_actions.specs.Actions.{all_instances, action_counts, IsGroundable, RefusesActions}
-use Rattle.plus_actions.specs.Inside.{IsInside}
+use Rattle.plus_actions.specs.Actions.{all_instances, action_counts, RefusesActions}
 
 pub action-nodes : (c : Context) (a : Schema) (env : Environment) → action_nodes (action_meant c a env) ≡ schema_size c false a
 action-nodes c a env = ap₂ (λ (m n : ℕ). m + n) (condition-nodes c env true a.condition) (effect-nodes c env a.effect)
@@ -117,8 +116,6 @@ not_over x xs e = (let f = past-first (nat_lt x.most x.number) x (first_over xs)
 pub few : (d : Domain) (p : tree.Problem) → first_over (action_counts d p) ≡ None → instances (problem_context d p) d.actions ≤ 10000
 few d p e = (let h = (not_over (actions_in d p) (nodes_in d p ∷ []) e).0 in subst (λ n. n ≤ 10000) (how_many d p) h)
 
-pub inside : (fits : Fraction → Type 0) (d : Domain) (p : tree.Problem) → IsGroundable fits d p → IsInside fits d p
-inside fits d p g = record {
-  nodes = subst (λ n. n ≤ 1000000) (how_large d p) (not_over (nodes_in d p) [] (not_over (actions_in d p) (nodes_in d p ∷ []) g.counts).1).0;
-  literals = g.literals;
-}
+-- the nodes of the instances of its actions are not too many
+pub few_nodes : (d : Domain) (p : tree.Problem) → first_over (action_counts d p) ≡ None → schemas_size (problem_context d p) (schema_size (problem_context d p) false) d.actions ≤ 1000000
+few_nodes d p e = subst (λ n. n ≤ 1000000) (how_large d p) (not_over (nodes_in d p) [] (not_over (actions_in d p) (nodes_in d p ∷ []) e).1).0

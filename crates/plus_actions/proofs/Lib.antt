@@ -1,3 +1,4 @@
 pub mod CountingLemmas
-pub mod ChoicesLemmas
+pub mod NamesLemmas
+pub mod MeantLemmas
 pub mod InstancesLemmas

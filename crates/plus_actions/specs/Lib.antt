@@ -1,4 +1,2 @@
 -- What the claim of `run` stands on.
 pub mod Actions
--- Inner words.
-pub mod Inside

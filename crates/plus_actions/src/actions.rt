@@ -1,57 +1,17 @@
 //! The ground actions of a pair.
 
-ghost use Rattle.std.specs.Prelude.{◌≡◌, ◌≤◌, ◌++◌, map, length, IfOk, OnOk, MatchResult};
+ghost use Rattle.std.specs.Prelude.{◌≡◌, ◌≤◌, map, length, IfOk, MatchResult};
 ghost use Rattle.plus_state.specs.View.{action_of};
-ghost use Rattle.plus_actions.specs.Actions.{named_by, ground_actions, IsGroundable, RefusesActions, AllFit};
-ghost use Rattle.plus_actions.specs.Inside.{IsInside};
+ghost use Rattle.plus_actions.specs.Actions.{ground_actions, IsGroundable, RefusesActions, AllFit};
 
-use crate::calls::{add, call};
-use crate::choices::choices;
 use crate::counting::within;
+use crate::instances::actions;
 use crate::literals::fit;
 use plus_literal::FromParts;
 use plus_numbering::{GroundFault, Numbering};
 use plus_state::Action;
-use plus_tree::Schema;
 use plus_types::File;
-use std::alloc::{AllocError, Global};
-
-// Adds the instances of an action, one for each choice of objects for its parameters.
-fn put<Q: FromParts>(
-    alloc: Global,
-    numbering: &Numbering,
-    schema: &Schema,
-    into: &mut Vec<Action<Q>>,
-) -> Result<(), AllocError>
-    requires { IsInside Q.fits numbering.now.typed.now.domain numbering.now.typed.now.problem }
-    ensures { OnOk result (map (action_of Q.value) into.new.items ≡ map (action_of Q.value) into.old.items
-        ++ named_by numbering.now.typed.now.domain numbering.now.typed.now.problem schema.now) }
-{
-    let lists = choices(alloc, numbering, schema.params.as_slice())?;
-    'lists: for objects in &lists {
-        let call = call(
-            alloc,
-            numbering.typed,
-            schema.name.name.bytes(),
-            objects.as_slice(),
-        )?;
-        add(alloc, numbering, &call, into)?;
-    }
-    Ok(())
-}
-
-// The ground actions of a pair inside the limits.
-fn build<Q: FromParts>(alloc: Global, numbering: &Numbering) -> Result<Vec<Action<Q>>, AllocError>
-    requires { IsInside Q.fits numbering.now.typed.now.domain numbering.now.typed.now.problem }
-    ensures { IfOk result (λ actions. map (action_of Q.value) actions.items
-        ≡ ground_actions numbering.now.typed.now.domain numbering.now.typed.now.problem) }
-{
-    let mut actions = Vec::new(alloc);
-    'schemas: for schema in numbering.typed.domain().actions.as_slice() {
-        put(alloc, numbering, schema, &mut actions)?;
-    }
-    Ok(actions)
-}
+use std::alloc::Global;
 
 // Tests that the ground actions are inside the limits, and that the literals of the actions are values of
 // the type of numbers.
@@ -88,5 +48,6 @@ pub fn ground_actions<Q: FromParts>(
         (RefusesActions Q.fits numbering.now.typed.now.domain numbering.now.typed.now.problem) }
 {
     test::<Q>(numbering)?;
-    Ok(build(alloc, numbering)?)
+    let schemas = numbering.typed.domain().actions.as_slice();
+    Ok(actions(alloc, numbering, schemas)?)
 }

@@ -2,9 +2,8 @@
 #![tactic(auto)]
 
 mod actions;
-mod calls;
-mod choices;
 mod counting;
+mod instances;
 mod literals;
 
 pub use actions::ground_actions;

@@ -1,13 +1,11 @@
 -- A call that names an instance: its name is that of an action, its arguments are names of objects, and its label is the instance's.
-use Rattle.std.proofs.Common.{◌≡◌, ℕ, zero, suc, ◌+◌, ◌<◌, Bool, true, false, not, cond, ◌||◌, nat_eq, List, [], ◌∷◌, ◌++◌, length, map, Option, Some, None, slice_get, get_or, All, arith, refl, ap, sym, subst, ◌∙◌, append-nil, append_assoc}
+use Rattle.std.proofs.Common.{◌≡◌, ℕ, zero, suc, ◌+◌, ◌<◌, Bool, true, false, not, cond, nat_eq, List, [], ◌∷◌, ◌++◌, length, map, Option, Some, None, slice_get, get_or, All, arith, refl, ap, sym, subst, ◌∙◌, append-nil, append_assoc}
 use Rattle.std.specs.Prelude.{Contains, if◌then◌else◌}
 use Rattle.std.specs.List.{list_any, position_or_len}
 use Rattle.std.specs.Str.{bytes_eq}
-use Rattle.std.proofs.lemmas.List.{map-append, length-map}
+use Rattle.std.proofs.lemmas.List.{map-append}
 use Rattle.std.proofs.lemmas.List.Elements.{All-nil, All-cons}
 use Rattle.std.proofs.lemmas.List.Sums.{passes_at_first}
-use Rattle.std.proofs.lemmas.Slice.Eq.{bytes_eq-Decides}
-use Rattle.std.proofs.lemmas.Bool.Decides.{Decides-eqb}
 use Rattle.plus_model.specs.Terms.{Action}
 use Rattle.plus_model.specs.Plan.{Instance}
 use Rattle.plus_tree.specs.declared.terms.TypedName.{TypedName}
@@ -15,17 +13,17 @@ use Rattle.plus_tree.specs.declared.trees.Call.{Call}
 use Rattle.plus_tree.specs.declared.trees.Schema.{Schema}
 use Rattle.plus_tree.specs.declared.trees.Domain.{Domain}
 use Rattle.plus_tree.specs.declared.trees.Problem.{Problem}
-use Rattle.plus_types.specs.Types.{Binding, bindings_of, bound_names, names_of, objects_of, is_under}
+use Rattle.plus_types.specs.Types.{bound_names, objects_of}
 use Rattle.plus_types.specs.Faults.{Context, problem_context, action_names}
-use Rattle.plus_expansion.specs.Objects.{places_from, members_of, object_place, object_names}
+use Rattle.plus_types.proofs.TypesLemmas.{same-bytes}
+use Rattle.plus_typing.proofs.Lists.{names_bound}
+use Rattle.plus_expansion.specs.Objects.{members_of, object_place, object_names}
 use Rattle.plus_expansion.specs.Numbers.{label_of}
 use Rattle.plus_expansion.specs.Environments.{Environment}
 use Rattle.plus_expansion.specs.Expansion.{action_meant}
 use Rattle.plus_expansion.specs.Calls.{bound_by, called_in, called_by, called_of}
+use Rattle.plus_actions.proofs.MeantLemmas.{within}
 use Rattle.laws_found.specs.Calls.Calls.{IsCalledBy}
-
-pub same_bytes : (a b : List ℕ) → bytes_eq a b ≡ true → a ≡ b
-same_bytes a b e = (bytes_eq-Decides a b).0 e
 
 -- ---- the action that has the name
 
@@ -40,7 +38,7 @@ first_named name (x ∷ xs) a e = by (bytes_eq name x.name.name) refl e (first_n
     by :
         (b : Bool) → bytes_eq name x.name.name ≡ b → slice_get (x ∷ xs) (cond (not b) (1 + position_or_len (bytes_eq name) (schema_names xs)) 0) ≡ Some a
         → (slice_get xs (position_or_len (bytes_eq name) (schema_names xs)) ≡ Some a → name ≡ a.name.name) → name ≡ a.name.name
-    by true h f more = same_bytes name x.name.name h ∙ ap (λ (y : Schema). y.name.name) (let s : x ≡ a = cc f in s)
+    by true h f more = same-bytes name x.name.name h ∙ ap (λ (y : Schema). y.name.name) (let s : x ≡ a = cc f in s)
     by false h f more =
         let next : 1 + position_or_len (bytes_eq name) (schema_names xs) ≡ suc (position_or_len (bytes_eq name) (schema_names xs)) = omega arith in
         more (subst (λ (k : ℕ). slice_get (x ∷ xs) k ≡ Some a) next f)
@@ -54,30 +52,10 @@ held (x ∷ xs) (suc k) a e = let m = held xs k a e in (suc m.0, omega (arith, m
 
 -- what stands at the place of a name that is there
 pub name_at : (name : List ℕ) (ns : List (List ℕ)) (d : List ℕ) → position_or_len (bytes_eq name) ns < length ns → get_or ns (position_or_len (bytes_eq name) ns) d ≡ name
-name_at name ns d h = sym (same_bytes name _ (passes_at_first (bytes_eq name) ns d h))
-
--- the places of the objects of a type are below how many objects there are
-pub below : (types : List Binding) (kind : List ℕ) (o n : ℕ) (os : List Binding) → list_any (nat_eq o) (places_from types kind n os) ≡ true → o < n + length os
-below types kind o n [] e = absurd (let f : false ≡ true = e in cc f)
-below types kind o n (x ∷ xs) e = by (is_under types x.1 kind) e (below types kind o (suc n) xs)
-  where
-    first :
-        (b : Bool) → nat_eq o n ≡ b → (b || list_any (nat_eq o) (places_from types kind (suc n) xs)) ≡ true
-        → (list_any (nat_eq o) (places_from types kind (suc n) xs) ≡ true → o < suc n + length xs) → o < n + length (x ∷ xs)
-    first true h f more = let s : o ≡ n = (Decides-eqb o n).0 h in omega arith
-    first false h f more = let l : o < suc n + length xs = more f in omega arith
-
-    by :
-        (b : Bool) → list_any (nat_eq o) (cond b (n ∷ places_from types kind (suc n) xs) (places_from types kind (suc n) xs)) ≡ true
-        → (list_any (nat_eq o) (places_from types kind (suc n) xs) ≡ true → o < suc n + length xs) → o < n + length (x ∷ xs)
-    by true f more = first (nat_eq o n) refl f more
-    by false f more = let l : o < suc n + length xs = more f in omega arith
+name_at name ns d h = sym (same-bytes name _ (passes_at_first (bytes_eq name) ns d h))
 
 pub is_there : (c : Context) (kind name : List ℕ) → list_any (nat_eq (object_place c name)) (members_of c kind) ≡ true → object_place c name < length (bound_names c.objects)
-is_there c kind name e =
-    let b = below c.types kind (object_place c name) 0 c.objects e in
-    let l = length-map c.objects (λ (x : Binding). x.0) in
-    omega (arith, b, l)
+is_there c kind name e = within c kind (object_place c name) e
 
 abbrev objects_in : Environment → List ℕ
 objects_in env = map (λ b. b.1) env
@@ -140,10 +118,6 @@ named c name args xs (Some a) action s e =
     let n = first_named name xs a s in
     (made c name args a (bound_by c a.params args []) action n refl e, subst (Contains (schema_names xs)) (sym n) (held xs (position_or_len (bytes_eq name) (schema_names xs)) a s))
 
-pub same_names : (ts : List TypedName) → bound_names (bindings_of ts) ≡ names_of ts
-same_names [] = refl
-same_names (t ∷ ts) = ap (λ (ns : List (List ℕ)). t.name.name ∷ ns) (same_names ts)
-
 pub instance_is_called_so : (d : Domain) (p : Problem) (action : Action) (call : Call) → called_of d p call.name call.args ≡ Instance action → IsCalledBy d p action call
 instance_is_called_so d p action call e =
     let m = named (problem_context d p) call.name call.args d.actions (slice_get d.actions (position_or_len (bytes_eq call.name) (action_names d))) action refl e in
@@ -151,5 +125,5 @@ instance_is_called_so d p action call e =
       called = e;
       label = m.0.label;
       name = m.1;
-      args = subst (λ (ns : List (List ℕ)). All (Contains ns) call.args) (same_names (objects_of d p)) m.0.objects;
+      args = subst (λ (ns : List (List ℕ)). All (Contains ns) call.args) (names_bound (objects_of d p)) m.0.objects;
     }

@@ -1,14 +1,10 @@
 -- The ground actions are the instances of all calls that name one, call by call, and no call stands twice.
-use Rattle.std.proofs.Common.{◌≡◌, ◌⊎◌, inl, inr, ℕ, zero, suc, ◌+◌, ◌<◌, ◌≤◌, Bool, true, false, not, cond, ◌||◌, nat_eq, List, [], ◌∷◌, ◌++◌, length, map, Option, Some, None, slice_get, get_or, arith, refl, ap, sym, subst, ◌∙◌, append-nil, append_assoc}
-use Rattle.std.specs.Prelude.{◌≢◌, if◌then◌else◌}
-use Rattle.std.specs.List.{list_any, flat_map, position_or_len, AllPairs}
+use Rattle.std.proofs.Common.{◌≡◌, ◌⊎◌, inl, inr, ℕ, zero, suc, ◌≤◌, Bool, true, false, cond, ◌||◌, nat_eq, List, [], ◌∷◌, ◌++◌, map, Option, Some, None, slice_get, get_or, arith, refl, ap, sym, subst, ◌∙◌, append-nil, append_assoc}
+use Rattle.std.specs.List.{list_any, flat_map, position_or_len}
 use Rattle.std.specs.Str.{bytes_eq}
-use Rattle.std.proofs.lemmas.List.{append_cancel_left, length-map}
+use Rattle.std.proofs.lemmas.List.{append_cancel_left}
 use Rattle.std.proofs.lemmas.List.Folds.{flat_map-map}
 use Rattle.std.proofs.lemmas.Grind.{flat_map-append}
-use Rattle.std.proofs.lemmas.List.Sums.{passes_at_first, position_or_len_is}
-use Rattle.std.proofs.lemmas.Option.{slice_get_within, get_or_from_slice_get}
-use Rattle.std.proofs.lemmas.Slice.Eq.{bytes_eq-Decides}
 use Rattle.std.proofs.lemmas.Bool.Decides.{Decides-eqb}
 use Rattle.plus_model.specs.Terms.{Action}
 use Rattle.plus_model.specs.Plan.{Instance}
@@ -16,25 +12,18 @@ use Rattle.plus_tree.specs.declared.terms.TypedName.{TypedName}
 use Rattle.plus_tree.specs.declared.trees.Schema.{Schema}
 use Rattle.plus_tree.specs.declared.trees.Domain.{Domain}
 use Rattle.plus_tree.specs.declared.trees.Problem.{Problem}
-use Rattle.plus_types.specs.Types.{Binding, bindings_of, bound_names, names_of, objects_of, is_under}
+use Rattle.plus_types.specs.Types.{Binding, bound_names, is_under}
 use Rattle.plus_types.specs.Faults.{Context, problem_context, action_names}
 use Rattle.plus_expansion.specs.Objects.{places_from, members_of, object_place, object_names}
 use Rattle.plus_expansion.specs.Environments.{Environment}
 use Rattle.plus_expansion.specs.Expansion.{action_meant}
 use Rattle.plus_expansion.specs.Calls.{bound_by, called_in, called_by, called_of}
 use Rattle.plus_actions.specs.Actions.{choices_from, instance_in, named_by}
-use Rattle.plus_typing.specs.WellTyped.{NothingTwice, IsWellTyped}
+use Rattle.plus_actions.proofs.NamesLemmas.{IsDistinct, NamesDiffer, names_differ, names_at}
+use Rattle.plus_actions.proofs.MeantLemmas.{within, Picks, given, called_given}
+use Rattle.plus_typing.specs.WellTyped.{IsWellTyped}
 use Rattle.laws_found.specs.Calls.Searched.{CallName, calls_for, all_calls, Has, Differ, AreCallsOfGround}
-use Rattle.laws_found.proofs.CallsLemmas.Called.{same_bytes, first_named, name_at, below, is_there, first_some, same_names}
-
--- no two of the names are the same
-abbrev IsDistinct : List (List ℕ) → Type 0
-IsDistinct ns = (i j : ℕ) → i < length ns → j < length ns → get_or ns i [] ≡ get_or ns j [] → i ≡ j
-
--- no two objects have one name, nor two actions
-record NamesDiffer (d : Domain) (p : Problem) : Type 0 where
-  objects : IsDistinct (bound_names (problem_context d p).objects)
-  actions : IsDistinct (action_names d)
+use Rattle.laws_found.proofs.CallsLemmas.Called.{first_named, name_at, is_there, first_some}
 
 -- ---- a member of a list, by its place
 
@@ -59,8 +48,6 @@ has_number o (x ∷ xs) e = by (nat_eq o x) refl e (has_number o xs)
     by : (b : Bool) → nat_eq o x ≡ b → (b || list_any (nat_eq o) xs) ≡ true → (list_any (nat_eq o) xs ≡ true → Has xs o) → Has (x ∷ xs) o
     by true h f more = let s : o ≡ x = (Decides-eqb o x).0 h in (zero, ap Some (sym s))
     by false h f more = let m = more f in (suc m.0, m.1)
-
--- ---- the action that has the name
 
 -- ---- the objects that have the names
 
@@ -174,12 +161,6 @@ members_differ types kind n (x ∷ xs) = by (is_under types x.1 kind) (members_d
 
 -- ---- choices
 
-abbrev Picks : Context → List TypedName → List ℕ → Type 0
-Picks c [] [] = Unit {0}
-Picks c [] (o ∷ os) = ⊥
-Picks c (v ∷ vs) [] = ⊥
-Picks c (v ∷ vs) (o ∷ os) = (list_any (nat_eq o) (members_of c v.kind.name) ≡ true) × Picks c vs os
-
 record IsPick (c : Context) (vs : List TypedName) (chosen y : List ℕ) : Type 0 where
   picked : List ℕ
   is : y ≡ chosen ++ picked
@@ -214,31 +195,6 @@ choices_differ c (v ∷ vs) chosen =
 
 -- ---- names
 
-place_of : (ns : List (List ℕ)) → IsDistinct ns → (i : ℕ) → i < length ns → position_or_len (bytes_eq (get_or ns i [])) ns ≡ i
-place_of ns d i l = position_or_len_is (bytes_eq (get_or ns i [])) ns i [] (omega (arith, l)) (λ k h. by k h (bytes_eq (get_or ns i []) (get_or ns k [])) refl) (λ h. (bytes_eq-Decides (get_or ns i []) (get_or ns i [])).1 refl)
-  where
-    by : (k : ℕ) → k < i → (b : Bool) → bytes_eq (get_or ns i []) (get_or ns k []) ≡ b → bytes_eq (get_or ns i []) (get_or ns k []) ≡ false
-    by k h true e = let m : k < length ns = omega (arith, h, l) in let s = d i k l m (same_bytes (get_or ns i []) (get_or ns k []) e) in absurd (omega (arith, s, h))
-    by k h false e = e
-
-under_size : (types : List Binding) (kind : List ℕ) (n : ℕ) (os : List Binding) (o : ℕ) → Has (places_from types kind n os) o → o < n + length os
-under_size types kind n [] o h = cc (h.1)
-under_size types kind n (x ∷ xs) o h = by (is_under types x.1 kind) h (under_size types kind (suc n) xs o)
-  where
-    first : Has (n ∷ places_from types kind (suc n) xs) o → (Has (places_from types kind (suc n) xs) o → o < suc n + length xs) → o < n + length (x ∷ xs)
-    first (zero, e) more = let s : n ≡ o = cc e in omega (arith, s)
-    first (suc k, e) more = let l : o < suc n + length xs = more (k, e) in omega (arith, l)
-
-    by : (b : Bool) → Has (cond b (n ∷ places_from types kind (suc n) xs) (places_from types kind (suc n) xs)) o → (Has (places_from types kind (suc n) xs) o → o < suc n + length xs) → o < n + length (x ∷ xs)
-    by true g more = first g more
-    by false g more = let l : o < suc n + length xs = more g in omega (arith, l)
-
-within : (c : Context) (kind : List ℕ) (o : ℕ) → list_any (nat_eq o) (members_of c kind) ≡ true → o < length (bound_names c.objects)
-within c kind o e =
-    let b = under_size c.types kind 0 c.objects o (has_number o (members_of c kind) e) in
-    let l = length-map c.objects (λ (x : Binding). x.0) in
-    omega (arith, b, l)
-
 tail_of : {X : Type 0} (x y : X) (xs ys : List X) → x ∷ xs ≡ y ∷ ys → (x ≡ y) × (xs ≡ ys)
 tail_of x y xs ys e = (cc e, cc e)
 
@@ -253,57 +209,18 @@ same_objects c d (v ∷ vs) (o ∷ os) (p ∷ ps) a b e =
     let s : o ≡ p = d o p (within c v.kind.name o a.0) (within c v.kind.name p b.0) t.0 in
     ap (λ x. x ∷ os) s ∙ ap (λ xs. p ∷ xs) (same_objects c d vs os ps a.1 b.1 t.1)
 
--- ---- a choice is bound
-
-if_true : (b : Bool) (r : Option Environment) (x : Environment) → b ≡ true → r ≡ Some x → (if b then r else None) ≡ Some x
-if_true true r x e f = f
-if_true false r x e f = cc e
-
-is_bound : (c : Context) → IsDistinct (bound_names c.objects) → (vs : List TypedName) (os : List ℕ) (env : Environment) → Picks c vs os → (out : Environment) × (bound_by c vs (object_names c os) env ≡ Some out)
-is_bound c d [] [] env p = (env, refl)
-is_bound c d [] (o ∷ os) env p = absurd p
-is_bound c d (v ∷ vs) [] env p = absurd p
-is_bound c d (v ∷ vs) (o ∷ os) env p =
-    let name : List ℕ = get_or (bound_names c.objects) o [] in
-    let inner : Environment = env ++ (v.name.name, object_place c name) ∷ [] in
-    let more = is_bound c d vs os inner p.1 in
-    let at : object_place c name ≡ o = place_of (bound_names c.objects) d o (within c v.kind.name o p.0) in
-    let there : list_any (nat_eq (object_place c name)) (members_of c v.kind.name) ≡ true = subst (λ x. list_any (nat_eq x) (members_of c v.kind.name) ≡ true) (sym at) p.0 in
-    (more.0, if_true (list_any (nat_eq (object_place c name)) (members_of c v.kind.name)) (bound_by c vs (object_names c os) inner) more.0 there more.1)
+-- ---- the calls
 
 module _ (dom : Domain) (prob : Problem) (differ : NamesDiffer dom prob) where
-  names_at : (i : ℕ) (a : Schema) → slice_get dom.actions i ≡ Some a → (i < length (action_names dom)) × (get_or (action_names dom) i [] ≡ a.name.name)
-  names_at i a e =
-      let m = has_map (λ (x : Schema). x.name.name) dom.actions a (i, e) in
-      let l = slice_get_within dom.actions i a e in
-      let n = length-map dom.actions (λ (x : Schema). x.name.name) in
-      (omega (arith, l, n), get_or_from_slice_get (action_names dom) i a.name.name [] (at dom.actions i e))
-    where
-      at : (xs : List Schema) (k : ℕ) → slice_get xs k ≡ Some a → slice_get (map (λ (x : Schema). x.name.name) xs) k ≡ Some a.name.name
-      at [] k f = cc f
-      at (x ∷ xs) zero f = ap (λ (w : Schema). Some w.name.name) (let s : x ≡ a = cc f in s)
-      at (x ∷ xs) (suc k) f = at xs k f
-
-  action_place : (i : ℕ) (a : Schema) → slice_get dom.actions i ≡ Some a → position_or_len (bytes_eq a.name.name) (action_names dom) ≡ i
-  action_place i a e =
-      let n = names_at i a e in
-      subst (λ (w : List ℕ). position_or_len (bytes_eq w) (action_names dom) ≡ i) n.1 (place_of (action_names dom) differ.actions i n.0)
-
-  is_named : (i : ℕ) (a : Schema) (os : List ℕ) → slice_get dom.actions i ≡ Some a → Picks (problem_context dom prob) a.params os → (action : Action) × (called_of dom prob a.name.name (object_names (problem_context dom prob) os) ≡ Instance action)
-  is_named i a os e p =
-      let b = is_bound (problem_context dom prob) differ.objects a.params os [] p in
-      let place = action_place i a e in
-      let at : slice_get dom.actions (position_or_len (bytes_eq a.name.name) (action_names dom)) ≡ Some a = subst (λ k. slice_get dom.actions k ≡ Some a) (sym place) e in
-      (action_meant (problem_context dom prob) a b.0, ap (called_by (problem_context dom prob) a.name.name (object_names (problem_context dom prob) os)) at ∙ ap (called_in (problem_context dom prob) a.name.name a) b.1)
-
   named_all : (call : CallName) → Has (all_calls dom prob) call → (action : Action) × (called_of dom prob call.0 call.1 ≡ Instance action)
   named_all call h =
       let m = from_flat (calls_for dom prob) dom.actions call h in
       let n = from_map (λ (objects : List ℕ). (m.0.name.name, object_names (problem_context dom prob) objects)) (choices_from (problem_context dom prob) m.0.params []) call m.2 in
       let p = all_picks (problem_context dom prob) m.0.params [] n.0 n.1 in
-      let r = is_named m.1.0 m.0 p.picked m.1.1 p.picks in
+      let action : Action = action_meant (problem_context dom prob) m.0 (given m.0.params p.picked []) in
+      let r = called_given dom prob differ m.1.0 m.0 p.picked m.1.1 p.picks in
       let same : (m.0.name.name, object_names (problem_context dom prob) p.picked) ≡ call = ap (λ (objects : List ℕ). (m.0.name.name, object_names (problem_context dom prob) objects)) (sym p.is) ∙ n.2 in
-      (r.0, subst (λ (x : CallName). called_of dom prob x.0 x.1 ≡ Instance r.0) same r.1)
+      (action, subst (λ (x : CallName). called_of dom prob x.0 x.1 ≡ Instance action) same r)
 
   one_action : (a : Schema) → Differ (calls_for dom prob a)
   one_action a =
@@ -318,8 +235,8 @@ module _ (dom : Domain) (prob : Problem) (differ : NamesDiffer dom prob) where
 
   same_place : (a b : Schema) → Has dom.actions a → Has dom.actions b → a.name.name ≡ b.name.name → a ≡ b
   same_place a b h g e =
-      let n = names_at h.0 a h.1 in
-      let m = names_at g.0 b g.1 in
+      let n = names_at dom h.0 a h.1 in
+      let m = names_at dom g.0 b g.1 in
       let k : h.0 ≡ g.0 = differ.actions h.0 g.0 n.0 m.0 (n.1 ∙ e ∙ sym m.1) in
       let f : Some a ≡ Some b = sym h.1 ∙ ap (slice_get dom.actions) k ∙ g.1 in
       cc f
@@ -328,7 +245,7 @@ module _ (dom : Domain) (prob : Problem) (differ : NamesDiffer dom prob) where
   schemas_differ = by dom.actions 0 (λ i j a e f. alike i j a e f)
     where
       alike : (i j : ℕ) (a : Schema) → slice_get dom.actions i ≡ Some a → slice_get dom.actions j ≡ Some a → i ≡ j
-      alike i j a e f = let n = names_at i a e in let m = names_at j a f in differ.actions i j n.0 m.0 (n.1 ∙ sym m.1)
+      alike i j a e f = let n = names_at dom i a e in let m = names_at dom j a f in differ.actions i j n.0 m.0 (n.1 ∙ sym m.1)
 
       by : (xs : List Schema) (n : ℕ) → ((i j : ℕ) (a : Schema) → slice_get xs i ≡ Some a → slice_get xs j ≡ Some a → i ≡ j) → Differ xs
       by [] n u = tt
@@ -362,33 +279,6 @@ module _ (dom : Domain) (prob : Problem) (differ : NamesDiffer dom prob) where
           let one = has_map (λ (objects : List ℕ). (a.name.name, object_names (problem_context dom prob) objects)) (choices_from (problem_context dom prob) a.params []) (places (problem_context dom prob) args) k.among in
           let same : (a.name.name, object_names (problem_context dom prob) (places (problem_context dom prob) args)) ≡ (name, args) = ap (λ (ns : List (List ℕ)). (a.name.name, ns)) k.names ∙ ap (λ (w : List ℕ). (w, args)) (sym n) in
           has_flat (calls_for dom prob) dom.actions a (name, args) (position_or_len (bytes_eq name) (action_names dom), s) (subst (Has (calls_for dom prob a)) same one)
-
--- ---- names that differ pair by pair
-
-which : (i j : ℕ) → (i < j) ⊎ ((i ≡ j) ⊎ (j < i))
-which zero zero = inr (inl refl)
-which zero (suc j) = inl (omega arith)
-which (suc i) zero = inr (inr (omega arith))
-which (suc i) (suc j) = by (which i j)
-  where
-    by : (i < j) ⊎ ((i ≡ j) ⊎ (j < i)) → (suc i < suc j) ⊎ ((suc i ≡ suc j) ⊎ (suc j < suc i))
-    by (inl h) = inl (omega (arith, h))
-    by (inr (inl h)) = inr (inl (ap (λ (x : ℕ). suc x) h))
-    by (inr (inr h)) = inr (inr (omega (arith, h)))
-
-is_distinct : (ns : List (List ℕ)) → AllPairs (λ x y. x ≢ y) ns → IsDistinct ns
-is_distinct ns h i j a b e = by (which i j)
-  where
-    by : (i < j) ⊎ ((i ≡ j) ⊎ (j < i)) → i ≡ j
-    by (inl l) = absurd (h i j [] l b e)
-    by (inr (inl s)) = s
-    by (inr (inr l)) = absurd (h j i [] l a (sym e))
-
-names_differ : (d : Domain) (p : Problem) → NothingTwice d p → NamesDiffer d p
-names_differ d p n = record {
-  objects = subst IsDistinct (sym (same_names (objects_of d p))) (is_distinct (names_of (objects_of d p)) n.objects);
-  actions = is_distinct (action_names d) n.actions;
-}
 
 pub all_calls_are_searched : (d : Domain) (p : Problem) → IsWellTyped d p → AreCallsOfGround d p
 all_calls_are_searched d p typed =

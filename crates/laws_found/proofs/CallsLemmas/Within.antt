@@ -1,31 +1,35 @@
 -- Where the ground actions are inside the limits, all passes that is asked of the instance that a call names.
-use Rattle.std.proofs.Common.{◌≡◌, ℕ, zero, suc, ◌<◌, ◌≤◌, Bool, true, false, nat_lt, List, [], ◌∷◌, Option, Some, None, slice_get, All, arith, refl, subst}
-use Rattle.std.specs.List.{flat_map, position_or_len}
+use Rattle.std.proofs.Common.{◌≡◌, ℕ, zero, suc, ◌*◌, ◌≤◌, true, false, nat_eq, List, [], ◌∷◌, ◌++◌, length, Option, Some, None, slice_get, All, arith, refl, ap, sym, subst, ◌∙◌}
+use Rattle.std.specs.List.{sum_by, flat_map, list_any, position_or_len}
 use Rattle.std.specs.Str.{bytes_eq}
-use Rattle.std.proofs.lemmas.Bool.Decides.{nat_tests}
+use Rattle.std.proofs.lemmas.List.Sums.{sum_by-cons}
 use Rattle.std.proofs.lemmas.List.Elements.{All-nil}
 use Rattle.plus_model.specs.Terms.{Action}
-use Rattle.plus_model.specs.Plan.{Called, Instance}
+use Rattle.plus_model.specs.Plan.{Instance}
 use Rattle.plus_number.specs.Frac.{IsFrac64}
 use Rattle.plus_tree.specs.declared.terms.Literal.{Literal}
+use Rattle.plus_tree.specs.declared.terms.TypedName.{TypedName}
 use Rattle.plus_tree.specs.declared.trees.Call.{Call}
 use Rattle.plus_tree.specs.declared.trees.Schema.{Schema}
 use Rattle.plus_tree.specs.declared.trees.Domain.{Domain}
 use Rattle.plus_tree.specs.declared.trees.Problem.{Problem}
-use Rattle.plus_types.specs.Faults.{action_names}
+use Rattle.plus_types.specs.Faults.{Context, problem_context, action_names}
 use Rattle.plus_literal.specs.Value.{LiteralFits}
-use Rattle.plus_expansion.specs.Calls.{called_of}
+use Rattle.plus_expansion.specs.Objects.{members_of, object_place}
+use Rattle.plus_expansion.specs.Environments.{Environment}
+use Rattle.plus_expansion.specs.Expansion.{action_meant}
+use Rattle.plus_expansion.specs.Calls.{bound_by, called_in, called_by, called_of}
 use Rattle.plus_expansion.specs.Nodes.{action_nodes}
 use Rattle.plus_expansion.specs.Literals.{schema_literals, literals_in}
-use Rattle.plus_ground.specs.Refusals.{IsTooLarge}
 use Rattle.plus_ground.proofs.ExpressionsLemmas.{all_left, all_right}
+use Rattle.plus_numbering.specs.Sizes.{choices, schema_size, schemas_size}
 use Rattle.plus_stretch.specs.Tests.{AllPass}
 use Rattle.plus_actions.specs.Actions.{IsGroundable}
-use Rattle.plus_actions.proofs.CountingLemmas.{inside}
-use Rattle.plus_actions.proofs.InstancesLemmas.{not_large}
+use Rattle.plus_actions.proofs.CountingLemmas.{action-nodes, few_nodes}
 use Rattle.plus_validator.specs.Plans.{pair}
 use Rattle.plus_validator.specs.Asking.{call_tests}
 use Rattle.laws_found.specs.Calls.Calls.{IsCalledBy}
+use Rattle.laws_found.proofs.CallsLemmas.Called.{first_some}
 use Rattle.plus_validator.proofs.CalledTests.{call_passes}
 
 -- ---- its literals are values
@@ -41,18 +45,56 @@ of_call P xs k (Some a) e h = of_schema P xs k a e h
 
 -- ---- its size is allowed
 
-small : (called : Called) (a : Action) → called ≡ Instance a → (IsTooLarge called → ⊥) → action_nodes a ≤ 1000000
-small called a e none = by (nat_lt 1000000 (action_nodes a)) refl
+nonempty : (n : ℕ) (xs : List ℕ) → list_any (nat_eq n) xs ≡ true → 1 ≤ length xs
+nonempty n [] e = absurd (let f : false ≡ true = e in cc f)
+nonempty n (x ∷ xs) e = omega arith
+
+both_some : (a b : ℕ) → 1 ≤ a → 1 ≤ b → 1 ≤ a * b
+both_some zero b h k = absurd (omega arith)
+both_some (suc a) zero h k = absurd (omega arith)
+both_some (suc a) (suc b) h k = omega arith
+
+some_choice : (c : Context) (vs : List TypedName) (args : List (List ℕ)) (env out : Environment) → bound_by c vs args env ≡ Some out → 1 ≤ choices c vs
+some_choice c [] args env out e = omega arith
+some_choice c (v ∷ vs) [] env out e = cc e
+some_choice c (v ∷ vs) (a ∷ more) env out e =
+    let inner = env ++ (v.name.name, object_place c a) ∷ [] in
+    let f = first_some (list_any (nat_eq (object_place c a)) (members_of c v.kind.name)) (bound_by c vs more inner) out e in
+    both_some (length (members_of c v.kind.name)) (choices c vs) (nonempty (object_place c a) (members_of c v.kind.name) f.0) (some_choice c vs more inner out f.1)
+
+at_least : (a b : ℕ) → 1 ≤ a → b ≤ a * b
+at_least zero b h = absurd (omega arith)
+at_least (suc a) b h = omega arith
+
+in_sum : {X : Type 0} (f : X → ℕ) (xs : List X) (k : ℕ) (x : X) → slice_get xs k ≡ Some x → f x ≤ sum_by f xs
+in_sum f [] zero x e = cc e
+in_sum f [] (suc k) x e = cc e
+in_sum f (y ∷ ys) zero x e = (let s = sum_by-cons f y ys in let m : f y ≡ f x = ap f (let g : y ≡ x = cc e in g) in omega arith)
+in_sum f (y ∷ ys) (suc k) x e = (let s = sum_by-cons f y ys in let m = in_sum f ys k x e in omega arith)
+
+bound_size : (c : Context) (name : List ℕ) (a : Schema) (r : Option Environment) (action : Action) → ((env : Environment) → r ≡ Some env → 1 ≤ choices c a.params) → called_in c name a r ≡ Instance action → action_nodes action ≤ choices c a.params * schema_size c false a
+bound_size c name a None action h e = cc e
+bound_size c name a (Some env) action h e =
+    subst (λ n. n ≤ choices c a.params * schema_size c false a)
+    (sym (action-nodes c a env) ∙ ap action_nodes (let s : action_meant c a env ≡ action = cc e in s))
+    (at_least (choices c a.params) (schema_size c false a) (h env refl))
+
+called_size : (c : Context) (name : List ℕ) (args : List (List ℕ)) (schemas : List Schema) (k : ℕ) (o : Option Schema) (action : Action) → slice_get schemas k ≡ o → called_by c name args o ≡ Instance action → action_nodes action ≤ schemas_size c (schema_size c false) schemas
+called_size c name args schemas k None action s e = cc e
+called_size c name args schemas k (Some a) action s e =
+    let one = bound_size c name a (bound_by c a.params args []) action (λ env f. some_choice c a.params args [] env f) e in
+    let all = in_sum (λ (x : Schema). choices c x.params * schema_size c false x) schemas k a s in
+    at_most _ _ _ one all
   where
-    over : nat_lt 1000000 (action_nodes a) ≡ true → 1000000 < action_nodes a
-    over h = grind (arith, nat_tests)
+    at_most : (x y z : ℕ) → x ≤ y → y ≤ z → x ≤ z
+    at_most x y z h k = omega arith
 
-    under : nat_lt 1000000 (action_nodes a) ≡ false → action_nodes a ≤ 1000000
-    under h = grind (arith, nat_tests)
-
-    by : (b : Bool) → nat_lt 1000000 (action_nodes a) ≡ b → action_nodes a ≤ 1000000
-    by true h = absurd (none (record { action = a; is = e; large = over h }))
-    by false h = under h
+small : (d : Domain) (p : Problem) (name : List ℕ) (args : List (List ℕ)) (action : Action) → IsGroundable IsFrac64 d p → called_of d p name args ≡ Instance action → action_nodes action ≤ 1000000
+small d p name args action g e =
+    let k = position_or_len (bytes_eq name) (action_names d) in
+    let size = called_size (problem_context d p) name args d.actions k (slice_get d.actions k) action refl e in
+    let few = few_nodes d p g.counts in
+    omega (arith, size, few)
 
 pub called_instance_is_within :
     (d : Domain) (p : Problem) (action : Action) (call : Call) → IsGroundable IsFrac64 d p → IsCalledBy d p action call → AllPass IsFrac64 (call_tests (pair d p) call)
@@ -61,6 +103,6 @@ called_instance_is_within d p action call g c =
     call_passes (pair d p) call action
     (record {
       is = c.called;
-      small = small (called_of d p call.name call.args) action c.called (not_large IsFrac64 d p call.name call.args (inside IsFrac64 d p g));
+      small = small d p call.name call.args action g c.called;
       literals = of_call (LiteralFits IsFrac64) d.actions k (slice_get d.actions k) refl g.literals;
     })

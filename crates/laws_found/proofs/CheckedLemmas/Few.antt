@@ -74,9 +74,9 @@ all_few d p (a ∷ acts) (c ∷ calls) few h =
 
 -- ---- the plan that was found
 
-module _ (domain problem : List ℕ) (d : Domain) (p : Problem) (q : Fraction) (k tries : ℕ) (plan : TimedPlan Frac64) (names : NamesArePlain) (labels : LabelsAreDecided) (ground : DecidedAreGround) (times : TimesAreDecided) (called : ActionsAreCalled) (written : CallsAreWritten) (plain : CallsArePlain) where
+module _ (domain problem : List ℕ) (d : Domain) (p : Problem) (q : Fraction) (k tries : ℕ) (cut : Bool) (plan : TimedPlan Frac64) (names : NamesArePlain) (labels : LabelsAreDecided) (ground : DecidedAreGround) (times : TimesAreDecided) (called : ActionsAreCalled) (written : CallsAreWritten) (plain : CallsArePlain) where
   pub few_have_room :
-      FewHaveRoom → SpellsWellTyped domain problem d p → whole (pos 0) <ℚ q → IsPlanned d p q k tries (Plan plan) → HasFewParameters d → HasShortLines (answer_text k (Plan plan))
+      FewHaveRoom → SpellsWellTyped domain problem d p → whole (pos 0) <ℚ q → IsPlanned d p q k tries cut (Plan plan) → HasFewParameters d → HasShortLines (answer_text k (Plan plan))
   few_have_room room t above planned few =
       let actions = ground_actions d p in
       let ds = planned.answers.decisions in

@@ -1,5 +1,5 @@
 -- What is written of a plan that was found says its decisions.
-use Rattle.std.proofs.Common.{◌≡◌, ℕ, List, sym, subst}
+use Rattle.std.proofs.Common.{◌≡◌, ℕ, Bool, List, sym, subst}
 use Rattle.std.specs.Prelude.{map, pos, Ok}
 use Rattle.plus_fraction.specs.Fraction.{Fraction, whole, ◌<ℚ◌}
 use Rattle.plus_number.specs.declared.frac.Frac64.{Frac64}
@@ -18,9 +18,9 @@ use Rattle.laws_found.specs.Passing.{IsTextOf, InstancesPass}
 use Rattle.laws_found.specs.Room.{HasRoom}
 use Rattle.laws_found.proofs.CheckedLemmas.Steps.{NamesArePlain, FoundIsCalled, TextReadsBack}
 
-module _ (domain problem : List ℕ) (d : Domain) (p : Problem) (q : Fraction) (k tries : ℕ) (plan : TimedPlan Frac64) where
+module _ (domain problem : List ℕ) (d : Domain) (p : Problem) (q : Fraction) (k tries : ℕ) (cut : Bool) (plan : TimedPlan Frac64) where
   pub said :
-      NamesArePlain → FoundIsCalled → TextReadsBack → SpellsWellTyped domain problem d p → whole (pos 0) <ℚ q → (planned : IsPlanned d p q k tries (Plan plan))
+      NamesArePlain → FoundIsCalled → TextReadsBack → SpellsWellTyped domain problem d p → whole (pos 0) <ℚ q → (planned : IsPlanned d p q k tries cut (Plan plan))
       → HasRoom (answer_text k (Plan plan)) → (lines : List Line) × IsTextOf d p q planned.answers.decisions (answer_text k (Plan plan)) lines × InstancesPass d p lines
   said names found back t above planned room =
       let plain = names depth_limit domain problem d p t.spelled.domain_spelled t.spelled.problem_spelled in

@@ -1,5 +1,5 @@
 -- What `plan` writes with the status Valid is a plan that a search found.
-use Rattle.std.proofs.Common.{◌≡◌, ℕ, List, refl, ap, ◌∙◌, subst}
+use Rattle.std.proofs.Common.{◌≡◌, ℕ, Bool, List, refl, ap, ◌∙◌, subst}
 use Rattle.plus_fraction.specs.Fraction.{Fraction}
 use Rattle.plus_number.specs.declared.frac.Frac64.{Frac64}
 use Rattle.plus_state.specs.declared.outcome.TimedPlan.{TimedPlan}
@@ -28,12 +28,12 @@ not_valid (es.Literal text start finish) i = cc i
 not_valid (es.TooMany kind most) i = cc i
 
 -- the plan of a pair that is written so
-pub record WritesPlan (q : Fraction) (k tries : ℕ) (domain problem : List ℕ) (written : List ℕ) : Type 0 where
+pub record WritesPlan (q : Fraction) (k tries : ℕ) (cut : Bool) (domain problem : List ℕ) (written : List ℕ) : Type 0 where
   pub d : Domain
   pub p : Problem
   pub spelled : SpellsWellTyped domain problem d p
   pub plan : TimedPlan Frac64
-  pub planned : IsPlanned d p q k tries (Plan plan)
+  pub planned : IsPlanned d p q k tries cut (Plan plan)
   pub written_is : written ≡ answer_text k (Plan plan)
 
 is_plan : (answer : Answer Frac64) → s.Valid ≡ answer_status answer → (plan : TimedPlan Frac64) × (answer ≡ Plan plan)
@@ -41,8 +41,8 @@ is_plan (Plan plan) i = (plan, refl)
 is_plan (NoPlan beyond) i = cc i
 is_plan (Spent tried) i = cc i
 
-module _ (q : Fraction) (k tries : ℕ) (domain problem written : List ℕ) where
-  of_answer : (d : Domain) (p : Problem) → SpellsWellTyped domain problem d p → (answer : Answer Frac64) → IsPlanned d p q k tries answer → s.Valid ≡ answer_status answer → written ≡ answer_text k answer → WritesPlan q k tries domain problem written
+module _ (q : Fraction) (k tries : ℕ) (cut : Bool) (domain problem written : List ℕ) where
+  of_answer : (d : Domain) (p : Problem) → SpellsWellTyped domain problem d p → (answer : Answer Frac64) → IsPlanned d p q k tries cut answer → s.Valid ≡ answer_status answer → written ≡ answer_text k answer → WritesPlan q k tries cut domain problem written
   of_answer d p t answer h i w =
       let x = is_plan answer i in
       record {
@@ -50,11 +50,11 @@ module _ (q : Fraction) (k tries : ℕ) (domain problem written : List ℕ) wher
         p = p;
         spelled = t;
         plan = x.0;
-        planned = subst (IsPlanned d p q k tries) x.1 h;
+        planned = subst (IsPlanned d p q k tries cut) x.1 h;
         written_is = w ∙ ap (answer_text k) x.1;
       }
 
-  pub plan_written : Plans q k tries domain problem s.Valid written → WritesPlan q k tries domain problem written
+  pub plan_written : Plans q k tries cut domain problem s.Valid written → WritesPlan q k tries cut domain problem written
   plan_written (no_pair e h i w) = absurd (not_valid e i)
   plan_written (of_pair d p t (answered answer h i w)) = of_answer d p t answer h i w
   plan_written (of_pair d p t (no_search e h i w)) = absurd (not_valid e i)
