@@ -83,10 +83,45 @@ impl<Q: Exact> Work<Q> {
         ensures halts { IfErr result (Halts Q.value Q.fits (problem_of Q.value ground.now) bounds.now.happenings
             (plan_of (chosen (map (act_of Q.value) acts.now) self.now.places.items) (Q.value bounds.now.end))) }
     {
-        let Ok(mut line) = self.marks[0].copy(alloc) else {
-            return Err(Stop::Memory);
-        };
-        play_on(&mut line, ground, acts, &self.places, 0, bounds.end)
+        match self.marks[0].copy(alloc) {
+            Ok(mut line) => {
+                let played = play_on(&mut line, ground, acts, &self.places, 0, bounds.end);
+                drop(line);
+                played
+            }
+            Err(_) => Err(Stop::Memory),
+        }
+    }
+
+    // Plays the acts behind one of them, on a timeline that stands behind those before it.
+    fn play_behind(
+        &self,
+        line: &mut Indexed<Q>,
+        ground: &Ground<Q>,
+        acts: &[TimedAction<Q>],
+        bounds: &Bounds<Q>,
+        index: usize,
+    ) -> Result<Tried, AllocError>
+        requires fit { AllFit (problem_of Q.value ground.now).atoms (problem_of Q.value ground.now).fluents (map (act_of Q.value) acts.now) }
+        requires marked { AreMarked Q.fits (problem_of Q.value ground.now) bounds.now.happenings (map (act_of Q.value) acts.now) (Q.value bounds.now.end) self.now.places.items self.now.marks.items }
+        requires place { index < length self.now.places.items }
+        requires mark { IsMark Q.fits (problem_of Q.value ground.now) bounds.now.happenings
+            (chosen (map (act_of Q.value) acts.now) (take index self.now.places.items)) line.old }
+        ensures tried { IfOk result (TriedIs Q.fits (problem_of Q.value ground.now) bounds.now.happenings
+            (chosen (map (act_of Q.value) acts.now) self.now.places.items) (Q.value bounds.now.end) index) }
+    {
+        let done = index as u32;
+        match play_on(
+            line,
+            ground,
+            acts,
+            &self.places[index + 1..],
+            done,
+            bounds.end,
+        ) {
+            Ok(()) => Ok(Tried::Valid),
+            Err(stop) => refused(stop),
+        }
     }
 
     // Plays the acts without one of them, from the timeline behind those before it.
@@ -106,17 +141,34 @@ impl<Q: Exact> Work<Q> {
             (chosen (map (act_of Q.value) acts.now) self.now.places.items) (Q.value bounds.now.end) index) }
     {
         let mut line = self.marks[index].copy(alloc)?;
-        let done = index as u32;
-        match play_on(
-            &mut line,
-            ground,
-            acts,
-            &self.places[index + 1..],
-            done,
-            bounds.end,
-        ) {
-            Ok(()) => Ok(Tried::Valid),
-            Err(stop) => refused(stop),
+        let tried = self.play_behind(&mut line, ground, acts, bounds, index);
+        drop(line);
+        tried
+    }
+
+    // Does one act more on a timeline that stands behind so many of those that are kept.
+    fn go_on(
+        &self,
+        line: &mut Indexed<Q>,
+        ground: &Ground<Q>,
+        acts: &[TimedAction<Q>],
+        bounds: &Bounds<Q>,
+        done: usize,
+    ) -> Result<(), AllocError>
+        requires fit { AllFit (problem_of Q.value ground.now).atoms (problem_of Q.value ground.now).fluents (map (act_of Q.value) acts.now) }
+        requires work { IsWork Q.fits (problem_of Q.value ground.now) bounds.now.happenings (map (act_of Q.value) acts.now) (Q.value bounds.now.end) self.now.places.items self.now.marks.items }
+        requires place { done < length self.now.places.items }
+        requires mark { IsMark Q.fits (problem_of Q.value ground.now) bounds.now.happenings
+            (chosen (map (act_of Q.value) acts.now) (take done self.now.places.items)) line.old }
+        ensures mark { OnOk result (IsMark Q.fits (problem_of Q.value ground.now) bounds.now.happenings
+            (chosen (map (act_of Q.value) acts.now) (take (done + 1) self.now.places.items)) line.new) }
+    {
+        let place = self.places[done];
+        let act = &acts[place as usize];
+        let number = done as u32 + 1;
+        match act_at(line, ground, act.time, &act.action, number) {
+            Ok(()) => Ok(()),
+            Err(stop) => Err(wanting(stop)),
         }
     }
 
@@ -135,13 +187,13 @@ impl<Q: Exact> Work<Q> {
             (chosen (map (act_of Q.value) acts.now) (take (length self.now.marks.items) self.now.places.items))) }
     {
         let last = self.marks.len() - 1;
-        let place = self.places[last];
-        let act = &acts[place as usize];
-        let number = last as u32 + 1;
         let mut line = self.marks[last].copy(alloc)?;
-        match act_at(&mut line, ground, act.time, &act.action, number) {
+        match self.go_on(&mut line, ground, acts, bounds, last) {
             Ok(()) => Ok(line),
-            Err(stop) => Err(wanting(stop)),
+            Err(error) => {
+                drop(line);
+                Err(error)
+            }
         }
     }
 

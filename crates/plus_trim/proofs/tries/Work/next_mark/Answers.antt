@@ -1,134 +1,24 @@
-use Rattle.std.proofs.Common.{◌≡◌, ◌-◌, ◌<◌, map, take, length, get_or, refl, ◌∙◌, arith}
-use Rattle.std.specs.Prelude.{Some, slice_get}
+use Rattle.std.proofs.Common.{◌≡◌, ◌-◌, ◌<◌, ◌+◌, ℕ, map, take, length, subst, arith}
 use Rattle.plus_state.specs.View.{problem_of}
-use Rattle.plus_trim.specs.Acts.{act_of, lines_of, plan_of, chosen}
+use Rattle.plus_trim.specs.Acts.{act_of, chosen}
 use Rattle.plus_trim.specs.Work.{IsMark}
-use Rattle.plus_trim.proofs.Acted.{rests_reach, halts_most}
-use Rattle.plus_trim.proofs.Working.{mark_rests, mark_read, mark_acted, next_ahead}
-use Rattle.plus_trim.proofs.Marking.{only_memory, act_there, plan_goes_on, mark_is}
+use Rattle.plus_trim.proofs.Working.{mark_read}
 use Rattle.plus_trim.proofs.tries.Work.next_mark.Goals as goal
 
-pub act_at-requires-clause-reach : goal.act_at-requires-clause-reach
-act_at-requires-clause-reach g c =
+pub go_on-requires-clause-mark : goal.go_on-requires-clause-mark
+go_on-requires-clause-mark g c =
     let v = g.Q.Exact.value in
-    let fits = g.Q.Exact.fits in
-    let P = problem_of v c.args.ground.now in
-    let most = c.args.bounds.now.happenings in
-    let xs = map (act_of v) c.args.acts.now in
-    let end = v c.args.bounds.now.end in
-    let places = c.args.self.now.places.items in
     let marks = c.args.self.now.marks.items in
-    let w = c.requires.work.marked in
-    let i = c.len-last.result - 1 in
-    let h : i < length places = omega arith in
-    let k : i < length marks = omega arith in
-    let x = act_of v c.index-acts-place.result in
-    let e : slice_get xs (get_or places i 0) ≡ Some x = act_there v c.args.acts.now places i c.index-place.result.now w.inside h c.index-place.ensures c.index-acts-place.result c.index-acts-place.is in
-    let line = c.in_ok-line.line in
-    let mark : IsMark fits P most (chosen xs (take i places)) line = mark_read fits P most xs end places marks w i c.index.result.now line k c.index.ensures c.in_ok-line.ensures in
-    rests_reach P line.line x.0 (mark_rests fits P most (chosen xs (take i places)) line mark) (next_ahead fits P most xs end places marks w i h line mark x e).0
-
-pub act_at-requires-clause-knows : goal.act_at-requires-clause-knows
-act_at-requires-clause-knows g c =
-    let v = g.Q.Exact.value in
-    let fits = g.Q.Exact.fits in
-    let P = problem_of v c.args.ground.now in
-    let most = c.args.bounds.now.happenings in
-    let xs = map (act_of v) c.args.acts.now in
-    let end = v c.args.bounds.now.end in
-    let places = c.args.self.now.places.items in
-    let marks = c.args.self.now.marks.items in
-    let w = c.requires.work.marked in
-    let i = c.len-last.result - 1 in
-    let h : i < length places = omega arith in
-    let k : i < length marks = omega arith in
-    let x = act_of v c.index-acts-place.result in
-    let e : slice_get xs (get_or places i 0) ≡ Some x = act_there v c.args.acts.now places i c.index-place.result.now w.inside h c.index-place.ensures c.index-acts-place.result c.index-acts-place.is in
-    let line = c.in_ok-line.line in
-    let mark : IsMark fits P most (chosen xs (take i places)) line = mark_read fits P most xs end places marks w i c.index.result.now line k c.index.ensures c.in_ok-line.ensures in
-    mark.knows
-
-pub act_at-requires-clause-fits : goal.act_at-requires-clause-fits
-act_at-requires-clause-fits g c =
-    let v = g.Q.Exact.value in
-    let fits = g.Q.Exact.fits in
-    let P = problem_of v c.args.ground.now in
-    let most = c.args.bounds.now.happenings in
-    let xs = map (act_of v) c.args.acts.now in
-    let end = v c.args.bounds.now.end in
-    let places = c.args.self.now.places.items in
-    let marks = c.args.self.now.marks.items in
-    let w = c.requires.work.marked in
-    let i = c.len-last.result - 1 in
-    let h : i < length places = omega arith in
-    let k : i < length marks = omega arith in
-    let x = act_of v c.index-acts-place.result in
-    let e : slice_get xs (get_or places i 0) ≡ Some x = act_there v c.args.acts.now places i c.index-place.result.now w.inside h c.index-place.ensures c.index-acts-place.result c.index-acts-place.is in
-    let line = c.in_ok-line.line in
-    let mark : IsMark fits P most (chosen xs (take i places)) line = mark_read fits P most xs end places marks w i c.index.result.now line k c.index.ensures c.in_ok-line.ensures in
-    c.requires.fit (get_or places i 0) x e
-
-pub act_at-requires-clause-number : goal.act_at-requires-clause-number
-act_at-requires-clause-number g c =
-    let v = g.Q.Exact.value in
-    let fits = g.Q.Exact.fits in
-    let P = problem_of v c.args.ground.now in
-    let most = c.args.bounds.now.happenings in
-    let xs = map (act_of v) c.args.acts.now in
-    let end = v c.args.bounds.now.end in
-    let places = c.args.self.now.places.items in
-    let marks = c.args.self.now.marks.items in
-    let w = c.requires.work.marked in
-    let i = c.len-last.result - 1 in
-    let h : i < length places = omega arith in
-    let k : i < length marks = omega arith in
-    let x = act_of v c.index-acts-place.result in
-    let e : slice_get xs (get_or places i 0) ≡ Some x = act_there v c.args.acts.now places i c.index-place.result.now w.inside h c.index-place.ensures c.index-acts-place.result c.index-acts-place.is in
-    let line = c.in_ok-line.line in
-    let mark : IsMark fits P most (chosen xs (take i places)) line = mark_read fits P most xs end places marks w i c.index.result.now line k c.index.ensures c.in_ok-line.ensures in
-    let a = mark_acted fits P most xs end places marks w i h line mark in omega arith
+    let s = c.requires.work.marked.some in
+    let k : c.len-last.result - 1 < length marks = omega arith in
+    mark_read g.Q.Exact.fits (problem_of v c.args.ground.now) c.args.bounds.now.happenings (map (act_of v) c.args.acts.now) (v c.args.bounds.now.end) c.args.self.now.places.items marks c.requires.work.marked (c.len-last.result - 1) c.index.result.now c.in_ok-line.line k c.index.ensures c.in_ok-line.ensures
 
 pub returns-in-Ok : goal.returns-in-Ok
-returns-in-Ok g c =
-    let v = g.Q.Exact.value in
-    let fits = g.Q.Exact.fits in
-    let P = problem_of v c.args.ground.now in
-    let most = c.args.bounds.now.happenings in
-    let xs = map (act_of v) c.args.acts.now in
-    let end = v c.args.bounds.now.end in
-    let places = c.args.self.now.places.items in
-    let marks = c.args.self.now.marks.items in
-    let w = c.requires.work.marked in
-    let i = c.len-last.result - 1 in
-    let h : i < length places = omega arith in
-    let k : i < length marks = omega arith in
-    let x = act_of v c.index-acts-place.result in
-    let e : slice_get xs (get_or places i 0) ≡ Some x = act_there v c.args.acts.now places i c.index-place.result.now w.inside h c.index-place.ensures c.index-acts-place.result c.index-acts-place.is in
-    let line = c.in_ok-line.line in
-    let mark : IsMark fits P most (chosen xs (take i places)) line = mark_read fits P most xs end places marks w i c.index.result.now line k c.index.ensures c.in_ok-line.ensures in
-    record {
-      mark = mark_is fits P most xs end places marks w i x e h (length marks) c.act_at.new.line (omega arith) c.in-Ok.ensures.knows
-          (c.in-Ok.ensures.behind (lines_of (chosen xs (take i places))) mark.behind) (c.in-Ok.ensures.acts.most ∙ mark.most_is);
-    }
-
-pub wanting-requires : goal.wanting-requires
-wanting-requires g c =
-    let v = g.Q.Exact.value in
-    let fits = g.Q.Exact.fits in
-    let P = problem_of v c.args.ground.now in
-    let most = c.args.bounds.now.happenings in
-    let xs = map (act_of v) c.args.acts.now in
-    let end = v c.args.bounds.now.end in
-    let places = c.args.self.now.places.items in
-    let marks = c.args.self.now.marks.items in
-    let w = c.requires.work.marked in
-    let i = c.len-last.result - 1 in
-    let h : i < length places = omega arith in
-    let k : i < length marks = omega arith in
-    let x = act_of v c.index-acts-place.result in
-    let e : slice_get xs (get_or places i 0) ≡ Some x = act_there v c.args.acts.now places i c.index-place.result.now w.inside h c.index-place.ensures c.index-acts-place.result c.index-acts-place.is in
-    let line = c.in_ok-line.line in
-    let mark : IsMark fits P most (chosen xs (take i places)) line = mark_read fits P most xs end places marks w i c.index.result.now line k c.index.ensures c.in_ok-line.ensures in
-    only_memory v fits P most (plan_of (chosen xs places) end) c.in-Err.stop c.requires.work.valid
-    (halts_most v fits P line.line.most most (plan_of (chosen xs places) end) (plan_of (chosen xs places) end) c.in-Err.stop mark.most_is refl
-    (c.in-Err.ensures.halts (lines_of (chosen xs (take i places))) (plan_of (chosen xs places) end) mark.behind (plan_goes_on fits P most xs end places marks w i x e h)))
+returns-in-Ok g c = record {
+  mark =
+      let v = g.Q.Exact.value in
+      let s = c.requires.work.marked.some in
+      let d : (c.len-last.result - 1) + 1 ≡ length c.args.self.now.marks.items = omega arith in
+      subst (λ (n : ℕ). IsMark g.Q.Exact.fits (problem_of v c.args.ground.now) c.args.bounds.now.happenings (chosen (map (act_of v) c.args.acts.now) (take n c.args.self.now.places.items)) c.go_on.new.line)
+      d c.in-Ok.ensures.mark;
+}
