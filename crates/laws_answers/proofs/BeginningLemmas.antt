@@ -19,7 +19,7 @@ use Rattle.plus_reply.specs.Reply.{Replied, RepliedInPart, HasOneReply}
 use Rattle.plus_reply.proofs.PairLemmas.OnePair.{pair_or_not}
 use Rattle.plus_translate_command.proofs.OneReply.{same_pair}
 use Rattle.plus_run.specs.Checks.{Checks, OnPlan}
-use Rattle.plus_run.specs.Command.{Command, Check, ShowDomain, ShowProblem, Numeric, Trial, Translate, Lift, Plan, files_of}
+use Rattle.plus_run.specs.Command.{Command, Check, ShowDomain, ShowProblem, Numeric, Trial, Translate, Lift, Plan, Trim, files_of}
 use Rattle.plus_run.specs.Headline.{Answers, OnWay, IsAnswer}
 use Rattle.plus_run.specs.Laws.{AreTold}
 use Rattle.plus_run.proofs.OneAnswer.{Checked, by_pair, by_ground, by_plan, checked, settled_reply}
@@ -119,7 +119,8 @@ way_begins (Some (Numeric d p l)) bytes old new whole y t r h = neither h
 way_begins (Some (Trial n)) bytes old new whole y t r h = neither h
 way_begins (Some (Translate file q d p)) bytes old new whole y t r h = neither h
 way_begins (Some (Lift q d p l)) bytes old new whole y t r h = neither h
-way_begins (Some (Plan q k n d p)) bytes old new whole y t r h = neither h
+way_begins (Some (Plan q k n cut d p)) bytes old new whole y t r h = neither h
+way_begins (Some (Trim d p l)) bytes old new whole y t r h = neither h
 
 -- what is out is a part of a reply, or nothing, or what was told on the way
 data Cut (command : Option Command) (bytes : List ℕ → Option (List ℕ)) (old new : Option (List ℕ)) : Type 0 where

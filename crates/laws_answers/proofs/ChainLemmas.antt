@@ -1,5 +1,5 @@
 -- What `plan` wrote is accepted, so a check of it has an answer that is Valid; and a check has one answer.
-use Rattle.std.proofs.Common.{◌≡◌, ℕ, ◌≤◌, List, ◌++◌, length, Option, Some, None, refl, sym, subst}
+use Rattle.std.proofs.Common.{◌≡◌, ℕ, ◌≤◌, Bool, List, ◌++◌, length, Option, Some, None, refl, sym, subst}
 use Rattle.std.specs.Prelude.{IfSome, pos}
 use Rattle.std.specs.Io.KnownBytes.{append_known}
 use Rattle.std.proofs.lemmas.List.{append_cancel_left}
@@ -35,28 +35,28 @@ use Rattle.laws_answers.proofs.Room.{few_decisions_have_room}
 
 abbrev pub WrittenIsAccepted : Type 0
 WrittenIsAccepted =
-    (q : Fraction) (k tries most : ℕ) (domain problem written : List ℕ) → whole (pos 0) <ℚ q → Plans q k tries domain problem s.Valid written
+    (q : Fraction) (k tries most : ℕ) (cut : Bool) (domain problem written : List ℕ) → whole (pos 0) <ℚ q → Plans q k tries cut domain problem s.Valid written
     → HasRoom written → most_entries ≤ most
     → (d : Domain) × (p : Problem) × SpellsWellTyped domain problem d p × AcceptsText d p most written
 
 abbrev pub FoundHasShortLines : Type 0
 FoundHasShortLines =
-    (domain problem : List ℕ) (d : Domain) (p : Problem) (q : Fraction) (k tries : ℕ) (plan : TimedPlan Frac64)
-    → SpellsWellTyped domain problem d p → whole (pos 0) <ℚ q → IsPlanned d p q k tries (answers.Plan plan) → HasFewParameters d
+    (domain problem : List ℕ) (d : Domain) (p : Problem) (q : Fraction) (k tries : ℕ) (cut : Bool) (plan : TimedPlan Frac64)
+    → SpellsWellTyped domain problem d p → whole (pos 0) <ℚ q → IsPlanned d p q k tries cut (answers.Plan plan) → HasFewParameters d
     → HasShortLines (answer_text k (answers.Plan plan))
 
 -- ---- the text has room
 
 pub few_have_room : NamesArePlain → FoundIsCalled → TextReadsBack → FewDecisionsHaveRoom
-few_have_room names found back q k tries domain problem written above few plans short =
-    let w = plan_written q k tries domain problem written plans in
+few_have_room names found back q k tries cut domain problem written above few plans short =
+    let w = plan_written q k tries cut domain problem written plans in
     subst (λ (x : List ℕ). length x ≤ text_limit) (sym w.written_is)
-    (few_decisions_have_room domain problem w.d w.p q k tries w.plan names found back w.spelled above few w.planned (subst HasShortLines w.written_is short))
+    (few_decisions_have_room domain problem w.d w.p q k tries cut w.plan names found back w.spelled above few w.planned (subst HasShortLines w.written_is short))
 
 pub parameters_have_short_lines : FoundHasShortLines → FewParametersHaveShortLines
-parameters_have_short_lines found q k tries domain problem written above plans few =
-    let w = plan_written q k tries domain problem written plans in
-    subst HasShortLines (sym w.written_is) (found domain problem w.d w.p q k tries w.plan w.spelled above w.planned (few w.d w.p w.spelled))
+parameters_have_short_lines found q k tries cut domain problem written above plans few =
+    let w = plan_written q k tries cut domain problem written plans in
+    subst HasShortLines (sym w.written_is) (found domain problem w.d w.p q k tries cut w.plan w.spelled above w.planned (few w.d w.p w.spelled))
 
 -- ---- a text that is told
 
@@ -71,14 +71,14 @@ taken before written w e =
     let i : before ++ written ≡ before ++ w = cc e in
     sym (append_cancel_left before written w i)
 
-module _ (q : Fraction) (k tries most : ℕ) (d p d' p' l domain problem before written : List ℕ) (bytes again : List ℕ → Option (List ℕ)) (same : AreSameFiles bytes again d p d' p' l domain problem written) where
-  plans_of : (a b c e : ℕ) → IsAnswer (Some (Plan q k tries d p)) bytes (Some before) (Some (before ++ written)) a b c e s.Valid → Plans q k tries domain problem s.Valid written
+module _ (q : Fraction) (k tries most : ℕ) (cut : Bool) (d p d' p' l domain problem before written : List ℕ) (bytes again : List ℕ → Option (List ℕ)) (same : AreSameFiles bytes again d p d' p' l domain problem written) where
+  plans_of : (a b c e : ℕ) → IsAnswer (Some (Plan q k tries cut d p)) bytes (Some before) (Some (before ++ written)) a b c e s.Valid → Plans q k tries cut domain problem s.Valid written
   plans_of a b c e h =
-      let r = settled_reply (Some (Plan q k tries d p)) bytes (Some before) (Some (before ++ written)) a b c e s.Valid
+      let r = settled_reply (Some (Plan q k tries cut d p)) bytes (Some before) (Some (before ++ written)) a b c e s.Valid
       (is_told (bytes d) domain same.domain_is, (is_told (bytes p) problem same.problem_is, tt)) h tt in
-      let one = told (bytes d) domain (λ ds. IfSome (bytes p) (λ ps. Plans q k tries ds ps s.Valid r.written)) same.domain_is r.reply in
-      let two = told (bytes p) problem (λ ps. Plans q k tries domain ps s.Valid r.written) same.problem_is one in
-      subst (Plans q k tries domain problem s.Valid) (taken before written r.written r.took) two
+      let one = told (bytes d) domain (λ ds. IfSome (bytes p) (λ ps. Plans q k tries cut ds ps s.Valid r.written)) same.domain_is r.reply in
+      let two = told (bytes p) problem (λ ps. Plans q k tries cut domain ps s.Valid r.written) same.problem_is one in
+      subst (Plans q k tries cut domain problem s.Valid) (taken before written r.written r.took) two
 
   -- the check accepts it
   checks : (x : Domain) (y : Problem) (report : List ℕ) → SpellsWellTyped domain problem x y → IsAccepted x y most written report → Answers (Some (Check d' p' l most)) again s.Valid report
@@ -91,12 +91,12 @@ module _ (q : Fraction) (k tries most : ℕ) (d p d' p' l domain problem before 
   all_told = (is_told (again d') domain same.domain_again, (is_told (again p') problem same.problem_again, (is_told (again l) written same.plan_is, tt)))
 
 pub check_accepts_plan : WrittenIsAccepted → FewDecisionsHaveRoom → OneAnswer → CheckAcceptsPlan
-check_accepts_plan passes room once q k tries most d p d' p' l domain problem before written bytes again old new a b c e a' b' c' e' status above few same h short more g settled =
-    let plans = plans_of q k tries most d p d' p' l domain problem before written bytes again same a b c e h in
-    let x = passes q k tries most domain problem written above plans
-    (record { within = room q k tries domain problem written above few plans short; lines = short }) more in
+check_accepts_plan passes room once q k tries most cut d p d' p' l domain problem before written bytes again old new a b c e a' b' c' e' status above few same h short more g settled =
+    let plans = plans_of q k tries most cut d p d' p' l domain problem before written bytes again same a b c e h in
+    let x = passes q k tries most cut domain problem written above plans
+    (record { within = room q k tries cut domain problem written above few plans short; lines = short }) more in
     let f = by_text (Check d' p' l most) again old (append_known old x.3.0) 0 0 0 0 s.Valid s.Valid refl tt x.3.0
-    (checks q k tries most d p d' p' l domain problem before written bytes again same x.0 x.1 x.3.0 x.2 x.3.1) refl in
+    (checks q k tries most cut d p d' p' l domain problem before written bytes again same x.0 x.1 x.3.0 x.2 x.3.1) refl in
     let one = once (Some (Check d' p' l most)) again old (append_known old x.3.0) new 0 0 0 0 a' b' c' e' s.Valid status
-    (all_told q k tries most d p d' p' l domain problem before written bytes again same) f g tt settled tt in
+    (all_told q k tries most cut d p d' p' l domain problem before written bytes again same) f g tt settled tt in
     sym one.0

@@ -1,5 +1,5 @@
 -- Where no cause of a refusal stands, a command is answered as valid.
-use Rattle.std.proofs.Common.{true, ◌≡◌, ◌⊎◌, ℕ, ◌≤◌, List, ◌++◌, Option, Some, None, refl, ap, sym, subst, ◌∙◌, inl, inr, length, All}
+use Rattle.std.proofs.Common.{true, ◌≡◌, ◌⊎◌, ℕ, ◌≤◌, Bool, List, ◌++◌, Option, Some, None, refl, ap, sym, subst, ◌∙◌, inl, inr, length, All, arith}
 use Rattle.std.specs.Prelude.{IfSome, IsSomeAnd}
 use Rattle.plus_fraction.specs.Fraction.{Fraction}
 use Rattle.plus_io.specs.Limits.{text_limit}
@@ -34,6 +34,8 @@ use Rattle.plus_planner.specs.declared.searching.Answer.TheVariants as answers
 use Rattle.plus_plan_command.specs.Planning.Planned.{IsPlanned, IsUnplanned}
 use Rattle.plus_plan_command.specs.Plan.{search_refusal, answer_status, PlansPair, answered, no_search, Plans}
 use Rattle.plus_plan_command.specs.Plan as planned
+use Rattle.plus_trim_command.specs.Trim as trimmed
+use Rattle.plus_trim_command.specs.Trim.{Trims}
 use Rattle.plus_validator.specs.declared.judge.Judged.{Judged}
 use Rattle.plus_validator.specs.declared.judge.Outcome.TheVariants as outcomes
 use Rattle.plus_validator.specs.Laws as judged
@@ -57,14 +59,14 @@ use Rattle.plus_lift.specs.Command.Lift as lifted
 use Rattle.plus_trial.specs.Trial.{farm_domain, farm_problem, farm_plan, IsTrial}
 use Rattle.plus_trial.specs.Trial as trials
 use Rattle.plus_words.specs.Numbers.{default_happenings}
-use Rattle.plus_run.specs.Command.{Check, ShowDomain, ShowProblem, Numeric, Trial, Translate, Lift, Plan}
+use Rattle.plus_run.specs.Command.{Check, ShowDomain, ShowProblem, Numeric, Trial, Translate, Lift, Plan, Trim}
 use Rattle.plus_run.specs.Headline.{Answers, IsAnswer}
 use Rattle.plus_run.specs.Laws.{IsSettled, is_valid, is_invalid}
 use Rattle.plus_run.specs.Numeric.{PlaysUntimed}
 use Rattle.plus_run.specs.Numeric as numeric
 use Rattle.plus_run.specs.Shown.{Shows, a_tree, no_tree}
 use Rattle.plus_run.proofs.Deciding as runs
-use Rattle.laws_answers.specs.Complete.{SpellsPairWith, IsGood, IsLiftable, IsFindable, SpellsTree, Complete}
+use Rattle.laws_answers.specs.Complete.{SpellsPairWith, IsGood, IsLiftable, IsTrimmable, IsFindable, SpellsTree, Complete}
 
 -- ---- a plan text
 
@@ -190,8 +192,18 @@ lift_valid q ds ps ls y w (lifted.no_pair e h i k) t = absurd (pair_or_not ds ps
 lift_valid q ds ps ls y w (lifted.of_pair d p u h) t =
     pair_valid q d p ls (same_pair ds ps (λ x z. IsLiftable q x z ls) t.d d t.p p t.pair u t.holds) y w h
 
+-- `trim`
+trim_valid : (ds ps ls : List ℕ) (y : Status) (w : List ℕ) → Trims ds ps ls y w → SpellsPairWith ds ps (λ x z. IsTrimmable x z ls) → y ≡ s.Valid
+trim_valid ds ps ls y w (trimmed.no_pair e h i k) t = absurd (pair_or_not ds ps e t.d t.p h t.pair)
+trim_valid ds ps ls y w (trimmed.of_pair d p u (trimmed.refused j h n i k)) t =
+    judged_status d p default_happenings ls j y (same_pair ds ps (λ x z. IsTrimmable x z ls) t.d d t.p p t.pair u t.holds).good h i
+trim_valid ds ps ls y w (trimmed.of_pair d p u (trimmed.accepted b a (trimmed.many h i k))) t =
+    let few = (same_pair ds ps (λ x z. IsTrimmable x z ls) t.d d t.p p t.pair u t.holds).few a.lines a.read in
+    absurd (omega arith)
+trim_valid ds ps ls y w (trimmed.of_pair d p u (trimmed.accepted b a (trimmed.kept places beyond f k i x))) t = i
+
 -- `plan`
-module _ (q : Fraction) (k tries : ℕ) (d : Domain) (p : Problem) (t : IsFindable q k tries d p) where
+module _ (q : Fraction) (k tries : ℕ) (cut : Bool) (d : Domain) (p : Problem) (t : IsFindable q k tries d p) where
   not_unsearched : (e : Early) (fault : GroundFault) → refusals.Early e ≡ search_refusal fault → IsUnplanned d p fault → ⊥
   not_unsearched e (faults.TooMany kind most) i (inl r) =
       not_groundable d p (early_text (es.TooMany (kind_meant kind) most)) (faults.TooMany kind most) r refl t.inside.pair
@@ -203,19 +215,19 @@ module _ (q : Fraction) (k tries : ℕ) (d : Domain) (p : Problem) (t : IsFindab
       u.first.fails (one_of (LiteralFits IsFrac64) u.first.front u.first.back u.literal (subst (All (LiteralFits IsFrac64)) u.first.split t.inside.actions.literals))
   not_unsearched e faults.Memory i r = cc i
 
-  answer_valid : (answer : Answer Frac64) (y : Status) → IsPlanned d p q k tries answer → y ≡ answer_status answer → y ≡ s.Valid
+  answer_valid : (answer : Answer Frac64) (y : Status) → IsPlanned d p q k tries cut answer → y ≡ answer_status answer → y ≡ s.Valid
   answer_valid (answers.Plan plan) y h i = i
   answer_valid (answers.NoPlan beyond) y h i = absurd (h.answers.none t.decisions t.is)
   answer_valid (answers.Spent tried) y h i = absurd (h.enough t.enough)
 
-  search_valid : (y : Status) (w : List ℕ) → PlansPair q k tries d p y w → y ≡ s.Valid
+  search_valid : (y : Status) (w : List ℕ) → PlansPair q k tries cut d p y w → y ≡ s.Valid
   search_valid y w (answered answer h i x) = answer_valid answer y h i
   search_valid y w (no_search e h i x) = absurd (not_unsearched e h.fault h.refusal_is h.cause)
 
-plan_valid : (q : Fraction) (k tries : ℕ) (ds ps : List ℕ) (y : Status) (w : List ℕ) → Plans q k tries ds ps y w → SpellsPairWith ds ps (λ x z. IsFindable q k tries x z) → y ≡ s.Valid
-plan_valid q k tries ds ps y w (planned.no_pair e h i x) t = absurd (pair_or_not ds ps e t.d t.p h t.pair)
-plan_valid q k tries ds ps y w (planned.of_pair d p u h) t =
-    search_valid q k tries d p (same_pair ds ps (λ x z. IsFindable q k tries x z) t.d d t.p p t.pair u t.holds) y w h
+plan_valid : (q : Fraction) (k tries : ℕ) (cut : Bool) (ds ps : List ℕ) (y : Status) (w : List ℕ) → Plans q k tries cut ds ps y w → SpellsPairWith ds ps (λ x z. IsFindable q k tries x z) → y ≡ s.Valid
+plan_valid q k tries cut ds ps y w (planned.no_pair e h i x) t = absurd (pair_or_not ds ps e t.d t.p h t.pair)
+plan_valid q k tries cut ds ps y w (planned.of_pair d p u h) t =
+    search_valid q k tries cut d p (same_pair ds ps (λ x z. IsFindable q k tries x z) t.d d t.p p t.pair u t.holds) y w h
 
 -- ---- all commands
 
@@ -246,6 +258,9 @@ complete (Some (Translate file q dn pn)) bytes old new a b c d x h g t =
 complete (Some (Lift q dn pn ln)) bytes old new a b c d x h g t =
     let r = reply_of (Answers (Some (Lift q dn pn ln)) bytes) old new x (h.replied g) in
     on_three (Lifts q) (λ ds ps ls. SpellsPairWith ds ps (λ y z. IsLiftable q y z ls)) (lift_valid q) (bytes dn) (bytes pn) (bytes ln) x r.written r.reply t
-complete (Some (Plan q k tries dn pn)) bytes old new a b c d x h g t =
-    let r = reply_of (Answers (Some (Plan q k tries dn pn)) bytes) old new x (h.replied g) in
-    on_two (Plans q k tries) (λ ds ps. SpellsPairWith ds ps (λ y z. IsFindable q k tries y z)) (plan_valid q k tries) (bytes dn) (bytes pn) x r.written r.reply t
+complete (Some (Plan q k tries cut dn pn)) bytes old new a b c d x h g t =
+    let r = reply_of (Answers (Some (Plan q k tries cut dn pn)) bytes) old new x (h.replied g) in
+    on_two (Plans q k tries cut) (λ ds ps. SpellsPairWith ds ps (λ y z. IsFindable q k tries y z)) (plan_valid q k tries cut) (bytes dn) (bytes pn) x r.written r.reply t
+complete (Some (Trim dn pn ln)) bytes old new a b c d x h g t =
+    let r = reply_of (Answers (Some (Trim dn pn ln)) bytes) old new x (h.replied g) in
+    on_three Trims (λ ds ps ls. SpellsPairWith ds ps (λ y z. IsTrimmable y z ls)) trim_valid (bytes dn) (bytes pn) (bytes ln) x r.written r.reply t

@@ -31,7 +31,7 @@ use Rattle.plus_reply.specs.Statuses.{early_status}
 use Rattle.plus_reply.proofs.ReplyLemmas.{early_plain}
 use Rattle.plus_translate_command.specs.Printer.Printed.{half_text}
 use Rattle.plus_translate_command.specs.Translate.{TranslatesPair, half, no_translation, Translates, no_pair, of_pair}
-use Rattle.plus_run.specs.Command.{Command, Check, ShowDomain, ShowProblem, Numeric, Trial, Translate, Lift, Plan, files_of}
+use Rattle.plus_run.specs.Command.{Command, Check, ShowDomain, ShowProblem, Numeric, Trial, Translate, Lift, Plan, Trim, files_of}
 use Rattle.plus_run.specs.Headline.{Answers, usage_line, IsAnswer}
 use Rattle.plus_run.specs.Laws.{IsSettled, AreTold, IsSaidWhole}
 use Rattle.plus_run.specs.Numeric as numeric
@@ -216,7 +216,8 @@ untimed_whole (Some (Translate file q d p)) u = tt
 untimed_whole (Some (Check d p l n)) u = absurd u
 untimed_whole (Some (Trial n)) u = absurd u
 untimed_whole (Some (Lift q d p l)) u = absurd u
-untimed_whole (Some (Plan q k n d p)) u = absurd u
+untimed_whole (Some (Plan q k n cut d p)) u = absurd u
+untimed_whole (Some (Trim d p l)) u = absurd u
 
 exists : (command : Option Command) (bytes : List ℕ → Option (List ℕ)) (old : Option (List ℕ)) → AreTold bytes (files_of command) → IsUntimed command → HasAnswer command bytes old
 exists None bytes old t u = usage bytes old
@@ -227,7 +228,8 @@ exists (Some (Translate file q d p)) bytes old t u = translate_answer file q d p
 exists (Some (Check d p l n)) bytes old t u = absurd u
 exists (Some (Trial n)) bytes old t u = absurd u
 exists (Some (Lift q d p l)) bytes old t u = absurd u
-exists (Some (Plan q k n d p)) bytes old t u = absurd u
+exists (Some (Plan q k n cut d p)) bytes old t u = absurd u
+exists (Some (Trim d p l)) bytes old t u = absurd u
 
 pub one_answer_exists : OneAnswerExists
 one_answer_exists command bytes old t u =

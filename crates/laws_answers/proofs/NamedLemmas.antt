@@ -9,7 +9,7 @@ use Rattle.plus_fraction.proofs.Compared.{compared-less}
 use Rattle.plus_types.specs.declared.faults.File.{File}
 use Rattle.plus_words.specs.Interval.{is_interval, interval_by, parts_in, interval_of}
 use Rattle.plus_words.specs.Numbers.{is_number, decisions_of, happenings_of, default_happenings, tanks_of}
-use Rattle.plus_run.specs.Command.{Command, Check, ShowDomain, ShowProblem, Numeric, Trial, Translate, Lift, Plan, show_of, trial_of, check_of, with_files, file_named, translate_of, lift_of, with_four, plan_of, with_five, command_of}
+use Rattle.plus_run.specs.Command.{Command, Check, ShowDomain, ShowProblem, Numeric, Trial, Translate, Lift, Plan, Trim, show_of, trial_of, check_of, with_files, file_named, translate_of, lift_of, with_four, plan_of, with_five, cut_plan_of, with_six, command_of}
 use Rattle.laws_translation.specs.Read.Laws.{IsStep}
 use Rattle.laws_answers.specs.Named.{PlanIsNamed, LiftIsNamed, TranslateIsNamed}
 
@@ -82,9 +82,10 @@ data Kind (c : Command) : Type 0 where
   a_problem : (f : List ℕ) → ShowProblem f ≡ c → Kind c
   a_check : (d p l : List ℕ) (n : ℕ) → Check d p l n ≡ c → Kind c
   a_numeric : (d p l : List ℕ) → Numeric d p l ≡ c → Kind c
+  a_trim : (d p l : List ℕ) → Trim d p l ≡ c → Kind c
   a_translation : (file : File) (q : Fraction) (d p : List ℕ) → IsStep q → Translate file q d p ≡ c → Kind c
   a_lift : (q : Fraction) (d p l : List ℕ) → IsStep q → Lift q d p l ≡ c → Kind c
-  a_plan : (q : Fraction) (k n : ℕ) (d p : List ℕ) → IsStep q → k ≤ 64 → Plan q k n d p ≡ c → Kind c
+  a_plan : (q : Fraction) (k n : ℕ) (cut : Bool) (d p : List ℕ) → IsStep q → k ≤ 64 → Plan q k n cut d p ≡ c → Kind c
 
 module _ (c : Command) where
   none : None ≡ Some c → Kind c
@@ -115,11 +116,14 @@ module _ (c : Command) where
   ]
 
   files_kind : (w d p l : List ℕ) → with_files w d p l ≡ Some c → Kind c
-  files_kind w d p l e = elim (either (bytes_eq w (codes "check")) (Some (Check d p l default_happenings)) (if bytes_eq w (codes "numeric") then Some (Numeric d p l) else None) (Some c) e) [
+  files_kind w d p l e = elim (either (bytes_eq w (codes "check")) (Some (Check d p l default_happenings)) (if bytes_eq w (codes "numeric") then Some (Numeric d p l) else (if bytes_eq w (codes "trim") then Some (Trim d p l) else None)) (Some c) e) [
     | inl f ↦ a_check d p l default_happenings (cc f)
-    | inr f ↦ elim (either (bytes_eq w (codes "numeric")) (Some (Numeric d p l)) None (Some c) f) [
+    | inr f ↦ elim (either (bytes_eq w (codes "numeric")) (Some (Numeric d p l)) (if bytes_eq w (codes "trim") then Some (Trim d p l) else None) (Some c) f) [
       | inl g ↦ a_numeric d p l (cc g)
-      | inr g ↦ none g
+      | inr g ↦ elim (either (bytes_eq w (codes "trim")) (Some (Trim d p l)) None (Some c) g) [
+        | inl h ↦ a_trim d p l (cc h)
+        | inr h ↦ none h
+      ]
     ]
   ]
 
@@ -147,28 +151,37 @@ module _ (c : Command) where
   counted_kind : (d p l : List ℕ) (o : Option ℕ) → option_map (Check d p l) o ≡ Some c → Kind c
   counted_kind d p l o e = let t = check_is c d p l o e in a_check d p l t.0 t.1
 
-  tried_kind : (q : Fraction) (k : ℕ) (d p : List ℕ) (o : Option ℕ) → IsStep q → k ≤ 64 → option_map (λ z. Plan q k z d p) o ≡ Some c → Kind c
-  tried_kind q k d p None i l e = none e
-  tried_kind q k d p (Some n) i l e = a_plan q k n d p i l (cc e)
+  tried_kind : (q : Fraction) (k : ℕ) (cut : Bool) (d p : List ℕ) (o : Option ℕ) → IsStep q → k ≤ 64 → option_map (λ z. Plan q k z cut d p) o ≡ Some c → Kind c
+  tried_kind q k cut d p None i l e = none e
+  tried_kind q k cut d p (Some n) i l e = a_plan q k n cut d p i l (cc e)
 
-  decided_kind : (q : Fraction) (word n d p : List ℕ) (o : Option ℕ) → IsStep q → decisions_of word ≡ o → option_and_then (λ y. option_map (λ z. Plan q y z d p) (happenings_of n)) o ≡ Some c → Kind c
-  decided_kind q word n d p None i j e = none e
-  decided_kind q word n d p (Some k) i j e = tried_kind q k d p (happenings_of n) i (decisions_most word k j) e
+  decided_kind : (q : Fraction) (word n : List ℕ) (cut : Bool) (d p : List ℕ) (o : Option ℕ) → IsStep q → decisions_of word ≡ o → option_and_then (λ y. option_map (λ z. Plan q y z cut d p) (happenings_of n)) o ≡ Some c → Kind c
+  decided_kind q word n cut d p None i j e = none e
+  decided_kind q word n cut d p (Some k) i j e = tried_kind q k cut d p (happenings_of n) i (decisions_most word k j) e
 
-  planned_kind : (word k n d p : List ℕ) (o : Option Fraction) → interval_of word ≡ o → option_and_then (λ x. option_and_then (λ y. option_map (λ z. Plan x y z d p) (happenings_of n)) (decisions_of k)) o ≡ Some c → Kind c
-  planned_kind word k n d p None i e = none e
-  planned_kind word k n d p (Some q) i e = decided_kind q k n d p (decisions_of k) (interval_named word q i) refl e
+  planned_kind : (word k n : List ℕ) (cut : Bool) (d p : List ℕ) (o : Option Fraction) → interval_of word ≡ o → option_and_then (λ x. option_and_then (λ y. option_map (λ z. Plan x y z cut d p) (happenings_of n)) (decisions_of k)) o ≡ Some c → Kind c
+  planned_kind word k n cut d p None i e = none e
+  planned_kind word k n cut d p (Some q) i e = decided_kind q k n cut d p (decisions_of k) (interval_named word q i) refl e
 
   five_kind : (u v w x y z : List ℕ) → with_five u v w x y z ≡ Some c → Kind c
-  five_kind u v w x y z e = elim (either (bytes_eq u (codes "check")) (check_of v w x y z) (if bytes_eq u (codes "plan") then plan_of v w x y z else None) (Some c) e) [
+  five_kind u v w x y z e = elim (either (bytes_eq u (codes "check")) (check_of v w x y z) (if bytes_eq u (codes "plan") then plan_of v w x false y z else None) (Some c) e) [
     | inl f ↦ elim (either (bytes_eq y (codes "--happenings")) (option_map (Check v w x) (happenings_of z)) None (Some c) f) [
       | inl g ↦ counted_kind v w x (happenings_of z) g
       | inr g ↦ none g
     ]
-    | inr f ↦ elim (either (bytes_eq u (codes "plan")) (plan_of v w x y z) None (Some c) f) [
-      | inl g ↦ planned_kind v w x y z (interval_of v) refl g
+    | inr f ↦ elim (either (bytes_eq u (codes "plan")) (plan_of v w x false y z) None (Some c) f) [
+      | inl g ↦ planned_kind v w x false y z (interval_of v) refl g
       | inr g ↦ none g
     ]
+  ]
+
+  six_kind : (t u v w x y z : List ℕ) → with_six t u v w x y z ≡ Some c → Kind c
+  six_kind t u v w x y z e = elim (either (bytes_eq t (codes "plan")) (cut_plan_of u v w x y z) None (Some c) e) [
+    | inl f ↦ elim (either (bytes_eq z (codes "--cut")) (plan_of u v w true x y) None (Some c) f) [
+      | inl g ↦ planned_kind u v w true x y (interval_of u) refl g
+      | inr g ↦ none g
+    ]
+    | inr f ↦ none f
   ]
 
   kind_of : (words : List (List ℕ)) → command_of words ≡ Some c → Kind c
@@ -179,20 +192,22 @@ module _ (c : Command) where
   kind_of (a ∷ b ∷ d ∷ p ∷ []) e = files_kind a b d p e
   kind_of (a ∷ w ∷ x ∷ y ∷ z ∷ []) e = four_kind a w x y z e
   kind_of (a ∷ v ∷ w ∷ x ∷ y ∷ z ∷ []) e = five_kind a v w x y z e
-  kind_of (a ∷ v ∷ w ∷ x ∷ y ∷ z ∷ more ∷ rest) e = none e
+  kind_of (a ∷ u ∷ v ∷ w ∷ x ∷ y ∷ z ∷ []) e = six_kind a u v w x y z e
+  kind_of (a ∷ u ∷ v ∷ w ∷ x ∷ y ∷ z ∷ more ∷ rest) e = none e
 
 -- ---- the three with an interval
 
 pub plan_is_named : PlanIsNamed
-plan_is_named words q k tries d p e = elim (kind_of (Plan q k tries d p) words e) [
+plan_is_named words q k tries cut d p e = elim (kind_of (Plan q k tries cut d p) words e) [
   | a_trial n i ↦ cc i
   | a_domain f i ↦ cc i
   | a_problem f i ↦ cc i
   | a_check d' p' l n i ↦ cc i
   | a_numeric d' p' l i ↦ cc i
+  | a_trim d' p' l i ↦ cc i
   | a_translation file q' d' p' h i ↦ cc i
   | a_lift q' d' p' l h i ↦ cc i
-  | a_plan q' k' n d' p' h l i ↦ (let one : q' ≡ q = cc i in let two : k' ≡ k = cc i in (subst IsStep one h, subst (λ m. m ≤ 64) two l))
+  | a_plan q' k' n cut' d' p' h l i ↦ (let one : q' ≡ q = cc i in let two : k' ≡ k = cc i in (subst IsStep one h, subst (λ m. m ≤ 64) two l))
 ]
 
 pub lift_is_named : LiftIsNamed
@@ -202,9 +217,10 @@ lift_is_named words q d p l e = elim (kind_of (Lift q d p l) words e) [
   | a_problem f i ↦ cc i
   | a_check d' p' l' n i ↦ cc i
   | a_numeric d' p' l' i ↦ cc i
+  | a_trim d' p' l' i ↦ cc i
   | a_translation file q' d' p' h i ↦ cc i
   | a_lift q' d' p' l' h i ↦ (let one : q' ≡ q = cc i in subst IsStep one h)
-  | a_plan q' k n d' p' h m i ↦ cc i
+  | a_plan q' k n cut d' p' h m i ↦ cc i
 ]
 
 pub translate_is_named : TranslateIsNamed
@@ -214,7 +230,8 @@ translate_is_named words file q d p e = elim (kind_of (Translate file q d p) wor
   | a_problem f i ↦ cc i
   | a_check d' p' l n i ↦ cc i
   | a_numeric d' p' l i ↦ cc i
+  | a_trim d' p' l i ↦ cc i
   | a_translation file' q' d' p' h i ↦ (let one : q' ≡ q = cc i in subst IsStep one h)
   | a_lift q' d' p' l h i ↦ cc i
-  | a_plan q' k n d' p' h m i ↦ cc i
+  | a_plan q' k n cut d' p' h m i ↦ cc i
 ]

@@ -84,10 +84,10 @@ lines_few actions q n (d ∷ ds) = by (slice_get actions d) (lines_few actions q
     by (Some action) h = omega (arith, h)
     by None h = omega (arith, h)
 
-module _ (domain problem : List ℕ) (d : Domain) (p : Problem) (q : Fraction) (k tries : ℕ) (plan : TimedPlan Frac64) where
+module _ (domain problem : List ℕ) (d : Domain) (p : Problem) (q : Fraction) (k tries : ℕ) (cut : Bool) (plan : TimedPlan Frac64) where
   pub few_decisions_have_room :
       NamesArePlain → FoundIsCalled → TextReadsBack → SpellsWellTyped domain problem d p → whole (pos 0) <ℚ q → k ≤ 64
-      → IsPlanned d p q k tries (Plan plan) → HasShortLines (answer_text k (Plan plan)) → length (answer_text k (Plan plan)) ≤ text_limit
+      → IsPlanned d p q k tries cut (Plan plan) → HasShortLines (answer_text k (Plan plan)) → length (answer_text k (Plan plan)) ≤ text_limit
   few_decisions_have_room names found back t above few planned short =
       let is = planned.answers in
       let task = task_of d p q in

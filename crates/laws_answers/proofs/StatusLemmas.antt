@@ -20,7 +20,8 @@ use Rattle.plus_reply.specs.Reply.{Replied, RepliedInPart}
 use Rattle.plus_translate_command.specs.Translate.{Translates}
 use Rattle.plus_lift.specs.Command.Lift.{Lifts}
 use Rattle.plus_plan_command.specs.Plan.{Plans}
-use Rattle.plus_run.specs.Command.{Command, Check, ShowDomain, ShowProblem, Numeric, Trial, Translate, Lift, Plan}
+use Rattle.plus_trim_command.specs.Trim.{Trims}
+use Rattle.plus_run.specs.Command.{Command, Check, ShowDomain, ShowProblem, Numeric, Trial, Translate, Lift, Plan, Trim}
 use Rattle.plus_run.specs.Checks.{Checks, OnPlan}
 use Rattle.plus_run.specs.Checks as checks
 use Rattle.plus_run.specs.Numeric.{PlaysUntimed}
@@ -210,9 +211,12 @@ module _ (bytes : List ℕ → Option (List ℕ)) (old new : Option (List ℕ)) 
   valid_of (Some (Lift q d p l)) r = let k = alone r in
       three (bytes d) (bytes p) (bytes l) (λ ds ps ls. Lifts q ds ps ls s.Valid k.written) (λ ds ps ls. Replied (Lifts q ds ps ls) old new s.Valid)
       (λ ds ps ls m. record { written = k.written; reply = m; took = k.took }) k.reply
-  valid_of (Some (Plan q j n d p)) r = let k = alone r in
-      two (bytes d) (bytes p) (λ ds ps. Plans q j n ds ps s.Valid k.written) (λ ds ps. Replied (Plans q j n ds ps) old new s.Valid)
+  valid_of (Some (Plan q j n cut d p)) r = let k = alone r in
+      two (bytes d) (bytes p) (λ ds ps. Plans q j n cut ds ps s.Valid k.written) (λ ds ps. Replied (Plans q j n cut ds ps) old new s.Valid)
       (λ ds ps m. record { written = k.written; reply = m; took = k.took }) k.reply
+  valid_of (Some (Trim d p l)) r = let k = alone r in
+      three (bytes d) (bytes p) (bytes l) (λ ds ps ls. Trims ds ps ls s.Valid k.written) (λ ds ps ls. Replied (Trims ds ps ls) old new s.Valid)
+      (λ ds ps ls m. record { written = k.written; reply = m; took = k.took }) k.reply
 
   refused_of : (command : Option Command) (x : Status) → IsLess x → Replied (Answers command bytes) old new x ⊎ OnWay command bytes (λ most d p plan. ⊥) → RunsRefused command bytes old new x
   refused_of None x l (inl r) = absurd (subst IsLess r.reply.0 l)
@@ -239,9 +243,12 @@ module _ (bytes : List ℕ → Option (List ℕ)) (old new : Option (List ℕ)) 
   refused_of (Some (Lift q d p y)) x l r = let k = alone r in
       three (bytes d) (bytes p) (bytes y) (λ ds ps ls. Lifts q ds ps ls x k.written) (λ ds ps ls. Replied (Lifts q ds ps ls) old new x)
       (λ ds ps ls m. record { written = k.written; reply = m; took = k.took }) k.reply
-  refused_of (Some (Plan q j n d p)) x l r = let k = alone r in
-      two (bytes d) (bytes p) (λ ds ps. Plans q j n ds ps x k.written) (λ ds ps. Replied (Plans q j n ds ps) old new x)
+  refused_of (Some (Plan q j n cut d p)) x l r = let k = alone r in
+      two (bytes d) (bytes p) (λ ds ps. Plans q j n cut ds ps x k.written) (λ ds ps. Replied (Plans q j n cut ds ps) old new x)
       (λ ds ps m. record { written = k.written; reply = m; took = k.took }) k.reply
+  refused_of (Some (Trim d p y)) x l r = let k = alone r in
+      three (bytes d) (bytes p) (bytes y) (λ ds ps ls. Trims ds ps ls x k.written) (λ ds ps ls. Replied (Trims ds ps ls) old new x)
+      (λ ds ps ls m. record { written = k.written; reply = m; took = k.took }) k.reply
 
   broken_of : (command : Option Command) → RepliedInPart (Answers command bytes) old new ⊎ OnWay command bytes (λ most d p plan. BreaksOffSoFar d p most plan old new) → RunsBroken command bytes old new
   broken_of None (inl r) = subst (TookPart old new) r.reply.1 r.part
@@ -268,9 +275,12 @@ module _ (bytes : List ℕ → Option (List ℕ)) (old new : Option (List ℕ)) 
   broken_of (Some (Lift q d p y)) r = let k = alone r in
       three (bytes d) (bytes p) (bytes y) (λ ds ps ls. Lifts q ds ps ls k.status k.written) (λ ds ps ls. RepliedInPart (Lifts q ds ps ls) old new)
       (λ ds ps ls m. record { status = k.status; written = k.written; reply = m; part = k.part }) k.reply
-  broken_of (Some (Plan q j n d p)) r = let k = alone r in
-      two (bytes d) (bytes p) (λ ds ps. Plans q j n ds ps k.status k.written) (λ ds ps. RepliedInPart (Plans q j n ds ps) old new)
+  broken_of (Some (Plan q j n cut d p)) r = let k = alone r in
+      two (bytes d) (bytes p) (λ ds ps. Plans q j n cut ds ps k.status k.written) (λ ds ps. RepliedInPart (Plans q j n cut ds ps) old new)
       (λ ds ps m. record { status = k.status; written = k.written; reply = m; part = k.part }) k.reply
+  broken_of (Some (Trim d p y)) r = let k = alone r in
+      three (bytes d) (bytes p) (bytes y) (λ ds ps ls. Trims ds ps ls k.status k.written) (λ ds ps ls. RepliedInPart (Trims ds ps ls) old new)
+      (λ ds ps ls m. record { status = k.status; written = k.written; reply = m; part = k.part }) k.reply
 
   unread_of : (command : Option Command) → (new ≡ old) ⊎ OnWay command bytes (λ most d p plan. TookLines d p most plan old new) → RunsUnread command bytes old new
   unread_of None r = alone r
@@ -284,7 +294,8 @@ module _ (bytes : List ℕ → Option (List ℕ)) (old new : Option (List ℕ)) 
   unread_of (Some (Trial n)) r = alone r
   unread_of (Some (Translate file q d p)) r = alone r
   unread_of (Some (Lift q d p y)) r = alone r
-  unread_of (Some (Plan q j n d p)) r = alone r
+  unread_of (Some (Plan q j n cut d p)) r = alone r
+  unread_of (Some (Trim d p y)) r = alone r
 
   stopped_of : (command : Option Command) → (new ≡ old) ⊎ OnWay command bytes (λ most d p plan. TookSoFar d p most plan old new) → RunsStopped command bytes old new
   stopped_of None r = alone r
@@ -298,7 +309,8 @@ module _ (bytes : List ℕ → Option (List ℕ)) (old new : Option (List ℕ)) 
   stopped_of (Some (Trial n)) r = alone r
   stopped_of (Some (Translate file q d p)) r = alone r
   stopped_of (Some (Lift q d p y)) r = alone r
-  stopped_of (Some (Plan q j n d p)) r = alone r
+  stopped_of (Some (Plan q j n cut d p)) r = alone r
+  stopped_of (Some (Trim d p y)) r = alone r
 
 pub by_status : ByStatus
 by_status command bytes old new a b c d x h = record {

@@ -25,7 +25,8 @@ use Rattle.plus_trial.specs.Trial.{IsTrial}
 use Rattle.plus_translate_command.specs.Translate.{Translates}
 use Rattle.plus_lift.specs.Command.Lift.{Lifts}
 use Rattle.plus_plan_command.specs.Plan.{Plans}
-use Rattle.plus_run.specs.Command.{Command, Check, ShowDomain, ShowProblem, Numeric, Trial, Translate, Lift, Plan}
+use Rattle.plus_trim_command.specs.Trim.{Trims}
+use Rattle.plus_run.specs.Command.{Command, Check, ShowDomain, ShowProblem, Numeric, Trial, Translate, Lift, Plan, Trim}
 use Rattle.plus_run.specs.Headline.{usage_line, IsAnswer}
 use Rattle.plus_run.specs.Numeric.{valid_line}
 use Rattle.plus_run.specs.Shown.{IsSpelled}
@@ -153,8 +154,10 @@ RunsValid (Some (Translate file q d p)) bytes old new =
     IfSome (bytes d) (λ ds. IfSome (bytes p) (λ ps. Replied (Translates file q ds ps) old new s.Valid))
 RunsValid (Some (Lift q d p l)) bytes old new =
     IfSome (bytes d) (λ ds. IfSome (bytes p) (λ ps. IfSome (bytes l) (λ ls. Replied (Lifts q ds ps ls) old new s.Valid)))
-RunsValid (Some (Plan q k n d p)) bytes old new =
-    IfSome (bytes d) (λ ds. IfSome (bytes p) (λ ps. Replied (Plans q k n ds ps) old new s.Valid))
+RunsValid (Some (Plan q k n cut d p)) bytes old new =
+    IfSome (bytes d) (λ ds. IfSome (bytes p) (λ ps. Replied (Plans q k n cut ds ps) old new s.Valid))
+RunsValid (Some (Trim d p l)) bytes old new =
+    IfSome (bytes d) (λ ds. IfSome (bytes p) (λ ps. IfSome (bytes l) (λ ls. Replied (Trims ds ps ls) old new s.Valid)))
 
 -- what is said where a command is refused: its plan is not valid, a limit stands, or a text is none
 abbrev pub OnRefusal : Status → Type 0 → Type 0
@@ -176,8 +179,10 @@ RunsRefused (Some (Translate file q d p)) bytes old new status =
     IfSome (bytes d) (λ ds. IfSome (bytes p) (λ ps. Replied (Translates file q ds ps) old new status))
 RunsRefused (Some (Lift q d p l)) bytes old new status =
     IfSome (bytes d) (λ ds. IfSome (bytes p) (λ ps. IfSome (bytes l) (λ ls. Replied (Lifts q ds ps ls) old new status)))
-RunsRefused (Some (Plan q k n d p)) bytes old new status =
-    IfSome (bytes d) (λ ds. IfSome (bytes p) (λ ps. Replied (Plans q k n ds ps) old new status))
+RunsRefused (Some (Plan q k n cut d p)) bytes old new status =
+    IfSome (bytes d) (λ ds. IfSome (bytes p) (λ ps. Replied (Plans q k n cut ds ps) old new status))
+RunsRefused (Some (Trim d p l)) bytes old new status =
+    IfSome (bytes d) (λ ds. IfSome (bytes p) (λ ps. IfSome (bytes l) (λ ls. Replied (Trims ds ps ls) old new status)))
 
 -- the same where the sink failed
 abbrev pub RunsBroken : Option Command → (List ℕ → Option (List ℕ)) → Option (List ℕ) → Option (List ℕ) → Type 0
@@ -195,8 +200,10 @@ RunsBroken (Some (Translate file q d p)) bytes old new =
     IfSome (bytes d) (λ ds. IfSome (bytes p) (λ ps. RepliedInPart (Translates file q ds ps) old new))
 RunsBroken (Some (Lift q d p l)) bytes old new =
     IfSome (bytes d) (λ ds. IfSome (bytes p) (λ ps. IfSome (bytes l) (λ ls. RepliedInPart (Lifts q ds ps ls) old new)))
-RunsBroken (Some (Plan q k n d p)) bytes old new =
-    IfSome (bytes d) (λ ds. IfSome (bytes p) (λ ps. RepliedInPart (Plans q k n ds ps) old new))
+RunsBroken (Some (Plan q k n cut d p)) bytes old new =
+    IfSome (bytes d) (λ ds. IfSome (bytes p) (λ ps. RepliedInPart (Plans q k n cut ds ps) old new))
+RunsBroken (Some (Trim d p l)) bytes old new =
+    IfSome (bytes d) (λ ds. IfSome (bytes p) (λ ps. IfSome (bytes l) (λ ls. RepliedInPart (Trims ds ps ls) old new)))
 
 -- what is written where a file failed: of a check a part of the report, and else nothing
 abbrev pub RunsUnread : Option Command → (List ℕ → Option (List ℕ)) → Option (List ℕ) → Option (List ℕ) → Type 0

@@ -1,5 +1,5 @@
 -- Two answers of the program: one to `plan`, and one to `check` over the same domain and problem, whose plan is what the first wrote.
-use Rattle.std.specs.Prelude.{◌≡◌, ℕ, ◌≤◌, List, ◌++◌, length, Option, Some, pos}
+use Rattle.std.specs.Prelude.{◌≡◌, ℕ, ◌≤◌, Bool, List, ◌++◌, length, Option, Some, pos}
 use Rattle.plus_fraction.specs.Fraction.{Fraction, whole, ◌<ℚ◌}
 use Rattle.plus_io.specs.Limits.{text_limit}
 use Rattle.plus_tree.specs.declared.trees.Domain.{Domain}
@@ -22,15 +22,15 @@ most_decisions = 64
 -- what `plan` writes with the status Valid is within the length of a text, where each of its lines is within that of a line
 abbrev pub FewDecisionsHaveRoom : Type 0
 FewDecisionsHaveRoom =
-    (q : Fraction) (k tries : ℕ) (domain problem written : List ℕ)
-    → whole (pos 0) <ℚ q → k ≤ most_decisions → Plans q k tries domain problem s.Valid written → HasShortLines written
+    (q : Fraction) (k tries : ℕ) (cut : Bool) (domain problem written : List ℕ)
+    → whole (pos 0) <ℚ q → k ≤ most_decisions → Plans q k tries cut domain problem s.Valid written → HasShortLines written
     → length written ≤ text_limit
 
 -- and each is, where no action of the domain has more than 61 parameters
 abbrev pub FewParametersHaveShortLines : Type 0
 FewParametersHaveShortLines =
-    (q : Fraction) (k tries : ℕ) (domain problem written : List ℕ)
-    → whole (pos 0) <ℚ q → Plans q k tries domain problem s.Valid written
+    (q : Fraction) (k tries : ℕ) (cut : Bool) (domain problem written : List ℕ)
+    → whole (pos 0) <ℚ q → Plans q k tries cut domain problem s.Valid written
     → ((d : Domain) (p : Problem) → SpellsWellTyped domain problem d p → HasFewParameters d)
     → HasShortLines written
 
@@ -46,10 +46,10 @@ pub record AreSameFiles (bytes again : List ℕ → Option (List ℕ)) (d p d' p
 -- Where `plan` is answered as valid, a check of what it wrote is answered as valid, or tells of a fault or of want of memory.
 abbrev pub CheckAcceptsPlan : Type 0
 CheckAcceptsPlan =
-    (q : Fraction) (k tries most : ℕ) (d p d' p' l domain problem before written : List ℕ) (bytes again : List ℕ → Option (List ℕ))
+    (q : Fraction) (k tries most : ℕ) (cut : Bool) (d p d' p' l domain problem before written : List ℕ) (bytes again : List ℕ → Option (List ℕ))
     (old new : Option (List ℕ)) (a b c e a' b' c' e' : ℕ) (status : Status)
     → whole (pos 0) <ℚ q → k ≤ most_decisions → AreSameFiles bytes again d p d' p' l domain problem written
-    → IsAnswer (Some (Plan q k tries d p)) bytes (Some before) (Some (before ++ written)) a b c e s.Valid
+    → IsAnswer (Some (Plan q k tries cut d p)) bytes (Some before) (Some (before ++ written)) a b c e s.Valid
     → HasShortLines written → most_entries ≤ most
     → IsAnswer (Some (Check d' p' l most)) again old new a' b' c' e' status → IsSettled status
     → status ≡ s.Valid

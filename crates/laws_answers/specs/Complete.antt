@@ -1,5 +1,5 @@
 -- Where no cause of a refusal stands, command by command: the texts spell what the command asks for, and all that it asks passes.
-use Rattle.std.specs.Prelude.{◌≡◌, ℕ, ◌+◌, ◌*◌, ◌^◌, ◌≤◌, true, List, length, Option, Some, None, IsSomeAnd, All}
+use Rattle.std.specs.Prelude.{◌≡◌, ℕ, ◌+◌, ◌*◌, ◌^◌, ◌≤◌, true, List, length, map, Ok, Option, Some, None, IsSomeAnd, All}
 use Rattle.plus_fraction.specs.Fraction.{Fraction}
 use Rattle.plus_number.specs.Frac.{IsFrac64}
 use Rattle.plus_tree.specs.declared.trees.Domain.{Domain}
@@ -20,12 +20,18 @@ use Rattle.plus_actions.specs.Actions.{ground_actions}
 use Rattle.plus_planner.specs.Grid.{GridPlan}
 use Rattle.plus_plan_command.specs.Planning.Planned.{task_of, IsInside}
 use Rattle.plus_trial.specs.Trial.{farm_domain, farm_problem, farm_plan}
+use Rattle.plus_plan.specs.declared.forms.Line.{Line}
+use Rattle.plus_plan.specs.declared.forms.PlanForm.TheVariants.{Timed}
+use Rattle.plus_plan.specs.Lines.{plan_lines}
+use Rattle.plus_trim_command.specs.Acts.{act_count}
+use Rattle.plus_trim_command.specs.Trim.{most_acts}
+use Rattle.plus_validator.specs.Plans.{pair, lines_meant}
 use Rattle.plus_validator.specs.Tame.{IsTameText, HasTrajectory}
 use Rattle.plus_words.specs.Numbers.{default_happenings}
 use Rattle.plus_reply.specs.Pair.Pair.{depth_limit, SpellsWellTyped}
 use Rattle.plus_report.specs.declared.status.Status.{Status}
 use Rattle.plus_report.specs.declared.status.Status.TheVariants as s
-use Rattle.plus_run.specs.Command.{Command, Check, ShowDomain, ShowProblem, Numeric, Trial, Translate, Lift, Plan}
+use Rattle.plus_run.specs.Command.{Command, Check, ShowDomain, ShowProblem, Numeric, Trial, Translate, Lift, Plan, Trim}
 use Rattle.plus_run.specs.Headline.{IsAnswer}
 use Rattle.plus_run.specs.Laws.{IsSettled}
 use Rattle.plus_run.specs.Shown.{IsSpelled}
@@ -60,6 +66,11 @@ pub record IsFindable (q : Fraction) (k tries : ℕ) (d : Domain) (p : Problem) 
   pub is : GridPlan IsFrac64 (task_of d p q) k decisions
   pub enough : (k + 1) * (length (ground_actions d p) + 2) ^ k ≤ tries
 
+-- the plan stays inside the limits, has a trajectory, and has no more actions than a plan that is trimmed
+pub record IsTrimmable (d : Domain) (p : Problem) (plan : List ℕ) : Type 0 where
+  pub good : IsGood d p default_happenings plan
+  pub few : (lines : List Line) → plan_lines Timed plan ≡ map Ok lines → act_count (lines_meant (pair d p) lines) ≤ most_acts
+
 -- the text is within its limit and spells a tree
 abbrev pub SpellsTree : {T : Type 0} → (List ℕ → T → Type 0) → List ℕ → Type 0
 SpellsTree {T} Spells text = (tree : T) × IsSpelled Spells text tree
@@ -77,8 +88,10 @@ HasNoCause (Some (Translate file q d p)) bytes =
     IsSomeAnd (bytes d) (λ ds. IsSomeAnd (bytes p) (λ ps. SpellsPairWith ds ps (λ x y. IsTranslation q x y (translated_domain q x y) (translated_problem q x y))))
 HasNoCause (Some (Lift q d p l)) bytes =
     IsSomeAnd (bytes d) (λ ds. IsSomeAnd (bytes p) (λ ps. IsSomeAnd (bytes l) (λ ls. SpellsPairWith ds ps (λ x y. IsLiftable q x y ls))))
-HasNoCause (Some (Plan q k n d p)) bytes =
+HasNoCause (Some (Plan q k n cut d p)) bytes =
     IsSomeAnd (bytes d) (λ ds. IsSomeAnd (bytes p) (λ ps. SpellsPairWith ds ps (λ x y. IsFindable q k n x y)))
+HasNoCause (Some (Trim d p l)) bytes =
+    IsSomeAnd (bytes d) (λ ds. IsSomeAnd (bytes p) (λ ps. IsSomeAnd (bytes l) (λ ls. SpellsPairWith ds ps (λ x y. IsTrimmable x y ls))))
 
 -- there an answer that tells of no fault and of no want of memory is that it is valid
 abbrev pub Complete : Type 0

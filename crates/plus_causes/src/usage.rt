@@ -18,7 +18,7 @@ struct Command {
     example: &'static str,
 }
 
-static COMMANDS: [Command; 7] = [
+static COMMANDS: [Command; 8] = [
     Command {
         word: "check",
         about: "The plan has a line TIME: (NAME ARGUMENT ..) for each action, and may end with TIME: @end.",
@@ -48,6 +48,11 @@ static COMMANDS: [Command; 7] = [
         word: "plan",
         about: "A decision is an action at the present time, or a wait of the interval. At most TRIES lists are tried.",
         example: "planplus plan 1 4 1000 domain.pddl problem.pddl",
+    },
+    Command {
+        word: "trim",
+        about: "The plan is one that check calls valid, of at most 200 actions. What is written may be checked.",
+        example: "planplus trim domain.pddl problem.pddl my.plan >shorter.plan",
     },
     Command {
         word: "trial",

@@ -11,7 +11,7 @@ pub struct Form {
 }
 
 /// The commands, in the order in which they are listed. A command is added by a line here.
-pub static FORMS: [Form; 10] = [
+pub static FORMS: [Form; 12] = [
     Form {
         words: "check DOMAIN PROBLEM PLAN",
         does: "checks a plan, and writes what happens",
@@ -49,13 +49,21 @@ pub static FORMS: [Form; 10] = [
         does: "searches for a plan on a grid of times",
     },
     Form {
+        words: "plan INTERVAL DECISIONS TRIES DOMAIN PROBLEM --cut",
+        does: "the same, and turns back where an atom of the goal can never hold",
+    },
+    Form {
+        words: "trim DOMAIN PROBLEM PLAN",
+        does: "leaves actions of a valid plan out until no single one can go",
+    },
+    Form {
         words: "trial TANKS",
         does: "checks a farm of so many tanks",
     },
 ];
 
 /// The widest words of a command that others are lined up with.
-const WIDTH: usize = 46;
+const WIDTH: usize = 52;
 
 // Whether a word of a form stands for a word of the user's.
 fn is_open(word: &str) -> bool {

@@ -1,5 +1,5 @@
 -- No two texts have a plan and none.
-use Rattle.std.proofs.Common.{◌≡◌, ℕ, List, subst}
+use Rattle.std.proofs.Common.{◌≡◌, ℕ, Bool, List, subst}
 use Rattle.plus_fraction.specs.Fraction.{Fraction}
 use Rattle.plus_number.specs.declared.frac.Frac64.{Frac64}
 use Rattle.plus_tree.specs.declared.trees.Domain.{Domain}
@@ -39,15 +39,15 @@ not_invalid (es.TooMany kind most) i = cc i
 
 -- ---- one pair
 
-module _ (q : Fraction) (k tries tries' : ℕ) (d : Domain) (p : Problem) where
-  answers_apart : (a b : Answer Frac64) → IsPlanned d p q k tries a → IsPlanned d p q k tries' b → s.Valid ≡ answer_status a → s.Invalid ≡ answer_status b → ⊥
+module _ (q : Fraction) (k tries tries' : ℕ) (cut cut' : Bool) (d : Domain) (p : Problem) where
+  answers_apart : (a b : Answer Frac64) → IsPlanned d p q k tries cut a → IsPlanned d p q k tries' cut' b → s.Valid ≡ answer_status a → s.Invalid ≡ answer_status b → ⊥
   answers_apart (Plan plan) (Plan other) h g i j = cc j
   answers_apart (Plan plan) (NoPlan beyond) h g i j = g.answers.none h.answers.decisions h.answers.is
   answers_apart (Plan plan) (Spent tried) h g i j = cc j
   answers_apart (NoPlan beyond) b h g i j = cc i
   answers_apart (Spent tried) b h g i j = cc i
 
-  pairs_apart : (w v : List ℕ) → PlansPair q k tries d p s.Valid w → PlansPair q k tries' d p s.Invalid v → ⊥
+  pairs_apart : (w v : List ℕ) → PlansPair q k tries cut d p s.Valid w → PlansPair q k tries' cut' d p s.Invalid v → ⊥
   pairs_apart w v (answered a h i x) (answered b g j y) = answers_apart a b h g i j
   pairs_apart w v (answered a h i x) (no_search e g j y) = not_invalid e j
   pairs_apart w v (no_search e h i x) b = not_valid e i
@@ -60,11 +60,11 @@ same_pair ds ps P d d' p p' a b h =
 
 -- ---- two texts
 
-texts_apart : (q : Fraction) (k tries tries' : ℕ) (ds ps w v : List ℕ) → Plans q k tries ds ps s.Valid w → Plans q k tries' ds ps s.Invalid v → ⊥
-texts_apart q k tries tries' ds ps w v (no_pair e h i x) b = not_valid e i
-texts_apart q k tries tries' ds ps w v (of_pair d p t h) (no_pair e g j y) = not_invalid e j
-texts_apart q k tries tries' ds ps w v (of_pair d p t h) (of_pair d' p' t' g) =
-    pairs_apart q k tries tries' d' p' w v (same_pair ds ps (λ a b. PlansPair q k tries a b s.Valid w) d d' p p' t t' h) g
+texts_apart : (q : Fraction) (k tries tries' : ℕ) (cut cut' : Bool) (ds ps w v : List ℕ) → Plans q k tries cut ds ps s.Valid w → Plans q k tries' cut' ds ps s.Invalid v → ⊥
+texts_apart q k tries tries' cut cut' ds ps w v (no_pair e h i x) b = not_valid e i
+texts_apart q k tries tries' cut cut' ds ps w v (of_pair d p t h) (no_pair e g j y) = not_invalid e j
+texts_apart q k tries tries' cut cut' ds ps w v (of_pair d p t h) (of_pair d' p' t' g) =
+    pairs_apart q k tries tries' cut cut' d' p' w v (same_pair ds ps (λ a b. PlansPair q k tries cut a b s.Valid w) d d' p p' t t' h) g
 
 pub plan_or_none : PlanOrNone
 plan_or_none = texts_apart

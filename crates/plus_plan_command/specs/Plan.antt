@@ -1,6 +1,6 @@
 -- What `plan` writes: a plan that the search finds; or one line that says that there is none, or that the tries do not suffice,
 -- or why nothing is searched.
-use Rattle.std.specs.Prelude.{◌≡◌, ℕ, List}
+use Rattle.std.specs.Prelude.{◌≡◌, ℕ, Bool, List}
 use Rattle.plus_fraction.specs.Fraction.{Fraction}
 use Rattle.plus_number.specs.declared.frac.Frac64.{Frac64}
 use Rattle.plus_number.specs.Frac.{fraction_of}
@@ -48,21 +48,21 @@ answer_text decisions (NoPlan beyond) = none_text decisions beyond
 answer_text decisions (Spent tried) = spent_text tried
 
 -- What is written of a well-typed pair, with its status: the answer of a search on the grid of the interval q, by at most k
--- decisions and with so many tries; or the line that says why the pair is not searched.
-pub data PlansPair (q : Fraction) (k tries : ℕ) (d : Domain) (p : Problem) (status : Status) (written : List ℕ) : Type 0 where
+-- decisions, with so many tries, and with the cut or without; or the line that says why the pair is not searched.
+pub data PlansPair (q : Fraction) (k tries : ℕ) (cut : Bool) (d : Domain) (p : Problem) (status : Status) (written : List ℕ) : Type 0 where
   answered :
-      (answer : Answer Frac64) → IsPlanned d p q k tries answer → status ≡ answer_status answer → written ≡ answer_text k answer
-      → PlansPair q k tries d p status written
+      (answer : Answer Frac64) → IsPlanned d p q k tries cut answer → status ≡ answer_status answer → written ≡ answer_text k answer
+      → PlansPair q k tries cut d p status written
   no_search :
       (e : Early) → IsUnsearched d p (refusals.Early e) → status ≡ early_status e → written ≡ early_text e
-      → PlansPair q k tries d p status written
+      → PlansPair q k tries cut d p status written
 
 -- What is written of two texts: the line that says why they spell no well-typed pair; or what is written of the pair that they
 -- spell.
-pub data Plans (q : Fraction) (k tries : ℕ) (domain problem : List ℕ) (status : Status) (written : List ℕ) : Type 0 where
+pub data Plans (q : Fraction) (k tries : ℕ) (cut : Bool) (domain problem : List ℕ) (status : Status) (written : List ℕ) : Type 0 where
   no_pair :
       (e : Early) → PairRefused domain problem e → status ≡ early_status e → written ≡ early_text e
-      → Plans q k tries domain problem status written
+      → Plans q k tries cut domain problem status written
   of_pair :
-      (d : Domain) (p : Problem) → SpellsWellTyped domain problem d p → PlansPair q k tries d p status written
-      → Plans q k tries domain problem status written
+      (d : Domain) (p : Problem) → SpellsWellTyped domain problem d p → PlansPair q k tries cut d p status written
+      → Plans q k tries cut domain problem status written

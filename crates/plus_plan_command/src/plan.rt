@@ -27,12 +27,14 @@ use plus_words::happenings::Happenings;
 use plus_words::interval::Interval;
 use std::alloc::{AllocError, Global};
 
-/// How a plan is searched for: on the grid of an interval, by at most so many decisions, with so many tries.
+/// How a plan is searched for: on the grid of an interval, by at most so many decisions, with so many tries, and with the cut by
+/// the atoms of the goal that nothing adds or without.
 #[derive(Clone, Copy)]
 pub struct Search {
     pub interval: Interval,
     pub decisions: Decisions,
     pub tries: Happenings,
+    pub is_cut: bool,
 }
 
 fn kind_of(count: Count) -> Kinds
@@ -105,12 +107,19 @@ fn status_of(answer: &Answer<Frac64>) -> Status
 fn searched(alloc: Global, search: Search, typed: &Typed) -> Result<Answer<Frac64>, Refusal>
     ensures { MatchResult result
         (IsPlanned typed.now.domain typed.now.problem (fraction_of search.interval.value)
-        search.decisions.number search.tries.number)
+        search.decisions.number search.tries.number search.is_cut)
         (IsUnsearched typed.now.domain typed.now.problem) }
 {
     let decisions = search.decisions.number;
     let tries = search.tries.number;
-    match plan(alloc, typed, search.interval.value, decisions, tries) {
+    match plan(
+        alloc,
+        typed,
+        search.interval.value,
+        decisions,
+        tries,
+        search.is_cut,
+    ) {
         Ok(answer) => Ok(answer),
         Err(fault) => Err(refuse_search(fault)),
     }
@@ -135,7 +144,7 @@ fn of_answer(alloc: Global, decisions: u32, answer: &Answer<Frac64>) -> Result<R
 #[tactic(none)]
 fn of_pair(alloc: Global, search: Search, typed: &Typed) -> Result<Reply, Fault>
     ensures replies { IfOk result (λ r. PlansPair (fraction_of search.interval.value) search.decisions.number
-        search.tries.number typed.now.domain typed.now.problem r.status r.text.items) }
+        search.tries.number search.is_cut typed.now.domain typed.now.problem r.status r.text.items) }
     ensures memory { IfErr result (λ fault. fault ≡ Fault.NoMemory) }
 {
     match searched(alloc, search, typed) {
@@ -155,7 +164,7 @@ pub fn answer<S: Shelf>(
 ) -> Result<Reply, Fault>
     ensures replies { IfOk result (λ r. IfSome (S.bytes shelf.old domain.now) (λ ds.
         IfSome (S.bytes shelf.old problem.now) (λ ps.
-        Plans (fraction_of search.interval.value) search.decisions.number search.tries.number
+        Plans (fraction_of search.interval.value) search.decisions.number search.tries.number search.is_cut
         ds ps r.status r.text.items))) }
     ensures plain { IfOk result (λ r. IsPlain r.status) }
     ensures fault { IfErr result (HasCause (S.faults shelf.old) (S.faults shelf.new)) }

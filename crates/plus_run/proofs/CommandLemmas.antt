@@ -7,7 +7,7 @@ too_few [] h = refl
 too_few (a ∷ []) h = refl
 too_few (a ∷ b ∷ words) h = absurd (omega arith)
 
-pub too_many : (words : List (String Global)) → 7 ≤ length words → None ≡ command_of (map string_bytes words)
+pub too_many : (words : List (String Global)) → 8 ≤ length words → None ≡ command_of (map string_bytes words)
 too_many [] h = absurd (omega arith)
 too_many (a ∷ []) h = absurd (omega arith)
 too_many (a ∷ b ∷ []) h = absurd (omega arith)
@@ -15,4 +15,5 @@ too_many (a ∷ b ∷ c ∷ []) h = absurd (omega arith)
 too_many (a ∷ b ∷ c ∷ d ∷ []) h = absurd (omega arith)
 too_many (a ∷ b ∷ c ∷ d ∷ e ∷ []) h = absurd (omega arith)
 too_many (a ∷ b ∷ c ∷ d ∷ e ∷ f ∷ []) h = absurd (omega arith)
-too_many (a ∷ b ∷ c ∷ d ∷ e ∷ f ∷ g ∷ words) h = refl
+too_many (a ∷ b ∷ c ∷ d ∷ e ∷ f ∷ g ∷ []) h = absurd (omega arith)
+too_many (a ∷ b ∷ c ∷ d ∷ e ∷ f ∷ g ∷ i ∷ words) h = refl

@@ -10,7 +10,7 @@ use Rattle.plus_validator.specs.Laws as plans
 use Rattle.plus_validator.proofs.Excluding.{not_groundable}
 use Rattle.plus_validator.proofs.Deciding as plan
 use Rattle.plus_report.specs.declared.status.Status.{Status}
-use Rattle.plus_run.specs.Command.{Command, Check, ShowDomain, ShowProblem, Numeric, Trial, Translate, Lift, Plan}
+use Rattle.plus_run.specs.Command.{Command, Check, ShowDomain, ShowProblem, Numeric, Trial, Translate, Lift, Plan, Trim}
 use Rattle.plus_run.specs.Checks.{Checks}
 use Rattle.plus_run.specs.Headline.{SpellsWellTyped, IsAnswer}
 use Rattle.plus_run.specs.Laws.{IsInside, IsDecided, is_valid, is_invalid, Decides, DecidesFor}
@@ -67,6 +67,7 @@ decides_for (Some (Numeric dn pn ln)) bytes old new a b c e status h = tt
 decides_for (Some (Trial n)) bytes old new a b c e status h = tt
 decides_for (Some (Translate file q d p)) bytes old new a b c e status h = tt
 decides_for (Some (Lift q d p l)) bytes old new a b c e status h = tt
-decides_for (Some (Plan q k n d p)) bytes old new a b c e status h = tt
+decides_for (Some (Plan q k n cut d p)) bytes old new a b c e status h = tt
+decides_for (Some (Trim dn pn ln)) bytes old new a b c e status h = tt
 decides_for (Some (Check dn pn ln n)) bytes old new a b c e status h = λ ds ps ls d p i j l k g.
     decides dn pn ln n bytes old new a b c e status ds ps ls d p i j l k h g

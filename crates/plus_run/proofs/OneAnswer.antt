@@ -22,7 +22,7 @@ use Rattle.plus_reply.specs.Pair.Pair.{PairRefused, SpellsWellTyped}
 use Rattle.plus_reply.specs.Statuses.{early_status}
 use Rattle.plus_reply.specs.Reply.{Same, HasOneReply, Replied}
 use Rattle.plus_reply.proofs.PairLemmas.OnePair.{pair_once, pair_refused_once, pair_or_not}
-use Rattle.plus_run.specs.Command.{Command, Check, ShowDomain, ShowProblem, Numeric, Trial, Translate, Lift, Plan, files_of}
+use Rattle.plus_run.specs.Command.{Command, Check, ShowDomain, ShowProblem, Numeric, Trial, Translate, Lift, Plan, Trim, files_of}
 use Rattle.plus_run.specs.Checks.{Checks, no_pair, no_ground, accepted, refused, OnPlan}
 use Rattle.plus_run.specs.Shown.{Shows, a_tree, no_tree}
 use Rattle.plus_run.specs.Headline.{Answers, OnWay, IsSettled, IsAnswer}
@@ -147,7 +147,8 @@ not_untold (Some (Numeric d p l)) bytes t h = h
 not_untold (Some (Trial n)) bytes t h = h
 not_untold (Some (Translate file q d p)) bytes t h = h
 not_untold (Some (Lift q d p l)) bytes t h = h
-not_untold (Some (Plan q k n d p)) bytes t h = h
+not_untold (Some (Plan q k n cut d p)) bytes t h = h
+not_untold (Some (Trim d p l)) bytes t h = h
 
 -- where the shelf tells the files, the sink took what the command answers
 pub settled_reply :

@@ -10,7 +10,7 @@ use Rattle.plus_lift.proofs.CommandLemmas.OneReply as lifts
 use Rattle.plus_reply.specs.Pair.Pair.{depth_limit, DomainRefused, ProblemRefused}
 use Rattle.plus_reply.specs.Reply.{HasOneReply}
 use Rattle.plus_reply.proofs.PairLemmas.OnePair.{domain_spelled_once, problem_spelled_once, domain_refused_once, problem_refused_once, domain_or_not, problem_or_not}
-use Rattle.plus_run.specs.Command.{Command, Check, ShowDomain, ShowProblem, Numeric, Trial, Translate, Lift, Plan, files_of}
+use Rattle.plus_run.specs.Command.{Command, Check, ShowDomain, ShowProblem, Numeric, Trial, Translate, Lift, Plan, Trim, files_of}
 use Rattle.plus_run.specs.Headline.{Answers}
 use Rattle.plus_run.specs.Numeric.{PlaysUntimed}
 use Rattle.plus_run.specs.Shown.{Shows}
@@ -32,7 +32,8 @@ answers_once (Some (Numeric d p l)) bytes t whole = on_three PlaysUntimed (bytes
 answers_once (Some (Trial n)) bytes t whole = trials.one_reply n
 answers_once (Some (Translate file q d p)) bytes t whole = on_two (Translates file q) (bytes d) (bytes p) t.0 t.1.0 (translations.one_reply file q)
 answers_once (Some (Lift q d p l)) bytes t whole = on_three (Lifts q) (bytes d) (bytes p) (bytes l) t.0 t.1.0 t.1.1.0 (lifts.one_reply q)
-answers_once (Some (Plan q k n d p)) bytes t whole = absurd whole
+answers_once (Some (Plan q k n cut d p)) bytes t whole = absurd whole
+answers_once (Some (Trim d p l)) bytes t whole = absurd whole
 
 pub one_answer : OneAnswer
 one_answer command bytes old new new' a b c d a' b' c' d' x y t h k g i whole =

@@ -17,7 +17,7 @@ use Rattle.plus_reply.specs.Pair.Pair.{SpellsWellTyped, PairRefused}
 use Rattle.plus_io.specs.Limits.{text_limit}
 use Rattle.plus_reply.specs.Pair.Reads.{ReadsPair}
 use Rattle.plus_reply.proofs.PairLemmas.SpelledLemmas.{on_pair}
-use Rattle.plus_run.specs.Command.{Command, Check, ShowDomain, ShowProblem, Numeric, Trial, Translate, Lift, Plan}
+use Rattle.plus_run.specs.Command.{Command, Check, ShowDomain, ShowProblem, Numeric, Trial, Translate, Lift, Plan, Trim}
 use Rattle.plus_run.specs.Headline.{IsAnswer}
 use Rattle.plus_run.proofs.RunLemmas.{early_plain}
 use Rattle.plus_run.specs.Stopping.{StopsCheck, in_plan, StopsRun, BreaksCheck, in_line, in_ground, in_report, BreaksRun}
@@ -88,7 +88,8 @@ module _ {S : Type 0} (bytes : S → List ℕ → Option (List ℕ)) (picked res
   nothing_out (Some (Trial n)) files a b c d r k h v = at_once ((h.read_fault v).1)
   nothing_out (Some (Translate file q x y)) files a b c d r k h v = at_once ((h.read_fault v).1)
   nothing_out (Some (Lift q x y z)) files a b c d r k h v = at_once ((h.read_fault v).1)
-  nothing_out (Some (Plan q k' n x y)) files a b c d r k h v = at_once ((h.read_fault v).1)
+  nothing_out (Some (Plan q k' n cut x y)) files a b c d r k h v = at_once ((h.read_fault v).1)
+  nothing_out (Some (Trim x y z)) files a b c d r k h v = at_once ((h.read_fault v).1)
 
   -- another command than a check
   pub other_stops :
@@ -137,7 +138,8 @@ module _ {S : Type 0} (bytes : S → List ℕ → Option (List ℕ)) (picked res
   nothing_said (Some (Trial n)) k = tt
   nothing_said (Some (Translate file q x y)) k = tt
   nothing_said (Some (Lift q x y z)) k = tt
-  nothing_said (Some (Plan q k' n x y)) k = tt
+  nothing_said (Some (Plan q k' n cut x y)) k = tt
+  nothing_said (Some (Trim x y z)) k = tt
 
   -- another command than a check
   pub other_keeps_up : (m o : Option Command) (r : Status) → m ≡ o → IsNoCheck m → r ≡ s.WriteFault → BreaksRun bytes picked rest picks o before after old new

@@ -1,5 +1,5 @@
 -- What the words behind the program's name mean. Each word is compared byte for byte.
-use Rattle.std.specs.Prelude.{ℕ, List, [], ◌∷◌, Option, Some, None, codes, option_map, option_and_then, if◌then◌else◌}
+use Rattle.std.specs.Prelude.{ℕ, Bool, true, false, List, [], ◌∷◌, Option, Some, None, codes, option_map, option_and_then, if◌then◌else◌}
 use Rattle.std.specs.Str.{bytes_eq}
 use Rattle.plus_fraction.specs.Fraction.{Fraction}
 use Rattle.plus_types.specs.declared.faults.File.{File}
@@ -11,7 +11,8 @@ use Rattle.plus_words.specs.Numbers.{decisions_of, default_happenings, happening
 -- `show domain D` and `show problem P`: the file; `numeric D P L`: the files of the domain, the problem and the plan;
 -- `trial N`: how many tanks; `translate domain Q D P` and `translate problem Q D P`: which half, the length of a step, and the
 -- files of the domain and the problem; `lift Q D P L`: the length of a step, and the files of the domain, the problem and the
--- untimed plan; `plan Q K N D P`: the interval, how many decisions, how many tries, and the files of the domain and the problem
+-- untimed plan; `plan Q K N D P` and `plan Q K N D P --cut`: the interval, how many decisions, how many tries, whether with the cut,
+-- and the files of the domain and the problem; `trim D P L`: the files of the domain, the problem and the plan
 pub data Command : Type 0 where
   Check : List ℕ → List ℕ → List ℕ → ℕ → Command
   ShowDomain ShowProblem : List ℕ → Command
@@ -19,7 +20,8 @@ pub data Command : Type 0 where
   Trial : ℕ → Command
   Translate : File → Fraction → List ℕ → List ℕ → Command
   Lift : Fraction → List ℕ → List ℕ → List ℕ → Command
-  Plan : Fraction → ℕ → ℕ → List ℕ → List ℕ → Command
+  Plan : Fraction → ℕ → ℕ → Bool → List ℕ → List ℕ → Command
+  Trim : List ℕ → List ℕ → List ℕ → Command
 
 -- which of the two texts is shown, by its word
 abbrev pub show_of : List ℕ → List ℕ → Option Command
@@ -40,7 +42,7 @@ check_of d p l option number =
 abbrev pub with_files : List ℕ → List ℕ → List ℕ → List ℕ → Option Command
 with_files c d p l =
     if bytes_eq c (codes "check") then Some (Check d p l default_happenings)
-    else (if bytes_eq c (codes "numeric") then Some (Numeric d p l) else None)
+    else (if bytes_eq c (codes "numeric") then Some (Numeric d p l) else (if bytes_eq c (codes "trim") then Some (Trim d p l) else None))
 
 -- one of the two texts, by its word
 abbrev pub file_named : List ℕ → Option File
@@ -62,16 +64,24 @@ with_four c w x y z =
     if bytes_eq c (codes "translate") then translate_of w x y z
     else (if bytes_eq c (codes "lift") then lift_of w x y z else None)
 
--- a search on the grid of this interval, with so many decisions and tries, over these two files
-abbrev pub plan_of : List ℕ → List ℕ → List ℕ → List ℕ → List ℕ → Option Command
-plan_of q k n d p =
-    option_and_then (λ x. option_and_then (λ y. option_map (λ z. Plan x y z d p) (happenings_of n)) (decisions_of k)) (interval_of q)
+-- a search on the grid of this interval, with so many decisions and tries, with the cut or without, over these two files
+abbrev pub plan_of : List ℕ → List ℕ → List ℕ → Bool → List ℕ → List ℕ → Option Command
+plan_of q k n cut d p =
+    option_and_then (λ x. option_and_then (λ y. option_map (λ z. Plan x y z cut d p) (happenings_of n)) (decisions_of k)) (interval_of q)
 
 -- the command with this name, of these five words
 abbrev pub with_five : List ℕ → List ℕ → List ℕ → List ℕ → List ℕ → List ℕ → Option Command
 with_five c v w x y z =
     if bytes_eq c (codes "check") then check_of v w x y z
-    else (if bytes_eq c (codes "plan") then plan_of v w x y z else None)
+    else (if bytes_eq c (codes "plan") then plan_of v w x false y z else None)
+
+-- the same search with the cut, by the word behind these
+abbrev pub cut_plan_of : List ℕ → List ℕ → List ℕ → List ℕ → List ℕ → List ℕ → Option Command
+cut_plan_of q k n d p option = if bytes_eq option (codes "--cut") then plan_of q k n true d p else None
+
+-- the command with this name, of these six words
+abbrev pub with_six : List ℕ → List ℕ → List ℕ → List ℕ → List ℕ → List ℕ → List ℕ → Option Command
+with_six c u v w x y z = if bytes_eq c (codes "plan") then cut_plan_of u v w x y z else None
 
 abbrev pub command_of : List (List ℕ) → Option Command
 command_of (c ∷ number ∷ []) = trial_of c number
@@ -79,6 +89,7 @@ command_of (c ∷ what ∷ file ∷ []) = if bytes_eq c (codes "show") then show
 command_of (c ∷ d ∷ p ∷ l ∷ []) = with_files c d p l
 command_of (c ∷ w ∷ x ∷ y ∷ z ∷ []) = with_four c w x y z
 command_of (c ∷ v ∷ w ∷ x ∷ y ∷ z ∷ []) = with_five c v w x y z
+command_of (c ∷ u ∷ v ∷ w ∷ x ∷ y ∷ z ∷ []) = with_six c u v w x y z
 command_of _ = None
 
 -- the names of the files of a command, in the order of the words
@@ -91,4 +102,5 @@ files_of (Some (Numeric d p l)) = d ∷ p ∷ l ∷ []
 files_of (Some (Trial n)) = []
 files_of (Some (Translate file q d p)) = d ∷ p ∷ []
 files_of (Some (Lift q d p l)) = d ∷ p ∷ l ∷ []
-files_of (Some (Plan q k n d p)) = d ∷ p ∷ []
+files_of (Some (Plan q k n cut d p)) = d ∷ p ∷ []
+files_of (Some (Trim d p l)) = d ∷ p ∷ l ∷ []

@@ -8,7 +8,7 @@ use Rattle.plus_report.specs.declared.status.Status.TheVariants as s
 use Rattle.plus_validator.specs.Leaving.{TookLines, TookSoFar, BreaksOffSoFar}
 use Rattle.plus_grammar.specs.Texts.{IsDomainText, IsProblemText}
 use Rattle.plus_printer.specs.Canon.{domain_text, problem_text}
-use Rattle.plus_run.specs.Command.{Command, Check, ShowDomain, ShowProblem, Numeric, Trial, Translate, Lift, Plan}
+use Rattle.plus_run.specs.Command.{Command, Check, ShowDomain, ShowProblem, Numeric, Trial, Translate, Lift, Plan, Trim}
 use Rattle.plus_reply.specs.Pair.Pair.{depth_limit, DomainRefused, ProblemRefused}
 pub use Rattle.plus_reply.specs.Pair.Pair.{SpellsWellTyped}
 use Rattle.plus_reply.specs.Statuses.{Writes}
@@ -18,6 +18,7 @@ use Rattle.plus_trial.specs.Trial.{IsTrial}
 use Rattle.plus_translate_command.specs.Translate.{Translates}
 use Rattle.plus_lift.specs.Command.Lift.{Lifts}
 use Rattle.plus_plan_command.specs.Plan.{Plans}
+use Rattle.plus_trim_command.specs.Trim.{Trims}
 use Rattle.plus_run.specs.Checks.{Checks, OnPlan}
 use Rattle.plus_run.specs.Numeric.{PlaysUntimed}
 use Rattle.plus_run.specs.Shown.{Shows}
@@ -40,7 +41,9 @@ Answers (Some (Trial n)) bytes status text = IsTrial n status text
 Answers (Some (Translate file q d p)) bytes status text = IfSome (bytes d) (λ ds. IfSome (bytes p) (λ ps. Translates file q ds ps status text))
 Answers (Some (Lift q d p l)) bytes status text =
     IfSome (bytes d) (λ ds. IfSome (bytes p) (λ ps. IfSome (bytes l) (λ ls. Lifts q ds ps ls status text)))
-Answers (Some (Plan q k n d p)) bytes status text = IfSome (bytes d) (λ ds. IfSome (bytes p) (λ ps. Plans q k n ds ps status text))
+Answers (Some (Plan q k n cut d p)) bytes status text = IfSome (bytes d) (λ ds. IfSome (bytes p) (λ ps. Plans q k n cut ds ps status text))
+Answers (Some (Trim d p l)) bytes status text =
+    IfSome (bytes d) (λ ds. IfSome (bytes p) (λ ps. IfSome (bytes l) (λ ls. Trims ds ps ls status text)))
 
 -- A check writes while it reads its plan: of its pair, of what the plan has, and of how many moments it may enter, this holds. Every
 -- other command writes when all is read.

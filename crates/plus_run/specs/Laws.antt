@@ -5,7 +5,7 @@ use Rattle.plus_tree.specs.declared.trees.Problem.{Problem}
 use Rattle.plus_validator.specs.Tame.{IsTameText, HasTrajectory}
 use Rattle.plus_report.specs.declared.status.Status.{Status}
 use Rattle.plus_report.specs.declared.status.Status.TheVariants as s
-use Rattle.plus_run.specs.Command.{Command, Check, Plan, files_of}
+use Rattle.plus_run.specs.Command.{Command, Check, Plan, Trim, files_of}
 use Rattle.plus_run.specs.Headline.{SpellsWellTyped, IsAnswer}
 pub use Rattle.plus_run.specs.Headline.{IsSettled}
 
@@ -14,9 +14,11 @@ abbrev pub AreTold : (List ℕ → Option (List ℕ)) → List (List ℕ) → Ty
 AreTold bytes [] = Unit {0}
 AreTold bytes (name ∷ names) = IsSome (bytes name) × AreTold bytes names
 
--- `plan` may find one of several plans, and may spend its tries or not; of every other command the answer is said whole
+-- `plan` may find one of several plans, and may spend its tries or not, and `trim` may keep one of several lists of actions; of every
+-- other command the answer is said whole
 abbrev pub IsSaidWhole : Option Command → Type 0
-IsSaidWhole (Some (Plan q k n d p)) = ⊥
+IsSaidWhole (Some (Plan q k n cut d p)) = ⊥
+IsSaidWhole (Some (Trim d p l)) = ⊥
 IsSaidWhole _ = Unit {0}
 
 -- Such a command over the same files has one answer: two that tell of no fault and of no want of memory have the same status, and

@@ -1,7 +1,7 @@
 //! The words of the command line.
 
 ghost use Rattle.std.specs.Prelude.{◌≡◌, [], ◌∷◌, map, option_map, string_bytes, IfOk};
-ghost use Rattle.plus_run.specs.Command.{trial_of, check_of, with_files, show_of, file_named, translate_of, lift_of, with_four, plan_of, with_five, command_of, files_of};
+ghost use Rattle.plus_run.specs.Command.{trial_of, check_of, with_files, show_of, file_named, translate_of, lift_of, with_four, plan_of, with_five, cut_plan_of, with_six, command_of, files_of};
 ghost use Rattle.plus_run.specs.Meant.{meant};
 
 use plus_plan_command::Search;
@@ -30,11 +30,13 @@ pub enum Command<'a> {
     Translate(File, Stepped<'a>),
     /// `lift Q D P L`: makes an untimed plan of the translation a timed one.
     Lift(LiftFiles<'a>),
-    /// `plan Q K N D P`: searches for a plan.
+    /// `plan Q K N D P` and `plan Q K N D P --cut`: searches for a plan.
     Plan(Searched<'a>),
+    /// `trim D P L`: leaves actions of a valid plan out.
+    Trim(PlanFiles<'a>),
 }
 
-/// The files of a plan without time.
+/// The files of a pair and of a plan.
 #[derive(Clone, Copy)]
 pub struct PlanFiles<'a> {
     pub domain: &'a str,
@@ -164,6 +166,8 @@ fn with_files<'a>(name: &str, files: PlanFiles<'a>) -> Option<Command<'a>>
         }))
     } else if name == "numeric" {
         Some(Command::Numeric(files))
+    } else if name == "trim" {
+        Some(Command::Trim(files))
     } else {
         None
     }
@@ -235,15 +239,16 @@ fn with_four<'a>(
     }
 }
 
-// The command `plan`.
+// The command `plan`, with the cut or without.
 fn plan<'a>(
     interval: &str,
     decisions: &str,
     tries: &str,
+    is_cut: bool,
     domain: &'a str,
     problem: &'a str,
 ) -> Option<Command<'a>>
-    ensures { option_map meant result ≡ plan_of interval.now decisions.now tries.now domain.now problem.now }
+    ensures { option_map meant result ≡ plan_of interval.now decisions.now tries.now is_cut domain.now problem.now }
 {
     let interval = Interval::parse(interval)?;
     let decisions = Decisions::parse(decisions)?;
@@ -253,6 +258,7 @@ fn plan<'a>(
             interval,
             decisions,
             tries,
+            is_cut,
         },
         domain,
         problem,
@@ -274,7 +280,46 @@ fn with_five<'a>(
     if name == "check" {
         counted_check(first, second, third, fourth, fifth)
     } else if name == "plan" {
-        plan(first, second, third, fourth, fifth)
+        plan(first, second, third, false, fourth, fifth)
+    } else {
+        None
+    }
+}
+
+// The command `plan` with the cut, where the word behind its files asks for it.
+fn cut_plan<'a>(
+    interval: &str,
+    decisions: &str,
+    tries: &str,
+    domain: &'a str,
+    problem: &'a str,
+    option: &str,
+) -> Option<Command<'a>>
+    ensures { option_map meant result
+        ≡ cut_plan_of interval.now decisions.now tries.now domain.now problem.now option.now }
+{
+    if option == "--cut" {
+        plan(interval, decisions, tries, true, domain, problem)
+    } else {
+        None
+    }
+}
+
+// The command with this name, of these six words.
+fn with_six<'a>(
+    name: &str,
+    first: &'a str,
+    second: &'a str,
+    third: &'a str,
+    fourth: &'a str,
+    fifth: &'a str,
+    sixth: &'a str,
+) -> Option<Command<'a>>
+    ensures { option_map meant result
+        ≡ with_six name.now first.now second.now third.now fourth.now fifth.now sixth.now }
+{
+    if name == "plan" {
+        cut_plan(first, second, third, fourth, fifth, sixth)
     } else {
         None
     }
@@ -301,6 +346,15 @@ pub fn parse<'a>(words: &'a [String]) -> Option<Command<'a>>
             third.as_str(),
             fourth.as_str(),
             fifth.as_str(),
+        ),
+        [name, first, second, third, fourth, fifth, sixth] => with_six(
+            name.as_str(),
+            first.as_str(),
+            second.as_str(),
+            third.as_str(),
+            fourth.as_str(),
+            fifth.as_str(),
+            sixth.as_str(),
         ),
         [name, first, second, third, fourth] => with_four(
             name.as_str(),
@@ -338,7 +392,7 @@ pub fn files(alloc: Global, words: &[String]) -> Result<Vec<String>, AllocError>
     match parse(words) {
         None | Some(Command::Trial(_)) => Ok(Vec::new(alloc)),
         Some(Command::Check(check)) => three_names(alloc, check.domain, check.problem, check.plan),
-        Some(Command::Numeric(files)) => three_names(
+        Some(Command::Numeric(files)) | Some(Command::Trim(files)) => three_names(
             alloc,
             files.domain,
             files.problem,

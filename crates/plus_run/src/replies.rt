@@ -8,7 +8,7 @@ ghost use Rattle.plus_run.specs.Command.{Trial};
 ghost use Rattle.plus_run.specs.Headline.{IsAnswer};
 ghost use Rattle.plus_run.specs.Meant.{meant};
 
-use crate::command::{Command, LiftFiles, Searched, Stepped};
+use crate::command::{Command, LiftFiles, PlanFiles, Searched, Stepped};
 use plus_io::{Freeing, Shelf, Sink};
 use plus_reply::reply::give;
 use plus_report::Status;
@@ -96,5 +96,24 @@ pub fn plan<S: Shelf, O: Sink>(
     ensures no_fall { O.faults out.old ≤ O.faults out.new }
 {
     let reply = plus_plan_command::answer(alloc, words.search, words.domain, words.problem, shelf);
+    give(out, &reply)
+}
+
+/// `trim`: writes what is kept of a valid plan, or the verdict on the plan.
+pub fn trim<S: Shelf, O: Sink>(
+    alloc: Global,
+    files: PlanFiles<'_>,
+    shelf: &mut S,
+    out: &mut O,
+) -> Status
+    ensures answers { IsAnswer (Some (meant (Command.Trim files.entry))) (S.bytes shelf.old)
+        (O.taken out.old) (O.taken out.new) (S.faults shelf.old) (S.faults shelf.new)
+        (O.faults out.old) (O.faults out.new) result }
+    ensures reads { ReadsInOrder S.bytes S.picked S.rest S.picks (text_limit + 1)
+        (files.entry.domain.now ∷ files.entry.problem.now ∷ files.entry.plan.now ∷ []) shelf.old shelf.new }
+    ensures keeps { KeepsFiles S.names S.bytes S.faults shelf.old shelf.new }
+    ensures no_fall { O.faults out.old ≤ O.faults out.new }
+{
+    let reply = plus_trim_command::answer(alloc, files.domain, files.problem, files.plan, shelf);
     give(out, &reply)
 }

@@ -13,7 +13,7 @@ ghost use Rattle.plus_run.specs.Stopping.{StopsRun, BreaksRun};
 
 use crate::command::{Check, Command, parse};
 use crate::numeric::numeric;
-use crate::replies::{lift, plan, translate, trial};
+use crate::replies::{lift, plan, translate, trial, trim};
 use crate::show::{show_domain, show_problem};
 use plus_io::{Freeing, Shelf, Sink};
 use plus_reply::pair::pair::{Refusal, pair, release};
@@ -94,6 +94,7 @@ fn carry_out<S: Shelf, O: Sink>(
         Some(Command::Translate(file, words)) => translate(alloc, file, words, shelf, out),
         Some(Command::Lift(words)) => lift(alloc, words, shelf, out),
         Some(Command::Plan(words)) => plan(alloc, words, shelf, out),
+        Some(Command::Trim(files)) => trim(alloc, files, shelf, out),
     }
 }
 

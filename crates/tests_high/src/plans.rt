@@ -10,6 +10,13 @@ const TANK: &str =
 const TANK1: &str =
     "(define (problem tank1) (:domain tank) (:init (= (level) 0)) (:goal (and (not (open)) (>= (level) 5))))\n";
 
+// The tank with a lock that nothing locks.
+const LOCKED: &str =
+    "(define (domain tank)\n (:predicates (open) (locked))\n (:functions (level))\n (:action open-valve :parameters () :precondition (not (open)) :effect (open))\n (:process fill :parameters () :precondition (open) :effect (increase (level) (* #t 2)))\n (:event full :parameters () :precondition (and (open) (>= (level) 5)) :effect (not (open))))\n";
+
+const LOCKED1: &str =
+    "(define (problem tank1) (:domain tank) (:init (= (level) 0)) (:goal (locked)))\n";
+
 // The tank that nobody opens, and a timetable that does.
 const CLOSED: &str =
     "(define (domain tank)\n (:predicates (open))\n (:functions (level))\n (:process fill :parameters () :precondition (open) :effect (increase (level) (* #t 2)))\n (:event full :parameters () :precondition (and (open) (>= (level) 5)) :effect (not (open))))\n";
@@ -29,7 +36,7 @@ struct Row {
     output: &'static str,
 }
 
-static ROWS: [Row; 11] = [
+static ROWS: [Row; 12] = [
     Row {
         interval: "1",
         decisions: "2",
@@ -54,6 +61,15 @@ static ROWS: [Row; 11] = [
         tries: "1",
         domain: TANK,
         problem: TANK1,
+        status: Status::Beyond,
+        output: "spent: 1 tried\n",
+    },
+    Row {
+        interval: "1",
+        decisions: "4",
+        tries: "1",
+        domain: LOCKED,
+        problem: LOCKED1,
         status: Status::Beyond,
         output: "spent: 1 tried\n",
     },
@@ -145,6 +161,39 @@ fn rows_of_plan(rt: HostRuntime) -> Result<(), Fail> {
         };
         let words = ["plan", row.interval, row.decisions, row.tries, "d", "p"];
         expect_words(&rt, &words, files, row.status, row.output)?;
+    }
+    Ok(())
+}
+
+// Words behind `plan` with `--cut`: the tries of 4 decisions, the domain, the problem, the status and what is written.
+static CUT_ROWS: [(&str, &str, &str, Status, &str); 3] = [
+    (
+        "1",
+        LOCKED,
+        LOCKED1,
+        Status::Invalid,
+        "none: 4 decisions, 0 beyond\n",
+    ),
+    (
+        "1000",
+        TANK,
+        TANK1,
+        Status::Valid,
+        "0: (open-valve)\n3: @end\n",
+    ),
+    ("1", TANK, TANK1, Status::Beyond, "spent: 1 tried\n"),
+];
+
+#[test]
+fn rows_of_plan_with_the_cut(rt: HostRuntime) -> Result<(), Fail> {
+    for &(tries, domain, problem, status, output) in &CUT_ROWS {
+        let files = Files {
+            domain,
+            problem,
+            plan: "",
+        };
+        let words = ["plan", "1", "4", tries, "d", "p", "--cut"];
+        expect_words(&rt, &words, files, status, output)?;
     }
     Ok(())
 }

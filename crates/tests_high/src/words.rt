@@ -58,7 +58,7 @@ fn no_numbers_of_happenings(rt: HostRuntime) -> Result<(), Fail> {
 }
 
 // Lists of words that are none of the commands.
-static NO_COMMANDS: [&[&str]; 15] = [
+static NO_COMMANDS: [&[&str]; 18] = [
     &[],
     &["check"],
     &["check", "d", "p"],
@@ -74,6 +74,9 @@ static NO_COMMANDS: [&[&str]; 15] = [
     &["check", "d", "p", "l", "--happenings", "3", "3"],
     &["show", "d", "p", "l", "--happenings", "3"],
     &["show", "plan", "l"],
+    &["plan", "1", "4", "9", "d", "p", "--cuts"],
+    &["plan", "1", "4", "9", "d", "p", "--cut", "--cut"],
+    &["check", "1", "4", "9", "d", "p", "--cut"],
 ];
 
 #[test]

@@ -6,13 +6,13 @@ use Rattle.plus_plan_command.proofs.plan.answer.Goals as goal
 pub returns-in-Ok-clause-replies : goal.returns-in-Ok-clause-replies
 returns-in-Ok-clause-replies g c =
     let s = c.args.search in
-    pair_told (fraction_of s.interval.value) s.decisions.number s.tries.number _ _ c.in-Ok.typed.domain c.in-Ok.typed.problem c.of_pair-reply.result
+    pair_told (fraction_of s.interval.value) s.decisions.number s.tries.number s.is_cut _ _ c.in-Ok.typed.domain c.in-Ok.typed.problem c.of_pair-reply.result
     c.in-Ok.ensures.read c.in-Ok.typed.well_typed c.of_pair-reply.ensures.replies
 
 pub returns-in-Ok-clause-plain : goal.returns-in-Ok-clause-plain
 returns-in-Ok-clause-plain g c =
     let s = c.args.search in
-    pair_plain (fraction_of s.interval.value) s.decisions.number s.tries.number c.in-Ok.typed.domain c.in-Ok.typed.problem c.of_pair-reply.result c.of_pair-reply.ensures.replies
+    pair_plain (fraction_of s.interval.value) s.decisions.number s.tries.number s.is_cut c.in-Ok.typed.domain c.in-Ok.typed.problem c.of_pair-reply.result c.of_pair-reply.ensures.replies
 
 pub returns-in-Ok-clause-fault : goal.returns-in-Ok-clause-fault
 returns-in-Ok-clause-fault g c = memory_cause _ _ c.of_pair-reply.result c.of_pair-reply.ensures.memory
@@ -26,7 +26,7 @@ returns-in-Ok-clause-keeps g c = c.in-Ok.ensures.keeps
 pub returns-in-Err-clause-replies : goal.returns-in-Err-clause-replies
 returns-in-Err-clause-replies g c =
     let s = c.args.search in
-    refusal_told (fraction_of s.interval.value) s.decisions.number s.tries.number _ _ _ _ c.in-Err.refusal c.refused.result c.in-Err.ensures.not_read c.refused.ensures
+    refusal_told (fraction_of s.interval.value) s.decisions.number s.tries.number s.is_cut _ _ _ _ c.in-Err.refusal c.refused.result c.in-Err.ensures.not_read c.refused.ensures
 
 pub returns-in-Err-clause-plain : goal.returns-in-Err-clause-plain
 returns-in-Err-clause-plain g c = refusal_plain c.in-Err.refusal c.refused.result c.refused.ensures

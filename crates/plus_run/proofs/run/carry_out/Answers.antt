@@ -64,6 +64,11 @@ returns-in-Some-Plan-clause-stops g c =
     let is = sym (ap (option_map meant) (c.in-Some-Plan.is ∙ ap Some c.in-Some-Plan.field-0-is)) ∙ c.parse.ensures in
     other_stops _ _ _ _ _ _ _ _ _ _ _ _ _ _ _ _ c.plan.ensures.answers is tt
 
+pub returns-in-Some-Trim-clause-stops : goal.returns-in-Some-Trim-clause-stops
+returns-in-Some-Trim-clause-stops g c =
+    let is = sym (ap (option_map meant) (c.in-Some-Trim.is ∙ ap Some c.in-Some-Trim.field-0-is)) ∙ c.parse.ensures in
+    other_stops _ _ _ _ _ _ _ _ _ _ _ _ _ _ _ _ c.trim.ensures.answers is tt
+
 pub returns-in-Some-Trial-clause-stops : goal.returns-in-Some-Trial-clause-stops
 returns-in-Some-Trial-clause-stops g c =
     let is = sym (ap (option_map meant) (c.in-Some-Trial.is ∙ ap Some c.in-Some-Trial.field-0-is)) ∙ c.parse.ensures in
@@ -115,4 +120,9 @@ returns-in-Some-Lift-clause-keeps_up g c =
 pub returns-in-Some-Plan-clause-keeps_up : goal.returns-in-Some-Plan-clause-keeps_up
 returns-in-Some-Plan-clause-keeps_up g c =
     let is = sym (ap (option_map meant) (c.in-Some-Plan.is ∙ ap Some c.in-Some-Plan.field-0-is)) ∙ c.parse.ensures in
+    other_keeps_up _ _ _ _ _ _ _ _ _ _ _ is tt
+
+pub returns-in-Some-Trim-clause-keeps_up : goal.returns-in-Some-Trim-clause-keeps_up
+returns-in-Some-Trim-clause-keeps_up g c =
+    let is = sym (ap (option_map meant) (c.in-Some-Trim.is ∙ ap Some c.in-Some-Trim.field-0-is)) ∙ c.parse.ensures in
     other_keeps_up _ _ _ _ _ _ _ _ _ _ _ is tt

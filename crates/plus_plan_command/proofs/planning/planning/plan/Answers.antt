@@ -10,7 +10,7 @@ use Rattle.plus_plan_command.proofs.planning.planning.plan.Goals as goal
 
 pub returns-clause-planned : goal.returns-clause-planned
 returns-clause-planned c =
-    subst (λ (t : Typed). IfOk c.search.result (IsPlanned t.domain t.problem (fraction_of c.args.interval) c.args.decisions c.args.tries)) c.in_ok-numbering.ensures.of c.search.ensures.planned
+    subst (λ (t : Typed). IfOk c.search.result (IsPlanned t.domain t.problem (fraction_of c.args.interval) c.args.decisions c.args.tries c.args.is_cut)) c.in_ok-numbering.ensures.of c.search.ensures.planned
 
 pub returns-clause-unplanned : goal.returns-clause-unplanned
 returns-clause-unplanned c = subst (λ (t : Typed). IfErr c.search.result (IsUnplanned t.domain t.problem)) c.in_ok-numbering.ensures.of c.search.ensures.unplanned

@@ -16,5 +16,5 @@ returns-in-Ok-clause-planned c =
     let t = c.args.numbering.now.typed.now in
     let w = c.in_ok-planner.planner in
     planned (action_of fraction_of) t.domain t.problem (problem_of fraction_of w.problem) w.actions.items (fraction_of c.args.interval) (fraction_of w.interval)
-    c.args.decisions c.args.tries c.in-Ok.answer c.in_ok-planner.ensures.problem c.in_ok-planner.ensures.actions (ap fraction_of c.in_ok-planner.ensures.interval)
+    c.args.decisions c.args.tries c.args.is_cut c.in-Ok.answer c.in_ok-planner.ensures.problem c.in_ok-planner.ensures.actions (ap fraction_of c.in_ok-planner.ensures.interval)
     c.in_ok-planner.ensures.inside c.in-Ok.ensures.answers c.in-Ok.ensures.enough
