@@ -6,6 +6,7 @@ use plus_number::exact::Exact;
 use plus_number::frac::Frac64;
 use plus_rows::{Kind, Row};
 use plus_state::{AtomId, Ground, State};
+use plus_types::{Names, Typed};
 use std::alloc::{AllocError, Global};
 use std::cmp::Ordering;
 
@@ -124,9 +125,10 @@ impl Tables {
     /// No rows yet.
     pub fn new(
         alloc: Global,
+        typed: &Typed,
         ground: &Ground<Frac64>,
-        actions: usize,
     ) -> Result<Tables, AllocError> {
+        let actions = typed.domain.actions.as_slice().len();
         let schemas = schemas(alloc, ground)?;
         let events = ground.events.len().saturating_add(1);
         Ok(Tables {
@@ -162,8 +164,10 @@ impl Tables {
 
 /// The rows of a plan that is played.
 #[derive(Drop)]
-pub struct Collector<'g, 'w> {
+pub struct Collector<'t, 'g, 'w> {
     pub alloc: Global,
+    /// The actions of the domain, by which their rows are numbered.
+    pub actions: &'t Names,
     pub ground: &'g Ground<Frac64>,
     pub wanted: Wanted<'w>,
     pub tables: Tables,
@@ -175,19 +179,20 @@ pub struct Collector<'g, 'w> {
     pub literal: usize,
 }
 
-impl<'g, 'w> Collector<'g, 'w> {
-    /// No rows yet, for a domain with so many actions.
+impl<'t, 'g, 'w> Collector<'t, 'g, 'w> {
+    /// No rows yet, for plans of a pair over its ground form.
     pub fn new(
         alloc: Global,
+        typed: &'t Typed,
         ground: &'g Ground<Frac64>,
         wanted: Wanted<'w>,
-        actions: usize,
-    ) -> Result<Collector<'g, 'w>, AllocError> {
+    ) -> Result<Collector<'t, 'g, 'w>, AllocError> {
         Ok(Collector {
             alloc,
+            actions: &typed.actions,
             ground,
             wanted,
-            tables: Tables::new(alloc, ground, actions)?,
+            tables: Tables::new(alloc, typed, ground)?,
             rows: Vec::new(alloc),
             moment: zero::<Frac64>(),
             step: 0,

@@ -17,7 +17,7 @@ fn compared(left: &Expr<Frac64>, right: &Expr<Frac64>) -> Option<(FluentId, Frac
     }
 }
 
-impl Collector<'_, '_> {
+impl Collector<'_, '_, '_> {
     // Puts a comparison beside the row of its fluent.
     fn goal(
         &mut self,

@@ -1,4 +1,4 @@
-//! A plan that is played for a picture of what happens: its rows, and how it ends.
+//! A plan that is judged while what happens is noted for a picture: its verdict, its rows, and when it ends.
 #![tactic(auto)]
 
 mod asked;
@@ -6,10 +6,10 @@ mod chosen;
 mod collector;
 mod goals;
 mod moments;
+mod noting;
 mod seeing;
 mod slots;
-mod watch;
 
 pub use asked::Asked;
 pub use chosen::Chosen;
-pub use seeing::{Seen, see};
+pub use seeing::{Scene, Seen, see};

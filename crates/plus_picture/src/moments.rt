@@ -40,7 +40,7 @@ fn point_now(timeline: &Indexed<Frac64>, fluent: FluentId) -> Option<Point>
     }
 }
 
-impl Collector<'_, '_> {
+impl Collector<'_, '_, '_> {
     // A fluent goes to its present value, from a time on.
     fn moved(
         &mut self,
@@ -179,15 +179,13 @@ impl Collector<'_, '_> {
         }
     }
 
-    /// An action is done: the one of this number in the domain.
-    pub fn acted(
-        &mut self,
-        timeline: &Indexed<Frac64>,
-        number: usize,
-        label: &[u8],
-    ) -> Result<(), AllocError> {
+    /// An action of this label is done.
+    pub fn acted(&mut self, timeline: &Indexed<Frac64>, label: &[u8]) -> Result<(), AllocError> {
         self.step = self.step.saturating_add(1);
-        self.happens(Kind::Action, number, name_in(label), label)?;
+        let name = name_in(label);
+        if let Some(number) = self.actions.number(name) {
+            self.happens(Kind::Action, number, name, label)?;
+        }
         self.changed(timeline, self.moment)
     }
 
