@@ -1,0 +1,5 @@
+pub mod Fitting
+pub mod Told
+pub mod Stands
+pub mod Looked
+pub mod Laws
